@@ -1,0 +1,269 @@
+-- Bytes stay bytes: a granted call stores bytes handed in, a legal name, a good date, numbers of pages below N ≤ 256, a count of free pages below N,
+-- or a size whose pages are so many different pages of the image; and a refused call stores nothing.
+use mathlib.Core.Path.{_≡_, sym, ap, _∙_, subst}
+use Prim.Native.Nat.{ℕ, zero, suc, _+_, _-_, _*_, _/_, _%_, _≤_, _<_, max}
+use native.Mathlib.Omega.{arith}
+use mathlib.Core.Bool.{Bool, true, false, not, _&&_}
+use mathlib.Core.Option.{Option, Option·getD}
+use mathlib.Core.List.{List, [], _∷_, _++_, foldl}
+use lib.ListN.{length, set, replicate}
+use lib.Dec.{T, eqb, leb, eqb→eq, leb→le}
+use Rattle.volume.specs.Bytes.{Bytes, put, le16, if_then_else_}
+use Rattle.volume.specs.Lists.{all}
+use Rattle.volume.specs.Field.{byte}
+use Rattle.volume.specs.Geometry as On
+use Rattle.volume.proofs.Occ.{occ, Mem, sum-mono, sum-occ, under-of-mem}
+use Rattle.volume.proofs.Tests.{and-both, conditions-cons}
+use Rattle.volume.proofs.Puts.{put-in}
+use Rattle.volume.proofs.Chains.{chain-length}
+use Rattle.volume.proofs.Entries.{made-room}
+use Rattle.volume.proofs.Small.{Small, FitsIn, small-append, small-zeros, small-put, small-set, small-freed, small-grown, small-written}
+use Rattle.model.specs.Layout.{version1, pageCount, pagesFor, validLength, freeCount, zeroBits, link}
+use Rattle.model.specs.Name.{legalByte, legalRest, legalName}
+use Rattle.model.specs.Date.{isBcd, goodDate}
+use Rattle.model.specs.Entry.{entries, startAt, sizeAt, Entry, vacant, aFile, aDirectory, entryAt, newEntry}
+use Rattle.model.specs.Sound.{pagesAt, isNamed, ownedPages, sound}
+use Rattle.model.specs.Tree.{Row, Node}
+use Rattle.model.specs.Path.{Name, Path, below, pathOf}
+use Rattle.model.specs.Image.{rowAt, treeOf}
+use Rattle.model.specs.Walk.{Walked, arrivedOr, parentPage, entryPosition}
+use Rattle.model.specs.Effect.{formatted, lowestVacant, made, rewritten, written, removed}
+use Rattle.model.specs.Call.{Call, format, verdict, find, list, read, makeFile, makeDirectory, write, remove, no}
+use Rattle.model.specs.Refusal.{isDirectoryNode, contentIn, node, wanted, earlier, later, refusals, size, Passes}
+use Rattle.model.specs.Meaning.{isFormat, lines, effect, after}
+use Rattle.laws.proofs.Facts.{Facts, sound-facts, valid-sized}
+use Rattle.laws.proofs.Owns.{own-le, pages-own}
+use Rattle.laws.proofs.Counting.{count-owned, fill-up}
+use Rattle.laws.proofs.Focus.{named-found, leads-owned}
+use Rattle.laws.proofs.Walks.{nodeOf, Target, target}
+use Rattle.laws.proofs.Slots.{home, lawful, header-marked, size as sized}
+use Rattle.laws.proofs.NewEntry.{new-length, new-start}
+use Rattle.laws.proofs.Make.{Place, place-of, place-held, madeAt}
+use Rattle.laws.proofs.Write.{isFileEntry, file-pages, file-chained, file-content, file-size, rewritten-is}
+use Rattle.laws.proofs.Lines.{passed, settle-both}
+use Rattle.laws.proofs.Passed.{Makes, Writes, Removes, not-not, sound-passed, make-passed, write-passed, remove-passed}
+
+-- ---- bytes of a list
+
+small-nil : Small []
+small-nil i = omega arith
+
+small-cons : (x : ℕ) (v : Bytes) → x < 256 → Small v → Small (x ∷ v)
+small-cons x v h k zero = h
+small-cons x v h k (suc i) = k i
+
+small-all : (test : ℕ → Bool) → ((x : ℕ) → T (test x) → x < 256) → (v : Bytes) → T (all test v) → Small v
+unfolding all
+small-all test h [] k = small-nil
+small-all test h (x ∷ v) k = let r = and-both (test x) (all test v) k in small-cons x v (h x (r .0)) (small-all test h v (r .1))
+
+small-size : (s : ℕ) → s < 65536 → Small (le16 s)
+small-size s h = small-cons (s % 256) (s / 256 ∷ []) (omega arith) (small-cons (s / 256) [] (omega arith) small-nil)
+
+legal-small : (c : ℕ) → T (legalByte c) → c < 256
+unfolding legalByte
+legal-small c h = omega (arith, leb→le c 0x7E (conditions-cons (leb c 0x7E) _ (conditions-cons (leb 0x20 c) _ h .1) .0))
+
+rest-small : (v : Bytes) → T (legalRest v) → Small v
+unfolding legalRest
+rest-small [] h = small-nil
+rest-small (c ∷ v) h = go (eqb c 0) (eqb→eq c 0) h (rest-small v)
+  where
+    go : (z : Bool) → (T z → c ≡ 0) → T (if z then all (eqb 0) v else (legalByte c && legalRest v)) → (T (legalRest v) → Small v) → Small (c ∷ v)
+    go true e k next = small-cons c v (omega (arith, e tt)) (small-all (eqb 0) (λ x u. omega (arith, eqb→eq 0 x u)) v k)
+    go false e k next = let r = and-both (legalByte c) (legalRest v) k in small-cons c v (legal-small c (r .0)) (next (r .1))
+
+small-name : (v : Bytes) → T (legalName v) → Small v
+unfolding legalName
+small-name [] h = absurd h
+small-name (c ∷ v) h = let r = and-both (legalByte c) (legalRest v) h in small-cons c v (legal-small c (r .0)) (rest-small v (r .1))
+
+small-date : (d : Bytes) → T (goodDate d) → Small d
+unfolding goodDate isBcd
+small-date d h = small-all isBcd
+    (λ x u. let r = and-both (leb (x / 16) 9) (leb (x % 16) 9) u in omega (arith, leb→le (x / 16) 9 (r .0)))
+    d (conditions-cons (all isBcd d) _ (conditions-cons (eqb (length d) 8) _ h .1) .0)
+
+-- ---- format
+
+small-formatted : (b : Bytes) → T (validLength (length b)) → Small b → Small (formatted b)
+unfolding formatted
+small-formatted b v s =
+    let z = valid-sized b v in
+    let zeros : Bytes = replicate 251 0 in
+    let count : Bytes = (pageCount b - 1) ∷ 1 ∷ zeros in
+    small-put 0 (0x5A ∷ 1 ∷ pageCount b / 8 ∷ count) b
+      (small-cons 0x5A (1 ∷ pageCount b / 8 ∷ count) (omega arith) (small-cons 1 (pageCount b / 8 ∷ count) (omega arith) (small-cons (pageCount b / 8) count (omega (arith, z .high))
+        (small-cons (pageCount b - 1) (1 ∷ zeros) (omega (arith, z .high, z .low)) (small-cons 1 zeros (omega arith) (small-zeros 251))))))
+      s
+
+-- ---- the pages of an entry are owned, and so there are not many
+
+-- a list whose counts are at most those of another is no longer
+shorter : (n : ℕ) (xs ys : List ℕ) → ((q : ℕ) → Mem q ys → q < n) → ((q : ℕ) → occ q xs ≤ occ q ys) → length xs ≤ length ys
+shorter n xs ys h le =
+    omega (arith, sum-occ xs n (under-of-mem n xs (λ q m. h q (omega (arith, le q)))), sum-occ ys n (under-of-mem n ys h), sum-mono (λ q. occ q xs) (λ q. occ q ys) n (λ q l. le q))
+
+module _ (b : Bytes) (f : Facts b) (ns : List Name) (n : Name) (tg : Target b ns n) where
+  pages-owned : (q : ℕ) → occ q (pagesAt b (tg .at)) ≤ occ q (ownedPages b)
+  pages-owned q =
+      let e : ℕ = tg .above .e in
+      let t : ℕ = tg .above .t in
+      let m : Mem (tg .at) (entries t) = named-found b t (n .bytes) (tg .at) (tg .found) .0 in
+      omega (arith, pages-own e b (entryAt b (tg .at)) q, own-le e b t (tg .at) q m, leads-owned b ns (pageCount b) 0 (suc e) t q (tg .above .leads))
+
+  -- with the free pages they are fewer than N
+  pages-count : freeCount b + length (pagesAt b (tg .at)) < pageCount b
+  pages-count = omega (arith, shorter (pageCount b) (pagesAt b (tg .at)) (ownedPages b) (λ q m. f .inside q m .1) pages-owned, count-owned b f, f .counted)
+
+numbers-fit : (b : Bytes) → Facts b → (i p : ℕ) → p < pageCount b → FitsIn (byte i) p
+numbers-fit b f i p l = omega (arith, sized b f .high)
+
+-- ---- remove
+
+small-removed : (b : Bytes) → Facts b → (path : Bytes) → Removes b path → Small b → Small (removed (pathOf path) b)
+unfolding removed
+small-removed b f path r s =
+    let tg = target b f (r .ns) (r .n) (r .reached) (r .entered) in
+    let freed : ℕ → Bytes = λ at. set (foldl (On.released version1) b (pagesAt b at)) at 0 in
+    subst (λ (p : Path). Small (freed (entryPosition b p))) (sym (r .is)) (subst (λ (at : ℕ). Small (freed at)) (sym (tg .position))
+      (small-set (foldl (On.released version1) b (pagesAt b (tg .at))) (tg .at) 0 (omega arith)
+        (small-freed version1 home (pageCount b) (lawful b f) (pagesAt b (tg .at)) b (sized b f .whole)
+          (λ q m. f .inside q (omega (arith, pages-owned b f (r .ns) (r .n) tg q)) .1) (omega (arith, pages-count b f (r .ns) (r .n) tg, sized b f .high)) s)))
+
+-- ---- write
+
+file-named : (b : Bytes) (below : ℕ → Row) (n : Bytes) (x : Entry) → T (isNamed n x) → T (not (isDirectoryNode (nodeOf b below x))) → T (isFileEntry x)
+unfolding isNamed isDirectoryNode nodeOf isFileEntry
+file-named b g n vacant h k = h
+file-named b g n (aFile name date start size) h k = tt
+file-named b g n (aDirectory name date start size) h k = k
+
+module _ (b : Bytes) (f : Facts b) (path : Bytes) (from : ℕ) (v : Bytes) (w : Writes b path from v) where
+  tg : Target b (w .ns) (w .n)
+  tg = target b f (w .ns) (w .n) (w .reached) (w .entered)
+
+  here : node path (treeOf b) ≡ nodeOf b (rowAt (tg .above .e) b) (entryAt b (tg .at))
+  here = let l = w .leads in let r = tg .node in cc
+
+  isFile : T (isFileEntry (entryAt b (tg .at)))
+  isFile = file-named b (rowAt (tg .above .e) b) (w .n .bytes) (entryAt b (tg .at)) (named-found b (tg .above .t) (w .n .bytes) (tg .at) (tg .found) .1)
+      (subst (λ (x : Node). T (not (isDirectoryNode x))) here (w .isFile))
+
+  same-size : size path (treeOf b) ≡ sizeAt b (tg .at)
+  same-size = ap (λ (x : Node). length (contentIn x)) here ∙ ap length (file-content b f (w .ns) (w .n) tg isFile) ∙ file-size b f (w .ns) (w .n) tg isFile
+
+  -- the file's pages, those gained and the header are different pages of the image
+  pages-fit : pagesFor (max (size path (treeOf b)) (from + length v)) < pageCount b
+  pages-fit =
+      let many : pagesFor (size path (treeOf b)) ≡ length (pagesAt b (tg .at)) =
+            ap pagesFor same-size ∙ sym (ap length (file-pages b f (w .ns) (w .n) tg isFile) ∙ chain-length (link b) (pagesFor (sizeAt b (tg .at))) (startAt b (tg .at))) in
+      omega (arith, w .space, many, pages-count b f (w .ns) (w .n) tg, f .counted)
+
+  size-fits : max (size path (treeOf b)) (from + length v) ≤ 65025
+  size-fits = omega (arith, fill-up (max (size path (treeOf b)) (from + length v)), pages-fit, sized b f .high)
+
+  small-rewritten : Small v → Small b → Small (rewritten (tg .at) from v b)
+  small-rewritten hv hb =
+      let s₀ : ℕ = sizeAt b (tg .at) in
+      let hf : from ≤ s₀ = omega (arith, w .begins, same-size) in
+      let space : pagesFor (max s₀ (from + length v)) - pagesFor s₀ ≤ zeroBits b (pageCount b) =
+            subst (λ (m : ℕ). pagesFor (max m (from + length v)) - pagesFor m ≤ zeroBits b (pageCount b)) same-size (w .space) in
+      subst Small (sym (rewritten-is b f (w .ns) (w .n) tg isFile from v hf space))
+        (small-written version1 home (pageCount b) (lawful b f) b (byte (tg .at + 17)) (tg .above .t) (pagesFor s₀) (pagesFor (max s₀ (from + length v)) - pagesFor s₀)
+          (tg .at + 18) (le16 (max s₀ (from + length v))) from v (file-chained b f (w .ns) (w .n) tg isFile) space (numbers-fit b f (tg .at + 17)) (λ q. numbers-fit b f (256 * q))
+          (small-size (max s₀ (from + length v)) (omega (arith, size-fits, same-size))) hv hb)
+
+  small-write : Small v → Small b → Small (written (pathOf path) from v b)
+  unfolding written
+  small-write hv hb = go (eqb (length v) 0)
+    where
+      go : (c : Bool) → Small (if c then b else rewritten (entryPosition b (pathOf path)) from v b)
+      go true = hb
+      go false = subst (λ (p : Path). Small (rewritten (entryPosition b p) from v b)) (sym (w .is))
+          (subst (λ (at : ℕ). Small (rewritten at from v b)) (sym (tg .position)) (small-rewritten hv hb))
+
+pub write-fits : (path : Bytes) (from : ℕ) (v b : Bytes) → T (sound b) → Passes (refusals (write path from v) (treeOf b))
+    → (pagesFor (max (size path (treeOf b)) (from + length v)) < pageCount b) × (max (size path (treeOf b)) (from + length v) ≤ 65025)
+write-fits path from v b h e =
+    let f = sound-facts b h in
+    let w = write-passed b f path from v e in
+    (pages-fit b f path from v w, size-fits b f path from v w)
+
+-- ---- make
+
+module _ (b : Bytes) (f : Facts b) (path date : Bytes) (fl z k : ℕ) (m : Makes b path date k) where
+  place : Place b (m .ns) (m .n .bytes) date k
+  place = place-of b f (m .ns) (m .n) date k (m .clear)
+
+  position : lowestVacant b (parentPage b (below (m .ns) (m .n))) ≡ place .at
+  unfolding lowestVacant arrivedOr
+  position = ap (λ (u : Walked ℕ). lowestVacant b (arrivedOr 0 u)) (place .above .page) ∙ ap (λ (o : Option ℕ). Option·getD o 0) (place .found)
+
+  small-entry : fl < 256 → z < 65536 → Small (newEntry fl (m .n .bytes) 0 z date)
+  unfolding newEntry
+  small-entry hf hz =
+      let end : Bytes = date ++ replicate 4 0 in
+      small-cons fl (m .n .bytes ++ (0 ∷ (le16 z ++ end))) hf
+        (small-append (m .n .bytes) (0 ∷ (le16 z ++ end)) (small-name (m .n .bytes) (m .clear .legal))
+          (small-cons 0 (le16 z ++ end) (omega arith) (small-append (le16 z) end (small-size z hz) (small-append date (replicate 4 0) (small-date date (m .good)) (small-zeros 4)))))
+
+  small-at : fl < 256 → z < 65536 → Small b → Small (madeAt fl z k (m .n .bytes) date (place .at) b)
+  small-at hf hz hb =
+      let at : ℕ = place .at in
+      let w : Bytes = newEntry fl (m .n .bytes) 0 z date in
+      let l : length w ≡ 32 = new-length fl (m .n .bytes) z date (m .clear .long) (m .clear .dated) in
+      let held = place-held b f (m .ns) (m .n .bytes) date fl z k place in
+      small-grown version1 home (pageCount b) (lawful b f) k (byte (at + 17)) (place .above .t) (put at w b)
+        (made-room version1 home (pageCount b) (lawful b f) b at (place .above .t) w (byte (at + 17)) k (sized b f .whole) (header-marked b f) (omega (arith, sized b f .low))
+          held (omega arith) (omega arith)
+          (put-in at w b (held .inside) 17 (omega arith) ∙ new-start fl (m .n .bytes) z date (m .clear .long) (m .clear .dated)) (m .clear .space))
+        (numbers-fit b f (at + 17)) (λ q. numbers-fit b f (256 * q)) (small-put at w b (small-entry hf hz) hb)
+
+  small-made : fl < 256 → z < 65536 → Small b → Small (made fl z k (pathOf path) date b)
+  unfolding made
+  small-made hf hz hb =
+      subst (λ (p : Path). Small (made fl z k p date b)) (sym (m .is))
+        (subst (λ (at : ℕ). Small (madeAt fl z k (m .n .bytes) date at b)) (sym position) (small-at hf hz hb))
+
+-- ---- every call
+
+-- The bytes to be written are bytes. Of other arguments only a legal name and a good date are stored, and those are bytes.
+abbrev pub SmallCall : Call → Type 0
+SmallCall format = Unit {0}
+SmallCall verdict = Unit {0}
+SmallCall (find path) = Unit {0}
+SmallCall (list path i) = Unit {0}
+SmallCall (read path at room) = Unit {0}
+SmallCall (makeFile path date) = Unit {0}
+SmallCall (makeDirectory path date) = Unit {0}
+SmallCall (write path at v) = Small v
+SmallCall (remove path) = Unit {0}
+
+small-effect : (c : Call) (b : Bytes) → Small b → SmallCall c → Passes (lines c b) → Small (effect c b)
+unfolding effect lines isFormat refusals earlier later wanted
+small-effect format b s h e = small-formatted b (not-not (validLength (length b)) (passed _ _ e .0)) s
+small-effect verdict b s h e = s
+small-effect (find path) b s h e = s
+small-effect (list path i) b s h e = s
+small-effect (read path at room) b s h e = s
+small-effect (makeFile path date) b s h e =
+    let g = sound-passed (makeFile path date) b tt e in
+    let f = sound-facts b (g .0) in
+    small-made b f path date 0x80 0 (pagesFor 0) (make-passed b f path date (pagesFor 0) (no 10) (g .1)) (omega arith) (omega arith) s
+small-effect (makeDirectory path date) b s h e =
+    let g = sound-passed (makeDirectory path date) b tt e in
+    let f = sound-facts b (g .0) in
+    small-made b f path date 0x81 0x0100 1 (make-passed b f path date 1 (no 10) (g .1)) (omega arith) (omega arith) s
+small-effect (write path from v) b s h e =
+    let g = sound-passed (write path from v) b tt e in
+    let f = sound-facts b (g .0) in
+    small-write b f path from v (write-passed b f path from v (g .1)) h s
+small-effect (remove path) b s h e =
+    let g = sound-passed (remove path) b tt e in
+    let f = sound-facts b (g .0) in
+    small-removed b f path (remove-passed b f path (g .1)) s
+
+pub small-after : (c : Call) (b : Bytes) → Small b → SmallCall c → Small (after c b)
+unfolding after
+small-after c b s h = settle-both (λ (x y : Bytes). Small x) (lines c b) (λ r. b) (effect c b) (λ r. b) (effect c b) (λ r. s) (small-effect c b s h)

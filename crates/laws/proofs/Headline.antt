@@ -1,0 +1,21 @@
+-- The theorems. Their statements are in crates/model/specs/Demands.antt; none has a condition that its statement does not show.
+use mathlib.Core.Path.{_≡_, sym, ap, _∙_, subst}
+use lib.Dec.{T}
+use Rattle.volume.specs.Bytes.{Bytes}
+use Rattle.model.specs.Sound.{sound}
+use Rattle.model.specs.Image.{treeOf}
+use Rattle.model.specs.Demands.{Demand1, Demand2, Demand3, soundly, freshly}
+use Rattle.laws.proofs.Steps.{as-tree, untouched, unsound, after-format, names-apart}
+use Rattle.laws.proofs.Lists.{demanded}
+
+pub demand-1 : Demand1
+demand-1 = untouched
+
+pub demand-2 : Demand2
+demand-2 = record { unsound = unsound; asTree = as-tree; fresh = after-format; names = names-apart }
+
+pub demand-3 : Demand3
+demand-3 b t (soundly h e) cs rs b′ run = demanded cs b t h e rs b′ run
+demand-3 b t (freshly old v q e) cs rs b′ run =
+    let r = after-format old v in
+    demanded cs b t (subst (λ (x : Bytes). T (sound x)) (sym q) (r .0)) (ap treeOf q ∙ r .1 ∙ e) rs b′ run

@@ -1,0 +1,143 @@
+-- Lists of refusal lines: the first that holds is given, so what stands above a line decides whether it is reached.
+use mathlib.Core.Path.{_≡_, refl, sym, ap, _∙_, subst}
+use mathlib.Core.Logic.{_↔_}
+use Prim.Native.Nat.{ℕ, suc}
+use mathlib.Core.Bool.{Bool, true, false, not, true≢false}
+use mathlib.Core.Option.{Option, none, some, Option·some-ne-none}
+use mathlib.Core.List.{List, [], _∷_, _++_, map}
+use lib.Dec.{T, eqb, leb}
+use Rattle.volume.specs.Bytes.{if_then_else_}
+use Rattle.volume.specs.Lists.{all, member}
+use Rattle.volume.proofs.Tests.{and-both}
+use Rattle.model.specs.Call.{Refusal, no, Answer, refused, granted}
+use Rattle.model.specs.Refusal.{Line, settle, Passes, tableOrder}
+
+-- ---- passing
+
+pub passed : (l : Line) (ls : List Line) → Passes (l ∷ ls) → T (not (l .0)) × Passes ls
+unfolding settle
+passed l ls e = go (l .0) e
+  where
+    go : (c : Bool) → (if c then some (l .1) else settle ls some none) ≡ none → T (not c) × Passes ls
+    go true u = absurd (Option·some-ne-none (l .1) u)
+    go false u = (tt, u)
+
+pub passes-left : (ls ms : List Line) → Passes (ls ++ ms) → Passes ls
+unfolding settle
+passes-left [] ms e = refl
+passes-left (l ∷ ls) ms e = go (l .0) e (passes-left ls ms)
+  where
+    go : (c : Bool) → (if c then some (l .1) else settle (ls ++ ms) some none) ≡ none → (Passes (ls ++ ms) → Passes ls) → (if c then some (l .1) else settle ls some none) ≡ none
+    go true u next = u
+    go false u next = next u
+
+module _ {A : Type 0} (f : Refusal → A) where
+  pub settle-skip : (c : Bool) (r : Refusal) (ls : List Line) (x : A) → T (not c) → settle ((c, r) ∷ ls) f x ≡ settle ls f x
+  unfolding settle
+  settle-skip true r ls x h = absurd h
+  settle-skip false r ls x h = refl
+
+  pub settle-append : (ls ms : List Line) (x : A) → settle (ls ++ ms) f x ≡ settle ls f (settle ms f x)
+  unfolding settle
+  settle-append [] ms x = refl
+  settle-append (l ∷ ls) ms x = ap (λ (y : A). if l .0 then f (l .1) else y) (settle-append ls ms x)
+
+-- two ways to settle the same lines stay related
+pub settle-both : {A B : Type 0} (R : A → B → Type 0) (ls : List Line) (f : Refusal → A) (x : A) (g : Refusal → B) (y : B)
+    → ((r : Refusal) → R (f r) (g r)) → (Passes ls → R x y) → R (settle ls f x) (settle ls g y)
+unfolding settle
+settle-both R [] f x g y h k = k refl
+settle-both R (l ∷ ls) f x g y h k = go (l .0) (l .1) (λ w. settle-both R ls f x g y h w) k
+  where
+    go : (c : Bool) (r : Refusal) → ((Passes ls → R x y) → R (settle ls f x) (settle ls g y))
+        → ((if c then some r else settle ls some none) ≡ none → R x y)
+        → R (if c then f r else settle ls f x) (if c then g r else settle ls g y)
+    go true r next w = h r
+    go false r next w = next w
+
+-- ---- which refusal
+
+pub not-granted : {A : Type 0} {x : A} {r : Refusal} → _≡_ {A = Answer A} (granted x) (refused r) → ⊥
+not-granted {A} {x} {r} e = let bad : _≡_ {A = Bool} true false = ap isGranted e in true≢false bad
+  where
+    isGranted : Answer A → Bool
+    isGranted (refused s) = false
+    isGranted (granted y) = true
+
+-- a refused call gives what another way to settle gives for that refusal
+pub settle-refused : {A B : Type 0} (ls : List Line) (x : A) (r : Refusal) (g : Refusal → B) (y : B)
+    → settle ls refused (granted x) ≡ refused r → settle ls g y ≡ g r
+unfolding settle
+settle-refused [] x r g y e = absurd (not-granted e)
+settle-refused {A} (l ∷ ls) x r g y e = go (l .0) (l .1) e (settle-refused ls x r g y)
+  where
+    go : (c : Bool) (s : Refusal) → (if c then refused s else settle ls refused (granted x)) ≡ refused r → (settle ls refused (granted x) ≡ refused r → settle ls g y ≡ g r)
+        → (if c then g s else settle ls g y) ≡ g r
+    go true s u next = ap g (cc u)
+    go false s u next = next u
+
+-- every line's number is one of the table
+abbrev pub Numbered : List Line → Type 0
+Numbered ls = T (all (λ (l : Line). member (l .1 .number) tableOrder) ls)
+
+pub refused-numbered : {A : Type 0} (ls : List Line) (x : A) (r : Refusal) → Numbered ls → settle ls refused (granted x) ≡ refused r → T (member (r .number) tableOrder)
+unfolding settle all
+refused-numbered [] x r h e = absurd (not-granted e)
+refused-numbered {A} (l ∷ ls) x r h e =
+    let two = and-both (member (l .1 .number) tableOrder) (all (λ (m : Line). member (m .1 .number) tableOrder) ls) h in
+    go (l .0) (l .1) (two .0) e (refused-numbered ls x r (two .1))
+  where
+    go : (c : Bool) (s : Refusal) → T (member (s .number) tableOrder) → (if c then refused s else settle ls refused (granted x)) ≡ refused r
+        → (settle ls refused (granted x) ≡ refused r → T (member (r .number) tableOrder)) → T (member (r .number) tableOrder)
+    go true s t u next = let e : s ≡ r = cc u in subst (λ (y : Refusal). T (member (y .number) tableOrder)) e t
+    go false s t u next = next u
+
+-- ---- number 10 among the lines
+
+-- no line gives number 10
+abbrev pub NoTen : List Line → Type 0
+NoTen ls = T (all (λ (l : Line). not (eqb (l .1 .number) 10)) ls)
+
+not-ten : {A : Type 0} (ls : List Line) (x : A) → NoTen ls → settle ls refused (granted x) ≡ refused (no 10) → ⊥
+unfolding settle all
+not-ten [] x h e = not-granted e
+not-ten {A} (l ∷ ls) x h e =
+    let two = and-both (not (eqb (l .1 .number) 10)) (all (λ (m : Line). not (eqb (m .1 .number) 10)) ls) h in
+    go (l .0) (l .1) (two .0) e (not-ten ls x (two .1))
+  where
+    go : (c : Bool) (s : Refusal) → T (not (eqb (s .number) 10)) → (if c then refused s else settle ls refused (granted x)) ≡ refused (no 10)
+        → (settle ls refused (granted x) ≡ refused (no 10) → ⊥) → ⊥
+    go true s t u next = let e : s ≡ no 10 = cc u in subst (λ (y : Refusal). T (not (eqb (y .number) 10))) e t
+    go false s t u next = next u
+
+-- the line of number 10 is given exactly if those above it pass and its condition holds
+pub ten-given : {A : Type 0} (ls : List Line) (c : Bool) (rest : List Line) (x : A) → NoTen ls → NoTen rest
+    → (settle (ls ++ ((c, no 10) ∷ rest)) refused (granted x) ≡ refused (no 10)) ↔ (Passes ls × T c)
+unfolding settle all
+ten-given [] true rest x h k = (λ e. (refl, tt), λ p. refl)
+ten-given [] false rest x h k = (λ e. absurd (not-ten rest x k e), λ p. absurd (p .1))
+ten-given {A} (l ∷ ls) c rest x h k =
+    let two = and-both (not (eqb (l .1 .number) 10)) (all (λ (m : Line). not (eqb (m .1 .number) 10)) ls) h in
+    go (l .0) (l .1) (two .0) (ten-given ls c rest x (two .1) k)
+  where
+    go : (d : Bool) (s : Refusal) → T (not (eqb (s .number) 10))
+        → (settle (ls ++ ((c, no 10) ∷ rest)) refused (granted x) ≡ refused (no 10)) ↔ (Passes ls × T c)
+        → ((if d then refused s else settle (ls ++ ((c, no 10) ∷ rest)) refused (granted x)) ≡ refused (no 10)) ↔ (((if d then some s else settle ls some none) ≡ none) × T c)
+    go true s t next =
+        (λ u. absurd (let e : s ≡ no 10 = cc u in subst (λ (y : Refusal). T (not (eqb (y .number) 10))) e t), λ p. absurd (Option·some-ne-none s (p .0)))
+    go false s t next = next
+
+-- ---- the order of the table
+
+unfoldable pub rankIn : List ℕ → ℕ → ℕ
+rankIn [] n = 0
+rankIn (m ∷ ms) n = let rest = rankIn ms n in if eqb m n then 0 else suc rest
+
+unfoldable pub rising : List ℕ → Bool
+rising [] = true
+rising (x ∷ []) = true
+rising (x ∷ y ∷ ys) = let rest = rising (y ∷ ys) in if leb x y then rest else false
+
+-- the lines stand in the paper's order
+abbrev pub InOrder : List Line → Type 0
+InOrder ls = T (rising (map (λ (l : Line). rankIn tableOrder (l .1 .number)) ls))

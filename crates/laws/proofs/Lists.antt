@@ -1,0 +1,155 @@
+-- Lists of calls: each step keeps the image sound and the tree in step with the replay, so the list does; what a sound image says of its pages
+-- and counts then holds at the end.
+use mathlib.Core.Path.{_≡_, refl, sym, ap, ap₂, _∙_, subst}
+use mathlib.Core.Logic.{_↔_, _≢_, inl, inr}
+use Prim.Native.Nat.{ℕ, zero, suc, _+_, _-_, _*_, _/_, _≤_, _<_}
+use native.Mathlib.Omega.{arith}
+use mathlib.Core.Bool.{Bool, true, false, not}
+use mathlib.Core.Option.{none, some}
+use mathlib.Core.List.{List, [], _∷_, _++_, flatMap}
+use lib.ListN.{length}
+use lib.Dec.{T, leb·suc-zero, T-not, not-T}
+use Rattle.volume.specs.Bytes.{Bytes, if_then_else_}
+use Rattle.volume.specs.Lists.{keep, member}
+use Rattle.volume.proofs.Occ.{occ, occ-append, not-mem}
+use Rattle.volume.proofs.Tests.{member-occ, occ-member}
+use Rattle.volume.proofs.Marks.{bit-cases}
+use Rattle.model.specs.Layout.{version1, pageCount, validLength, validHeader, freeCount, pageBit, zeroBits}
+use Rattle.model.specs.Sound.{pagesAt, reachedEntries, ownedPages, sound, owners}
+use Rattle.model.specs.Tree.{Tree, needs, freeNumber}
+use Rattle.model.specs.Image.{treeOf}
+use Rattle.model.specs.Call.{Call, format, verdict, find, list, read, makeFile, makeDirectory, write, remove, Verdict, Refusal, no, Answer, refused, granted}
+use Rattle.model.specs.Refusal.{Line, earlier, later, wanted, refusals, settle, Passes}
+use Rattle.model.specs.Meaning.{told, inParent, freshTree, changed, treeAnswer, treeBuffer, treeAfter, isFormat, brokenLine, lines, effect, answer, after, bufferAfter}
+use Rattle.model.specs.Demands.{Result, Results, Promised, Runs, replay, replayResults, WantOfPages, Owned, isFree, isOwned, Account, Demanded, AsTree}
+use Rattle.laws.proofs.Facts.{Facts, sound-facts, Sized, valid-sized, once}
+use Rattle.laws.proofs.Counting.{free-sum, free-number}
+use Rattle.laws.proofs.Format.{formatted-length}
+use Rattle.laws.proofs.Grants.{granted-law}
+use Rattle.laws.proofs.Lines.{passed, passes-left, settle-both}
+use Rattle.laws.proofs.Steps.{as-tree, want-of-pages}
+
+-- ---- the owners of a page
+
+-- as many elements have p on their list as it stands in all lists together, if that is at most once
+keep-none : (f : ℕ → List ℕ) (p : ℕ) (xs : List ℕ) → occ p (flatMap f xs) ≡ 0 → keep (λ x. member p (f x)) xs ≡ []
+unfolding keep flatMap
+keep-none f p [] h = refl
+keep-none f p (x ∷ xs) h = go (member p (f x)) (member-occ p (f x)) (keep-none f p xs (omega (arith, occ-append p (f x) (flatMap f xs))))
+  where
+    go : (c : Bool) → (T c → 1 ≤ occ p (f x)) → keep (λ y. member p (f y)) xs ≡ [] → (if c then x ∷ keep (λ y. member p (f y)) xs else keep (λ y. member p (f y)) xs) ≡ []
+    go true m r = absurd (omega (arith, m tt, occ-append p (f x) (flatMap f xs)))
+    go false m r = r
+
+keep-one : (f : ℕ → List ℕ) (p : ℕ) (xs : List ℕ) → occ p (flatMap f xs) ≡ 1 → (x : ℕ) × (keep (λ y. member p (f y)) xs ≡ x ∷ [])
+unfolding keep flatMap
+keep-one f p [] h = absurd (omega arith)
+keep-one f p (x ∷ xs) h = go (member p (f x)) (member-occ p (f x)) refl (keep-one f p xs)
+  where
+    go : (c : Bool) → (T c → 1 ≤ occ p (f x)) → member p (f x) ≡ c
+        → (occ p (flatMap f xs) ≡ 1 → (y : ℕ) × (keep (λ z. member p (f z)) xs ≡ y ∷ []))
+        → (y : ℕ) × ((if c then x ∷ keep (λ z. member p (f z)) xs else keep (λ z. member p (f z)) xs) ≡ y ∷ [])
+    go true m e next = (x, ap (λ (l : List ℕ). x ∷ l) (keep-none f p xs (omega (arith, m tt, occ-append p (f x) (flatMap f xs)))))
+    go false m e next =
+        let z : occ p (f x) ≡ 0 = not-mem p (f x) (λ k. subst (λ (c : Bool). T c) e (occ-member p (f x) k)) in
+        next (omega (arith, z, occ-append p (f x) (flatMap f xs)))
+
+pub page-owned : (b : Bytes) → Facts b → (p : ℕ) → 1 ≤ p → p < pageCount b → Owned b p
+unfolding owners
+page-owned b f p l u = elim (bit-cases version1 b p) [
+    inl z ↦ isFree z (keep-none (pagesAt b) p (reachedEntries b) (f .exact p l u ∙ z))
+  | inr o ↦ let r = keep-one (pagesAt b) p (reachedEntries b) (f .exact p l u ∙ o) in isOwned (r .0) o (r .1) ]
+
+-- ---- a sound image
+
+verdict-told : (t : Tree) → treeAnswer verdict t ≡ granted (record { pages = t .pages; free = freeNumber t })
+unfolding treeAnswer refusals earlier later wanted settle told
+verdict-told t = rw (leb·suc-zero (freeNumber t))
+
+tree-pages : (b : Bytes) → treeOf b .pages ≡ pageCount b
+unfolding treeOf
+tree-pages b = refl
+
+pub account : (b : Bytes) → T (sound b) → Account b (treeOf b)
+account b h =
+    let f = sound-facts b h in
+    record {
+      isSound = h; means = refl;
+      counted = free-sum b f ∙ sym (tree-pages b);
+      zeros = sym (f .counted);
+      told = as-tree verdict b h .answered ∙ verdict-told (treeOf b)
+        ∙ ap {B = Answer Verdict} (λ n. granted (record { pages = treeOf b .pages; free = n })) (free-number b f);
+      number = free-number b f;
+      pages = page-owned b f }
+
+-- ---- the length is kept
+
+changed-pages : (c : Call) (t : Tree) → changed c t .pages ≡ t .pages
+unfolding changed inParent
+changed-pages format t = refl
+changed-pages verdict t = refl
+changed-pages (find path) t = refl
+changed-pages (list path i) t = refl
+changed-pages (read path at room) t = refl
+changed-pages (makeFile path date) t = refl
+changed-pages (makeDirectory path date) t = refl
+changed-pages (write path at v) t = refl
+changed-pages (remove path) t = refl
+
+-- sound images of as many pages are as long
+sound-length : (b b′ : Bytes) → T (sound b) → T (sound b′) → treeOf b′ .pages ≡ treeOf b .pages → length b′ ≡ length b
+unfolding treeOf
+sound-length b b′ h h′ e = omega (arith, valid-sized b (sound-facts b h .fits) .whole, valid-sized b′ (sound-facts b′ h′ .fits) .whole)
+
+not-not : (c : Bool) → T (not (not c)) → T c
+not-not true h = tt
+not-not false h = h
+
+pub length-kept : (c : Call) (b : Bytes) → length (after c b) ≡ length b
+unfolding after lines isFormat effect
+length-kept c b = settle-both (λ (x y : Bytes). length x ≡ length b) (lines c b) (λ f. b) (effect c b) (λ f. b) b (λ f. refl) (go c)
+  where
+    other : (d : Call) → Passes ((not (validLength (length b)), no 1) ∷ (not (validHeader b), no 2) ∷ (not (sound b), no 3) ∷ (refusals d (treeOf b) ++ brokenLine d b)) → length (effect d b) ≡ length b
+    other d e =
+        let p = passed _ _ (passed _ _ (passed _ _ e .1) .1) in
+        let h = not-not (sound b) (p .0) in
+        let g = granted-law d b h (passes-left (refusals d (treeOf b)) (brokenLine d b) (p .1)) in
+        sound-length b (effect d b) h (g .0) (ap (λ (t : Tree). t .pages) (g .1) ∙ changed-pages d (treeOf b))
+    go : (d : Call) → Passes (lines d b) → length (effect d b) ≡ length b
+    go format e = formatted-length b (not-not (validLength (length b)) (passed _ _ e .0))
+    go verdict e = other verdict e
+    go (find path) e = other (find path) e
+    go (list path i) e = other (list path i) e
+    go (read path at room) e = other (read path at room) e
+    go (makeFile path date) e = other (makeFile path date) e
+    go (makeDirectory path date) e = other (makeDirectory path date) e
+    go (write path at v) e = other (write path at v) e
+    go (remove path) e = other (remove path) e
+
+-- ---- the list
+
+pub demanded : (cs : List Call) (b : Bytes) (t : Tree) → T (sound b) → treeOf b ≡ t → (rs : Results cs) (b′ : Bytes) → Runs b cs rs b′ → Demanded b t cs rs b′
+unfolding replay replayResults
+demanded [] b t h e rs b′ q = record {
+    account = subst (λ (x : Bytes). Account x t) (sym q) (subst (Account b) e (account b h)); long = ap length q; answered = refl; wantOfPages = tt }
+demanded (c ∷ cs) b t h e rs b′ run =
+    let mid : Bytes = run .0 in
+    let p : Promised c b (rs .0) mid = run .1 in
+    let s : AsTree c b = as-tree c b h in
+    let told-c : rs .0 .answered ≡ treeAnswer c t = p .answered ∙ s .answered ∙ ap (treeAnswer c) e in
+    let lent-c = p .lent ∙ s .lent ∙ ap (treeBuffer c) e in
+    let tree : treeOf mid ≡ treeAfter c t = ap treeOf (p .image) ∙ s .means ∙ ap (treeAfter c) e in
+    let r = demanded cs mid (treeAfter c t) (subst (λ (x : Bytes). T (sound x)) (sym (p .image)) (s .isSound)) tree (rs .1) b′ (run .2) in
+    let w = want-of-pages c t in
+    record {
+      account = r .account;
+      long = r .long ∙ ap length (p .image) ∙ length-kept c b;
+      answered = λ i. (record { answered = told-c i; lent = lent-c i }, r .answered i);
+      wantOfPages = ((λ u. w .0 (sym told-c ∙ u), λ v. told-c ∙ w .1 v), r .wantOfPages) }
+
+-- every list of calls has a run: what the contracts promise is there
+pub runs : (cs : List Call) (b : Bytes) → (rs : Results cs) × (b′ : Bytes) × Runs b cs rs b′
+runs [] b = (tt, b, refl)
+runs (c ∷ cs) b =
+    let r = runs cs (after c b) in
+    ((record { answered = answer c b; lent = bufferAfter c b }, r .0), r .1, (after c b, record { answered = refl; lent = refl; image = refl }, r .2))

@@ -1,0 +1,290 @@
+-- A granted make: the lowest vacant entry of the parent becomes the new one, with the pages gained, so the tree gains it and nothing else changes.
+use mathlib.Core.Path.{_≡_, refl, sym, ap, ap₂, _∙_, subst}
+use mathlib.Core.Logic.{_≢_, inl, inr}
+use Prim.Native.Nat.{ℕ, zero, suc, _+_, _*_, _/_, _%_, _≤_, _<_}
+use native.Mathlib.Omega.{arith}
+use native.Mathlib.Decide.{ℕ-discrete}
+use mathlib.Core.Bool.{Bool, true, false, not, _&&_}
+use mathlib.Core.Option.{Option, none, some, Option·getD, Option·map}
+use mathlib.Core.List.{List, [], _∷_, flatMap}
+use lib.ListN.{length, take}
+use lib.Dec.{T, eqb, eqb·suc-zero, T-not, not-T}
+use Rattle.volume.specs.Bytes.{Bytes, byteAt, put, same, if_then_else_}
+use Rattle.volume.specs.Lists.{first, countFrom}
+use Rattle.volume.specs.Chain.{chain, beyond}
+use Rattle.volume.specs.Field.{Field, byte, load}
+use Rattle.volume.specs.Geometry as On
+use Rattle.volume.proofs.Occ.{occ, Mem, hit-refl, not-mem}
+use Rattle.volume.proofs.Tests.{both-and, first-found, first-none, same-sym, eq-eqb}
+use Rattle.volume.proofs.Puts.{put-in}
+use Rattle.volume.proofs.Grow.{Gained, gained-is, Held}
+use Rattle.volume.proofs.Entries.{Made, made-is}
+use Rattle.model.specs.Layout.{version1, pageCount, pagesFor, freeCount, pageBit, zeroBits, link}
+use Rattle.model.specs.Name.{legalName}
+use Rattle.model.specs.Entry.{entries, startAt, Entry, vacant, aFile, aDirectory, entryAt, newEntry}
+use Rattle.model.specs.Sound.{pagesOf, goodEntry, isNamed, sameName, inDirectory, goodDirectory, owned, ownedPages, sound}
+use Rattle.model.specs.Tree.{Row, free, file, dir, emptyRow, width, held as heldIn, Node, lookup, fill}
+use Rattle.model.specs.Path.{Name, below}
+use Rattle.model.specs.Image.{contentOf, entryRow, rowOf, rowAt, treeOf}
+use Rattle.model.specs.Walk.{Walked, arrived, walk, entryNamed, walkOn, arrivedOr, changeAt}
+use Rattle.model.specs.Effect.{isVacant, lowestVacant, made, fileMade, directoryMade}
+use Rattle.model.specs.Refusal.{isMissing, isBlocked, isThere}
+use Rattle.laws.proofs.Facts.{Facts, Sized}
+use Rattle.laws.proofs.Entries.{Within, entry-within}
+use Rattle.laws.proofs.Owns.{own, own-length}
+use Rattle.laws.proofs.Focus.{if-no, named-found, DirectoryAt, Leads, leads-depth}
+use Rattle.laws.proofs.Change.{Change, Balance, Works, changed}
+use Rattle.laws.proofs.Counting.{count-owned}
+use Rattle.laws.proofs.Walks.{nodeOf, lookup-named, Parent, parent}
+use Rattle.laws.proofs.Slots.{home, size, lawful, head-kept, rest-kept, header-marked, Slot, slot, held}
+use Rattle.laws.proofs.Vacant.{zero-vacant, vacant-row, vacant-owns, vacant-good}
+use Rattle.laws.proofs.NewEntry.{new-length, new-start, is-file, is-directory}
+
+-- ---- the lowest vacant entry, and a name that is not there
+
+all-held : (b : Bytes) (g : ℕ → Row) (ats : List ℕ) → first (λ x. isVacant (entryAt b x)) ats ≡ none → heldIn (rowOf b g ats) ≡ width (rowOf b g ats)
+unfolding heldIn width rowOf first entryRow isVacant
+all-held b g [] e = refl
+all-held b g (x ∷ xs) e = go (entryAt b x) e (all-held b g xs)
+  where
+    go : (y : Entry) → (if isVacant y then some x else first (λ z. isVacant (entryAt b z)) xs) ≡ none
+        → (first (λ z. isVacant (entryAt b z)) xs ≡ none → heldIn (rowOf b g xs) ≡ width (rowOf b g xs))
+        → heldIn (entryRow b g y (rowOf b g xs)) ≡ width (entryRow b g y (rowOf b g xs))
+    go vacant u next = let bad : _≡_ {A = ℕ} 0 1 = cc in absurd (omega (arith, bad))
+    go (aFile name date start size) u next = ap suc (next u)
+    go (aDirectory name date start size) u next = ap suc (next u)
+
+some-vacant : (b : Bytes) (d p : ℕ) → T (not (eqb (heldIn (rowAt (suc d) b p)) (width (rowAt (suc d) b p)))) → first (λ x. isVacant (entryAt b x)) (entries p) ≡ some (lowestVacant b p)
+unfolding rowAt lowestVacant
+some-vacant b d p h = go (first (λ x. isVacant (entryAt b x)) (entries p)) refl
+  where
+    go : (o : Option ℕ) → first (λ x. isVacant (entryAt b x)) (entries p) ≡ o → o ≡ some (Option·getD o 0)
+    go none e = absurd (T-not (eqb (heldIn (rowOf b (rowAt d b) (entries p))) (width (rowOf b (rowAt d b) (entries p)))) h (eq-eqb (all-held b (rowAt d b) (entries p) e)))
+    go (some x) e = refl
+
+not-named : (b : Bytes) (d p : ℕ) (n : Bytes) → T (not (isThere (lookup n (rowAt (suc d) b p)))) → (x : ℕ) → Mem x (entries p) → T (not (isNamed n (entryAt b x)))
+unfolding isThere entryNamed
+not-named b d p n h = go (first (λ x. isNamed n (entryAt b x)) (entries p)) refl
+    (subst (λ (o : Option Node). T (not (isThere o))) (lookup-named b d p n) h)
+  where
+    go : (o : Option ℕ) → first (λ x. isNamed n (entryAt b x)) (entries p) ≡ o → T (not (isThere (Option·map (λ at. nodeOf b (rowAt d b) (entryAt b at)) o)))
+        → (x : ℕ) → Mem x (entries p) → T (not (isNamed n (entryAt b x)))
+    go none e k x m = first-none (λ y. isNamed n (entryAt b y)) (entries p) e x m
+    go (some y) e k x m = absurd k
+
+-- ---- fill
+
+fill-skip : (b : Bytes) (g : ℕ → Row) (h : Row → Row) (x : Entry) → T (not (isVacant x)) → (rest : Row) → fill h (entryRow b g x rest) ≡ entryRow b g x (fill h rest)
+unfolding fill entryRow isVacant
+fill-skip b g h vacant u rest = absurd u
+fill-skip b g h (aFile name date start size) u rest = refl
+fill-skip b g h (aDirectory name date start size) u rest = refl
+
+fill-work : (b : Bytes) (g : ℕ → Row) (h : Row → Row) (x : Entry) → T (isVacant x) → (rest : Row) → fill h (entryRow b g x rest) ≡ h rest
+unfolding fill entryRow isVacant
+fill-work b g h vacant u rest = refl
+fill-work b g h (aFile name date start size) u rest = absurd u
+fill-work b g h (aDirectory name date start size) u rest = absurd u
+
+vacant-own : (d : ℕ) (b : Bytes) (x : Entry) → T (isVacant x) → own d b x ≡ []
+unfolding own isVacant
+vacant-own d b vacant u = refl
+vacant-own d b (aFile name date start size) u = absurd u
+vacant-own d b (aDirectory name date start size) u = absurd u
+
+-- ---- a new entry with k new pages
+
+-- where a make works: the parent, its lowest vacant entry, and a name and a date of the right length
+pub record Place (b : Bytes) (ns : List Name) (name date : Bytes) (k : ℕ) : Type 0 where
+  pub above : Parent b ns
+  pub at : ℕ
+  pub found : first (λ x. isVacant (entryAt b x)) (entries (above .t)) ≡ some at
+  pub legal : T (legalName name)
+  pub apart : (x : ℕ) → Mem x (entries (above .t)) → T (not (isNamed name (entryAt b x)))
+  pub long : length name ≡ 16
+  pub dated : length date ≡ 8
+  pub space : k ≤ zeroBits b (pageCount b)
+
+abbrev pub madeAt : (flags size k : ℕ) (name date : Bytes) (at : ℕ) → Bytes → Bytes
+madeAt flags size k name date at b = On.grown version1 (pageCount b) k (byte (at + 17)) (put at (newEntry flags name 0 size date) b)
+
+module _ (b : Bytes) (f : Facts b) (ns : List Name) (name date : Bytes) (fl z k : ℕ) (w : Place b ns name date k) where
+  e : ℕ
+  e = w .above .e
+
+  spot : Mem (w .at) (entries (w .above .t)) × T (isVacant (entryAt b (w .at)))
+  spot = first-found (λ x. isVacant (entryAt b x)) (entries (w .above .t)) (w .at) (w .found)
+
+  pub place-slot : Slot b (w .above .t) (w .at)
+  place-slot = slot b f ns (suc (w .above .e)) (w .above .t) (w .at) (w .above .leads) (spot .0)
+
+  pub place-held : Held version1 home (pageCount b) (w .at) (length (newEntry fl name 0 z date)) (w .above .t) b
+  place-held =
+      let l = new-length fl name z date (w .long) (w .dated) in
+      let h = held b f (w .above .t) (w .at) place-slot 0 32 (omega arith) in
+      record { inside = omega (arith, place-slot .inside); bytes = λ i u v. h .bytes i (omega arith) (omega arith); page = h .page; marked = h .marked }
+
+  pub made-bytes : Made version1 home (pageCount b) b (madeAt fl z k name date (w .at) b) (w .at) (newEntry fl name 0 z date) (byte (w .at + 17)) k (On.gained version1 (pageCount b) k b)
+  made-bytes =
+      let l = new-length fl name z date (w .long) (w .dated) in
+      made-is version1 home (pageCount b) (lawful b f) b (w .at) (w .above .t) (newEntry fl name 0 z date) (byte (w .at + 17)) k (size b f .whole) (header-marked b f)
+        (omega (arith, size b f .low)) place-held (omega arith) (omega arith)
+        (put-in (w .at) (newEntry fl name 0 z date) b (place-held .inside) 17 (omega arith) ∙ new-start fl name z date (w .long) (w .dated))
+        (w .space)
+
+  pub made-gained : Gained version1 (pageCount b) k b
+  made-gained = gained-is version1 home (pageCount b) (lawful b f) k b (size b f .whole) (header-marked b f) (w .space)
+
+  -- the entry's bytes but its start page
+  pub made-there : (i : ℕ) → i < 32 → i ≢ 17 → byteAt (madeAt fl z k name date (w .at) b) (w .at + i) ≡ byteAt (newEntry fl name 0 z date) i
+  made-there i l ne = made-bytes .there i (omega (arith, new-length fl name z date (w .long) (w .dated))) (λ u. omega arith)
+
+  pub made-inside : w .at + 32 ≤ length (madeAt fl z k name date (w .at) b)
+  made-inside = omega (arith, made-bytes .size, place-slot .inside)
+
+  -- what the new entry must be like; the rest follows
+  made-sound : let b′ = madeAt fl z k name date (w .at) b in (h : Row → Row) (x : Entry) → entryAt b′ (w .at) ≡ x
+      → own (w .above .e) b′ x ≡ On.gained version1 (pageCount b) k b → T (goodEntry b′ x) → T (inDirectory true (goodDirectory (w .above .e) b′) x)
+      → ((y : Entry) → T (not (isNamed name y)) → T (not (sameName x y)))
+      → ((rest : Row) → h rest ≡ entryRow b′ (rowAt (w .above .e) b′) x rest)
+      → T (sound b′) × (treeOf b′ ≡ record { pages = pageCount b; root = changeAt ns (fill h) (rowAt (pageCount b) b 0) })
+  made-sound h x is mine good sub apart means =
+      let b′ : Bytes = madeAt fl z k name date (w .at) b in
+      let m = made-bytes in
+      let qs : List ℕ = On.gained version1 (pageCount b) k b in
+      let before : own (w .above .e) b (entryAt b (w .at)) ≡ [] = vacant-own (w .above .e) b (entryAt b (w .at)) (spot .1) in
+      let after : own (w .above .e) b′ (entryAt b′ (w .at)) ≡ qs = ap (own (w .above .e) b′) is ∙ mine in
+      let new = made-gained .new in
+      let l = new-length fl name z date (w .long) (w .dated) in
+      let zero-out : occ 0 qs ≡ 0 = not-mem 0 qs (λ c. omega (arith, new 0 c .0)) in
+      changed b b′ f ns (w .above .e) (w .above .t) (w .at) qs (w .above .leads) (spot .0)
+        (record {
+          len = m .size;
+          head = λ i u. let z : i / 256 ≡ 0 = omega arith in
+            m .rest i (head-kept b f i u) (λ v. omega (arith, place-slot .within .far)) (subst (λ (y : ℕ). occ y qs ≡ 0) (sym z) zero-out);
+          rest = λ i u v c. m .rest i (rest-kept b f i u) (λ y. omega (arith, v y)) c })
+        (λ q c. let r = new q c in (r .0, λ o. absurd (omega (arith, r .2, f .exact q (r .0) (r .1)))))
+        (fill h) isVacant (w .above .good)
+        (record {
+          skip = fill-skip b (rowAt (w .above .e) b) h;
+          work = λ rest. fill-work b (rowAt (w .above .e) b) h (entryAt b (w .at)) (spot .1) rest ∙ means rest
+            ∙ ap (λ (y : Entry). entryRow b′ (rowAt (w .above .e) b′) y rest) (sym is);
+          found = w .found;
+          good = subst (λ (y : Entry). T (goodEntry b′ y)) (sym is) good;
+          below = subst (λ (y : Entry). T (inDirectory true (goodDirectory (w .above .e) b′) y)) (sym is) sub;
+          name = λ y c ne. subst (λ (v : Entry). T (not (sameName v (entryAt b y)))) (sym is) (apart (entryAt b y) (w .apart y c)) })
+        (record {
+          bits = λ q u. omega (arith, ap (occ q) before, ap (occ q) after, m .bits q u);
+          count = omega (arith, ap length before, ap length after, made-gained .many, m .count, f .counted, w .space);
+          fresh-in = λ q c. let r = new q (subst (λ (ps : List ℕ). Mem q ps) after c) in (r .0, r .1) })
+
+-- ---- a file: its pages are those that size 0 wants, whatever their number
+
+module _ (b : Bytes) (f : Facts b) (ns : List Name) (name date : Bytes) (w : Place b ns name date (pagesFor 0)) where
+  file-sound : let b′ = madeAt 0x80 0 (pagesFor 0) name date (w .at) b in
+      T (sound b′) × (treeOf b′ ≡ record { pages = pageCount b; root = changeAt ns (fill (file name date [])) (rowAt (pageCount b) b 0) })
+  unfolding own pagesOf goodEntry sameName entryRow contentOf
+  file-sound =
+      let b′ : Bytes = madeAt 0x80 0 (pagesFor 0) name date (w .at) b in
+      let m = made-bytes b f ns name date 0x80 0 (pagesFor 0) w in
+      let is = is-file 0x80 name 0 date (w .long) (w .dated) b′ (w .at) (made-inside b f ns name date 0x80 0 (pagesFor 0) w) (made-there b f ns name date 0x80 0 (pagesFor 0) w) refl in
+      made-sound b f ns name date 0x80 0 (pagesFor 0) w (file name date []) (aFile name date (startAt b′ (w .at)) 0) is
+        (m .pages)
+        (both-and (legalName name) (eqb (beyond (link b′) (pagesFor 0) (startAt b′ (w .at))) 0) (w .legal) (eq-eqb (m .ends)))
+        tt (λ y h. h) (λ rest. refl)
+
+-- ---- a directory: its page is all zero, so it is one of 8 vacant entries
+
+leads-many : (b : Bytes) (ns : List Name) (d p e t : ℕ) → Leads b d p ns e t → length ns ≤ length (owned d b p)
+unfolding own
+leads-many b [] d p e t l = omega arith
+leads-many b (n ∷ ns) zero p e t l = absurd l
+leads-many b (n ∷ ns) (suc d) p e t l =
+    let m = named-found b p (n .bytes) (l .0) (l .2) .0 in
+    let o : length (own d b (entryAt b (l .0))) ≡ suc (length (owned d b (l .1))) = ap (λ (x : Entry). length (own d b x)) (l .3 .is) in
+    omega (arith, leads-many b ns d (l .1) e t (l .4), own-length d b p (l .0) m, o)
+
+eight-entries : (p : ℕ) → 1 ≤ p → length (entries p) ≡ 8
+unfolding entries countFrom
+eight-entries zero h = absurd (omega arith)
+eight-entries (suc p) h = rw (eqb·suc-zero p)
+
+module _ (b : Bytes) (f : Facts b) (ns : List Name) (name date : Bytes) (w : Place b ns name date 1) where
+  directory-sound : let b′ = madeAt 0x81 0x0100 1 name date (w .at) b in
+      T (sound b′) × (treeOf b′ ≡ record { pages = pageCount b; root = changeAt ns (fill (dir name date (emptyRow 8))) (rowAt (pageCount b) b 0) })
+  unfolding own goodEntry sameName entryRow chain beyond
+  directory-sound = go (w .above .e) refl
+    where
+      b′ : Bytes
+      b′ = madeAt 0x81 0x0100 1 name date (w .at) b
+      m : Made version1 home (pageCount b) b (madeAt 0x81 0x0100 1 name date (w .at) b) (w .at) (newEntry 0x81 name 0 0x0100 date) (byte (w .at + 17)) 1 (On.gained version1 (pageCount b) 1 b)
+      m = made-bytes b f ns name date 0x81 0x0100 1 w
+      s : ℕ
+      s = startAt (madeAt 0x81 0x0100 1 name date (w .at) b) (w .at)
+      mem : Mem s (On.gained version1 (pageCount b) 1 b)
+      mem = subst (λ (ps : List ℕ). Mem s ps) (m .pages) (omega (arith, hit-refl s))
+      low : 1 ≤ s
+      low = made-gained b f ns name date 0x81 0x0100 1 w .new s mem .0
+      zeros : (i : ℕ) → i / 256 ≡ s → byteAt b′ i ≡ 0
+      zeros i h = elim (ℕ-discrete i (256 * s)) [
+          yes u ↦ ap (byteAt b′) u ∙ m .ends
+        | no u ↦ m .zeroed s i mem (omega arith) (omega arith) (λ v. omega (arith, u)) ]
+      vacants : (x : ℕ) → Mem x (entries s) → entryAt b′ x ≡ vacant
+      vacants x c = let r = entry-within s x c in zero-vacant b′ x (zeros x (omega (arith, r .low, r .high)))
+      deep : 1 ≤ w .above .e
+      deep = omega (arith, leads-depth b ns (pageCount b) 0 (suc (w .above .e)) (w .above .t) (w .above .leads),
+        leads-many b ns (pageCount b) 0 (suc (w .above .e)) (w .above .t) (w .above .leads), count-owned b f, w .space)
+      go : (e : ℕ) → w .above .e ≡ e → T (sound b′) × (treeOf b′ ≡ record { pages = pageCount b; root = changeAt ns (fill (dir name date (emptyRow 8))) (rowAt (pageCount b) b 0) })
+      go zero q = absurd (omega (arith, q, deep))
+      go (suc e) q =
+          let is = is-directory 0x81 name 0x0100 date (w .long) (w .dated) b′ (w .at) (made-inside b f ns name date 0x81 0x0100 1 w) (made-there b f ns name date 0x81 0x0100 1 w) refl in
+          made-sound b f ns name date 0x81 0x0100 1 w (dir name date (emptyRow 8)) (aDirectory name date s 0x0100) is
+            (ap (λ (d : ℕ). s ∷ owned d b′ s) q ∙ ap (λ (l : List ℕ). s ∷ l) (vacant-owns b′ e s vacants) ∙ m .pages)
+            (both-and (legalName name) true (w .legal) tt)
+            (subst (λ (d : ℕ). T (goodDirectory d b′ s)) (sym q) (vacant-good b′ e s vacants))
+            (λ y h. h)
+            (λ rest. ap (λ (r : Row). dir name date r rest)
+              (sym (ap (λ (d : ℕ). rowAt d b′ s) q ∙ vacant-row b′ e s vacants ∙ ap emptyRow (eight-entries s low))))
+
+-- ---- the calls
+
+-- what the lines of a granted make say
+pub record Clear (b : Bytes) (ns : List Name) (n : Name) (date : Bytes) (k : ℕ) : Type 0 where
+  pub reached : T (not (isMissing (walk ns (rowAt (pageCount b) b 0))))
+  pub entered : T (not (isBlocked (walk ns (rowAt (pageCount b) b 0))))
+  pub new : (r : Row) → walk ns (rowAt (pageCount b) b 0) ≡ arrived r → T (not (isThere (lookup (n .bytes) r))) × T (not (eqb (heldIn r) (width r)))
+  pub legal : T (legalName (n .bytes))
+  pub long : length (n .bytes) ≡ 16
+  pub dated : length date ≡ 8
+  pub space : k ≤ zeroBits b (pageCount b)
+
+pub place-of : (b : Bytes) → Facts b → (ns : List Name) (n : Name) (date : Bytes) (k : ℕ) → Clear b ns n date k → Place b ns (n .bytes) date k
+place-of b f ns n date k c =
+    let p = parent b f ns (c .reached) (c .entered) in
+    let r = c .new (rowAt (suc (p .e)) b (p .t)) (p .row) in
+    record {
+      above = p; at = lowestVacant b (p .t); found = some-vacant b (p .e) (p .t) (r .1); legal = c .legal;
+      apart = not-named b (p .e) (p .t) (n .bytes) (r .0); long = c .long; dated = c .dated; space = c .space }
+
+made-position : (b : Bytes) (ns : List Name) (n : Name) (date : Bytes) (fl z k : ℕ) (p : Parent b ns)
+    → made fl z k (below ns n) date b ≡ madeAt fl z k (n .bytes) date (lowestVacant b (p .t)) b
+unfolding made arrivedOr
+made-position b ns n date fl z k p = ap (λ (v : Walked ℕ). madeAt fl z k (n .bytes) date (lowestVacant b (arrivedOr 0 v)) b) (p .page)
+
+pub file-tree : (b : Bytes) → Facts b → (ns : List Name) (n : Name) (date : Bytes) → Clear b ns n date (pagesFor 0)
+    → T (sound (fileMade (below ns n) date b))
+      × (treeOf (fileMade (below ns n) date b) ≡ record { pages = pageCount b; root = changeAt ns (fill (file (n .bytes) date [])) (rowAt (pageCount b) b 0) })
+unfolding place-of
+file-tree b f ns n date c =
+    subst (λ (b′ : Bytes). T (sound b′) × (treeOf b′ ≡ record { pages = pageCount b; root = changeAt ns (fill (file (n .bytes) date [])) (rowAt (pageCount b) b 0) }))
+      (sym (made-position b ns n date 0x80 0 (pagesFor 0) (parent b f ns (c .reached) (c .entered))))
+      (file-sound b f ns (n .bytes) date (place-of b f ns n date (pagesFor 0) c))
+
+pub directory-tree : (b : Bytes) → Facts b → (ns : List Name) (n : Name) (date : Bytes) → Clear b ns n date 1
+    → T (sound (directoryMade (below ns n) date b))
+      × (treeOf (directoryMade (below ns n) date b) ≡ record { pages = pageCount b; root = changeAt ns (fill (dir (n .bytes) date (emptyRow 8))) (rowAt (pageCount b) b 0) })
+unfolding place-of
+directory-tree b f ns n date c =
+    subst (λ (b′ : Bytes). T (sound b′) × (treeOf b′ ≡ record { pages = pageCount b; root = changeAt ns (fill (dir (n .bytes) date (emptyRow 8))) (rowAt (pageCount b) b 0) }))
+      (sym (made-position b ns n date 0x81 0x0100 1 (parent b f ns (c .reached) (c .entered))))
+      (directory-sound b f ns (n .bytes) date (place-of b f ns n date 1 c))

@@ -1,0 +1,314 @@
+-- A granted write: the file keeps its pages and gains those wanted, nobody else's change, and the content along them is the old with the new
+-- bytes put at their place; so the tree's file has these bytes and nothing else changes.
+use mathlib.Core.Path.{_≡_, refl, sym, ap, ap₂, _∙_, subst}
+use mathlib.Core.Logic.{_≢_, inl, inr}
+use Prim.Native.Nat.{ℕ, zero, suc, _+_, _-_, _*_, _/_, _%_, _≤_, _<_, max}
+use native.Mathlib.Omega.{arith}
+use mathlib.Core.Bool.{Bool, true, false, not, _&&_}
+use mathlib.Core.Option.{some}
+use mathlib.Core.List.{List, [], _∷_, _++_, flatMap}
+use lib.ListN.{length, length-append, take}
+use lib.Dec.{T, eqb, eqb→eq}
+use Rattle.volume.specs.Bytes.{Bytes, byteAt, put, le16, same, if_then_else_}
+use Rattle.volume.specs.Chain.{chain, beyond}
+use Rattle.volume.specs.Field.{byte}
+use Rattle.volume.specs.Geometry as On
+use Rattle.volume.proofs.Occ.{occ, Mem, occ-append, mem-or-not, not-mem}
+use Rattle.volume.proofs.Tests.{and-both, both-and, eq-eqb}
+use Rattle.volume.proofs.Splice.{splice-nil}
+use Rattle.volume.proofs.Puts.{part-bytes}
+use Rattle.volume.proofs.Chains.{chain-length}
+use Rattle.volume.proofs.Grow.{Gained, gained-is, Held}
+use Rattle.volume.proofs.Longer.{Chained}
+use Rattle.volume.proofs.Writes.{Beside, Written, written-is}
+use Rattle.model.specs.Layout.{version1, pageCount, pagesFor, freeCount, pageBit, zeroBits, link}
+use Rattle.model.specs.Name.{legalName}
+use Rattle.model.specs.Entry.{entries, flags, occupied, isDirectory, nameAt, startAt, sizeAt, dateAt, Entry, vacant, aFile, aDirectory, entryAt}
+use Rattle.model.specs.Sound.{pagesOf, pagesAt, goodEntry, isNamed, sameName, inDirectory, goodDirectory, owned, ownedPages, sound}
+use Rattle.model.specs.Tree.{Row, file, dir, Node, fileNode, directoryNode, rewrite}
+use Rattle.model.specs.Path.{Name, below}
+use Rattle.model.specs.Image.{contentOn, contentOf, entryRow, rowAt, treeOf}
+use Rattle.model.specs.Walk.{Walked, arrived, walkTo, entryNamed, changeAt, entryPosition}
+use Rattle.model.specs.Effect.{rewritten, written}
+use Rattle.model.specs.Refusal.{isMissing, isBlocked, isDirectoryNode, contentIn}
+use Rattle.laws.proofs.Facts.{Facts, Sized}
+use Rattle.laws.proofs.Entries.{Within, within-page}
+use Rattle.laws.proofs.Owns.{own}
+use Rattle.laws.proofs.Focus.{if-yes, if-no, named-found}
+use Rattle.laws.proofs.Level.{Good, good-split}
+use Rattle.laws.proofs.Change.{Change, Balance, Works, changed}
+use Rattle.laws.proofs.Counting.{fill-up, content-length, InImage}
+use Rattle.laws.proofs.Walks.{nodeOf, Parent, Target, target}
+use Rattle.laws.proofs.Slots.{home, size, lawful, head-kept, rest-kept, header-marked, Slot, slot, held, Owned, entry-owned, entry-apart}
+
+-- ---- the entry of a file
+
+unfoldable pub isFileEntry : Entry → Bool
+isFileEntry vacant = false
+isFileEntry (aFile name date start size) = true
+isFileEntry (aDirectory name date start size) = false
+
+-- an entry with the fields of a file at `at`, and flags, name and date of another image's entry that is one
+pub file-entry : (b b′ : Bytes) (at : ℕ) → T (isFileEntry (entryAt b at)) → byteAt b′ at ≡ byteAt b at → nameAt b′ at ≡ nameAt b at → dateAt b′ at ≡ dateAt b at
+    → entryAt b′ at ≡ aFile (nameAt b at) (dateAt b at) (startAt b′ at) (sizeAt b′ at)
+unfolding entryAt isFileEntry
+file-entry b b′ at h fl n d = rw (fl, n, d) (go (occupied b at) (isDirectory b at) h)
+  where
+    go : (o c : Bool) → T (isFileEntry (if o then (if c then aDirectory (nameAt b at) (dateAt b at) (startAt b at) (sizeAt b at) else aFile (nameAt b at) (dateAt b at) (startAt b at) (sizeAt b at)) else vacant))
+        → (if o then (if c then aDirectory (nameAt b at) (dateAt b at) (startAt b′ at) (sizeAt b′ at) else aFile (nameAt b at) (dateAt b at) (startAt b′ at) (sizeAt b′ at)) else vacant)
+          ≡ aFile (nameAt b at) (dateAt b at) (startAt b′ at) (sizeAt b′ at)
+    go true true k = absurd k
+    go true false k = refl
+    go false c k = absurd k
+
+-- a named entry whose node is no directory
+node-file : (b : Bytes) (g : ℕ → Row) (n : Bytes) (x : Entry) → T (isNamed n x) → T (not (isDirectoryNode (nodeOf b g x))) → T (isFileEntry x)
+unfolding isNamed isDirectoryNode nodeOf isFileEntry
+node-file b g n vacant h k = h
+node-file b g n (aFile name date start size) h k = tt
+node-file b g n (aDirectory name date start size) h k = k
+
+-- ---- rewrite
+
+rewrite-skip : (b : Bytes) (g : ℕ → Row) (n w : Bytes) (x : Entry) → T (not (isNamed n x)) → (rest : Row) → rewrite n w (entryRow b g x rest) ≡ entryRow b g x (rewrite n w rest)
+unfolding rewrite entryRow isNamed
+rewrite-skip b g n w vacant h rest = refl
+rewrite-skip b g n w (aFile name date start size) h rest =
+    if-no (same name n) (file name date w rest) (entryRow b g (aFile name date start size) (rewrite n w rest)) h
+rewrite-skip b g n w (aDirectory name date start size) h rest = refl
+
+rewrite-work : (b : Bytes) (g : ℕ → Row) (n w name date : Bytes) (start size : ℕ) → T (isNamed n (aFile name date start size)) → (rest : Row)
+    → rewrite n w (entryRow b g (aFile name date start size) rest) ≡ file name date w rest
+unfolding rewrite entryRow isNamed
+rewrite-work b g n w name date start size h rest =
+    if-yes (same name n) (file name date w rest) (entryRow b g (aFile name date start size) (rewrite n w rest)) h
+
+-- the sizes of a file that grows
+pages-rise : (s₀ s : ℕ) → s₀ ≤ s → pagesFor s₀ + (pagesFor s - pagesFor s₀) ≡ pagesFor s
+unfolding pagesFor
+pages-rise s₀ s h = omega arith
+
+-- ---- a file that some names lead to
+
+module _ (b : Bytes) (f : Facts b) (ns : List Name) (n : Name) (tg : Target b ns n) (isFile : T (isFileEntry (entryAt b (tg .at)))) where
+  abbrev e : ℕ
+  e = tg .above .e
+
+  abbrev t : ℕ
+  t = tg .above .t
+
+  abbrev at : ℕ
+  at = tg .at
+
+  -- its size, its pages and its bytes
+  abbrev s₀ : ℕ
+  s₀ = sizeAt b at
+
+  abbrev ps : List ℕ
+  ps = chain (link b) (pagesFor s₀) (startAt b at)
+
+  abbrev content : Bytes
+  content = contentOf b s₀ ps
+
+  found : Mem at (entries t) × T (isNamed (n .bytes) (entryAt b at))
+  found = named-found b t (n .bytes) at (tg .found)
+
+  is : entryAt b at ≡ aFile (nameAt b at) (dateAt b at) (startAt b at) s₀
+  is = file-entry b b at isFile refl refl refl
+
+  pub file-pages : pagesAt b at ≡ ps
+  unfolding pagesOf
+  file-pages = ap (pagesOf b) is
+
+  mine : own e b (entryAt b at) ≡ ps
+  unfolding own pagesOf
+  mine = ap (own e b) is
+
+  good : Good e b t
+  good = good-split e b t (tg .above .good)
+
+  pub file-good : T (legalName (nameAt b at)) × (beyond (link b) (pagesFor s₀) (startAt b at) ≡ 0)
+  unfolding goodEntry
+  file-good =
+      let r = and-both (legalName (nameAt b at)) (eqb (beyond (link b) (pagesFor s₀) (startAt b at)) 0) (subst (λ (x : Entry). T (goodEntry b x)) is (good .each at (found .0))) in
+      (r .0, eqb→eq (beyond (link b) (pagesFor s₀) (startAt b at)) 0 (r .1))
+
+  pub file-owned : Owned b ps
+  file-owned = subst (Owned b) mine (entry-owned b f ns e t at (tg .above .leads) (found .0))
+
+  pub file-slot : Slot b t at
+  file-slot = slot b f ns (suc e) t at (tg .above .leads) (found .0)
+
+  pub file-chained : Chained version1 home (pageCount b) b (byte (at + 17)) t (pagesFor s₀)
+  file-chained = record {
+      size = size b f .whole; aside = header-marked b f; held = held b f t at file-slot 17 1 (omega arith);
+      apart = ap (occ t) (sym mine) ∙ entry-apart b f ns e t at (tg .above .leads) (found .0);
+      pages = file-owned .inside; once = file-owned .once; ends = file-good .1 }
+
+  pub file-beside : Beside version1 home (pageCount b) (byte (at + 17)) t (at + 18) 2 b
+  file-beside =
+      let h = held b f t at file-slot 18 2 (omega arith) in
+      record { inside = h .inside; bytes = λ i l u. (h .bytes i l u .0, h .bytes i l u .1, λ x. omega arith) }
+
+  pub file-content : contentIn (nodeOf b (rowAt e b) (entryAt b at)) ≡ content
+  unfolding contentIn nodeOf pagesOf
+  file-content = ap (λ (x : Entry). contentIn (nodeOf b (rowAt e b) x)) is
+
+  pub file-size : length content ≡ s₀
+  file-size = content-length b (startAt b at) s₀ (λ q m. let r = file-owned .inside q m in omega (arith, r .1, size b f .whole))
+
+  -- what the entry must be afterwards: a file of the same name and date, with these bytes
+  works : (b′ : Bytes) (start s : ℕ) (w : Bytes) → entryAt b′ at ≡ aFile (nameAt b at) (dateAt b at) start s
+      → contentOf b′ s (chain (link b′) (pagesFor s) start) ≡ w → beyond (link b′) (pagesFor s) start ≡ 0
+      → Works b b′ e t at (rewrite (n .bytes) w) (isNamed (n .bytes))
+  unfolding entryNamed goodEntry sameName entryRow pagesOf
+  works b′ start s w is′ c ends = record {
+      skip = rewrite-skip b (rowAt e b) (n .bytes) w;
+      work = λ rest.
+        ap (λ (x : Entry). rewrite (n .bytes) w (entryRow b (rowAt e b) x rest)) is
+        ∙ rewrite-work b (rowAt e b) (n .bytes) w (nameAt b at) (dateAt b at) (startAt b at) s₀ (subst (λ (x : Entry). T (isNamed (n .bytes) x)) is (found .1)) rest
+        ∙ ap {B = Row} (λ v. file (nameAt b at) (dateAt b at) v rest) (sym c)
+        ∙ ap (λ (x : Entry). entryRow b′ (rowAt e b′) x rest) (sym is′);
+      found = tg .found;
+      good = subst (λ (x : Entry). T (goodEntry b′ x)) (sym is′) (both-and (legalName (nameAt b at)) (eqb (beyond (link b′) (pagesFor s) start) 0) (file-good .0) (eq-eqb ends));
+      below = subst (λ (x : Entry). T (inDirectory true (goodDirectory e b′) x)) (sym is′) tt;
+      name = λ x m ne. subst (λ (y : Entry). T (not (sameName y (entryAt b x)))) (sym is′)
+        (subst (λ (y : Entry). T (not (sameName y (entryAt b x)))) is (good .apart at x (found .0) m (λ q. ne (sym q)))) }
+
+  -- a write of no bytes
+  unchanged : T (sound b) × (treeOf b ≡ record { pages = pageCount b; root = changeAt ns (rewrite (n .bytes) content) (rowAt (pageCount b) b 0) })
+  unchanged =
+      changed b b f ns e t at [] (tg .above .leads) (found .0)
+        (record { len = refl; head = λ i l. refl; rest = λ i l u z. refl }) (λ q k. absurd (omega arith))
+        (rewrite (n .bytes) content) (isNamed (n .bytes)) (tg .above .good)
+        (works b (startAt b at) s₀ content is refl (file-good .1))
+        (record { bits = λ q l. refl; count = refl; fresh-in = λ q k. let r = file-owned .inside q (subst (Mem q) mine k) in (r .0, r .1) })
+
+  module _ (from : ℕ) (v : Bytes) (hf : from ≤ s₀) (space : pagesFor (max s₀ (from + length v)) - pagesFor s₀ ≤ zeroBits b (pageCount b)) where
+    -- the size, the number of pages gained, and the pages gained
+    abbrev s : ℕ
+    s = max s₀ (from + length v)
+
+    abbrev k : ℕ
+    k = pagesFor s - pagesFor s₀
+
+    abbrev qs : List ℕ
+    qs = On.gained version1 (pageCount b) k b
+
+    abbrev b′ : Bytes
+    b′ = On.written version1 (pageCount b) (byte (at + 17)) ps k (at + 18) (le16 s) from v b
+
+    whole : pagesFor s₀ + k ≡ pagesFor s
+    whole = pages-rise s₀ s (omega arith)
+
+    pub write-gained : Gained version1 (pageCount b) k b
+    write-gained = gained-is version1 home (pageCount b) (lawful b f) k b (size b f .whole) (header-marked b f) space
+
+    pub write-bytes : Written version1 home (pageCount b) b b′ (byte (at + 17)) t (at + 18) (le16 s) from v s₀ s ps qs
+    write-bytes = written-is version1 home (pageCount b) (lawful b f) b (byte (at + 17)) t (pagesFor s₀) k (at + 18) (le16 s) from v s₀ s
+        file-chained file-beside hf (fill-up s₀) refl (subst (λ (m : ℕ). s ≤ 255 * m) (sym whole) (fill-up s)) space
+
+    many : length (ps ++ qs) ≡ pagesFor s
+    many = length-append ps qs ∙ ap₂ (λ (x y : ℕ). x + y) (chain-length (link b) (pagesFor s₀) (startAt b at)) (write-gained .many) ∙ whole
+
+    -- the entry's bytes but its start page and size
+    entry-kept : (i : ℕ) → at ≤ i → i < at + 32 → (at + 17 ≤ i → at + 20 ≤ i) → byteAt b′ i ≡ byteAt b i
+    entry-kept i l u o =
+        write-bytes .rest i (rest-kept b f i (omega (arith, file-slot .within .far))) (λ x. omega (arith, o x)) (λ x. omega (arith, o (omega arith)))
+          (ap (λ (x : ℕ). occ x (ps ++ qs)) (within-page t at (file-slot .within) i l u) ∙ write-bytes .apart)
+
+    new-size : sizeAt b′ at ≡ s
+    new-size =
+        let x : byteAt b′ (at + 18 + 0) ≡ s % 256 = write-bytes .beside 0 (omega arith) in
+        let y : byteAt b′ (at + 18 + 1) ≡ s / 256 = write-bytes .beside 1 (omega arith) in
+        let ex : at + 18 ≡ at + 18 + 0 = omega arith in
+        let ey : at + 19 ≡ at + 18 + 1 = omega arith in
+        ap₂ (λ (p q : ℕ). p + 256 * q) (ap (byteAt b′) ex ∙ x) (ap (byteAt b′) ey ∙ y) ∙ omega arith
+
+    is′ : entryAt b′ at ≡ aFile (nameAt b at) (dateAt b at) (startAt b′ at) s
+    is′ =
+        file-entry b b′ at isFile (entry-kept at (omega arith) (omega arith) (λ x. omega arith))
+          (part-bytes (at + 1) 16 b b′ (write-bytes .size) (λ i l u. entry-kept i (omega arith) (omega arith) (λ x. omega arith)))
+          (part-bytes (at + 20) 8 b b′ (write-bytes .size) (λ i l u. entry-kept i (omega arith) (omega arith) (λ x. omega arith)))
+        ∙ ap (λ (z : ℕ). aFile (nameAt b at) (dateAt b at) (startAt b′ at) z) new-size
+
+    pages′ : chain (link b′) (pagesFor s) (startAt b′ at) ≡ ps ++ qs
+    pages′ = ap (λ (m : ℕ). chain (link b′) m (startAt b′ at)) (sym many) ∙ write-bytes .pages
+
+    mine′ : own e b′ (entryAt b′ at) ≡ ps ++ qs
+    unfolding own pagesOf
+    mine′ = ap (own e b′) is′ ∙ pages′
+
+    inside′ : (q : ℕ) → Mem q (ps ++ qs) → (1 ≤ q) × (q < pageCount b)
+    inside′ q m = elim (mem-or-not q ps) [
+        inl h ↦ let r = file-owned .inside q h in (r .0, r .1)
+      | inr z ↦ let r = write-gained .new q (omega (arith, occ-append q ps qs)) in (r .0, r .1) ]
+
+    zero-out : occ 0 (ps ++ qs) ≡ 0
+    zero-out = not-mem 0 (ps ++ qs) (λ c. omega (arith, inside′ 0 c .0))
+
+    pub rewritten-sound : T (sound b′) × (treeOf b′ ≡ record { pages = pageCount b; root = changeAt ns (rewrite (n .bytes) (put from v content)) (rowAt (pageCount b) b 0) })
+    unfolding contentOf
+    rewritten-sound =
+        let w = write-bytes in
+        changed b b′ f ns e t at (ps ++ qs) (tg .above .leads) (found .0)
+          (record {
+            len = w .size;
+            head = λ i l. let z : i / 256 ≡ 0 = omega arith in
+              w .rest i (head-kept b f i l) (λ u. omega (arith, file-slot .within .far)) (λ u. omega (arith, file-slot .within .far)) (ap (λ (x : ℕ). occ x (ps ++ qs)) z ∙ zero-out);
+            rest = λ i l u c. w .rest i (rest-kept b f i l) (λ y. omega (arith, u (omega arith))) (λ y. omega (arith, u (omega arith))) c })
+          (λ q m. (inside′ q m .0, λ o. elim (mem-or-not q ps) [
+              inl h ↦ subst (Mem q) (sym mine) h
+            | inr z ↦ let r = write-gained .new q (omega (arith, occ-append q ps qs)) in absurd (omega (arith, r .2, f .exact q (r .0) (r .1))) ]))
+          (rewrite (n .bytes) (put from v content)) (isNamed (n .bytes)) (tg .above .good)
+          (works b′ (startAt b′ at) s (put from v content) is′
+            (ap (λ (l : List ℕ). take s (flatMap (contentOn b′) l)) pages′ ∙ w .content)
+            (ap (λ (m : ℕ). beyond (link b′) m (startAt b′ at)) (sym many) ∙ w .ends))
+          (record {
+            bits = λ q l. omega (arith, ap (occ q) mine, ap (occ q) mine′, occ-append q ps qs, w .bits q l);
+            count = omega (arith, ap length mine, ap length mine′, length-append ps qs, w .count, write-gained .many, f .counted, space);
+            fresh-in = λ q m. inside′ q (subst (Mem q) mine′ m) })
+
+    pub rewritten-is : rewritten at from v b ≡ b′
+    unfolding rewritten
+    rewritten-is =
+        let image : List ℕ → ℕ → Bytes = λ l m. On.written version1 (pageCount b) (byte (at + 17)) l (pagesFor s - m) (at + 18) (le16 s) from v b in
+        ap (λ (l : List ℕ). image l (length l)) file-pages ∙ ap (image ps) (chain-length (link b) (pagesFor s₀) (startAt b at))
+
+-- ---- the call
+
+put-none : (from : ℕ) (v c : Bytes) → length v ≡ 0 → put from v c ≡ c
+put-none from [] c e = splice-nil c from
+put-none from (x ∷ v) c e = absurd (omega arith)
+
+pub written-tree : (b : Bytes) → Facts b → (ns : List Name) (n : Name) (from : ℕ) (v : Bytes)
+    → T (not (isMissing (walkTo (below ns n) (rowAt (pageCount b) b 0)))) → T (not (isBlocked (walkTo (below ns n) (rowAt (pageCount b) b 0))))
+    → (x : Node) → walkTo (below ns n) (rowAt (pageCount b) b 0) ≡ arrived x → T (not (isDirectoryNode x))
+    → from ≤ length (contentIn x) → pagesFor (max (length (contentIn x)) (from + length v)) - pagesFor (length (contentIn x)) ≤ zeroBits b (pageCount b)
+    → T (sound (written (below ns n) from v b))
+      × (treeOf (written (below ns n) from v b) ≡ record { pages = pageCount b; root = changeAt ns (rewrite (n .bytes) (put from v (contentIn x))) (rowAt (pageCount b) b 0) })
+unfolding written
+written-tree b f ns n from v u w x q nd hf space = go (eqb (length v) 0) (eqb→eq (length v) 0)
+  where
+    tg : Target b ns n
+    tg = target b f ns n u w
+    node : x ≡ nodeOf b (rowAt (tg .above .e) b) (entryAt b (tg .at))
+    node = cc (q, tg .node)
+    isFile : T (isFileEntry (entryAt b (tg .at)))
+    isFile = node-file b (rowAt (tg .above .e) b) (n .bytes) (entryAt b (tg .at)) (named-found b (tg .above .t) (n .bytes) (tg .at) (tg .found) .1) (subst (λ (y : Node). T (not (isDirectoryNode y))) node nd)
+    same-content : content b f ns n tg isFile ≡ contentIn x
+    same-content = sym (ap contentIn node ∙ file-content b f ns n tg isFile)
+    same-size : length (contentIn x) ≡ sizeAt b (tg .at)
+    same-size = ap length (sym same-content) ∙ file-size b f ns n tg isFile
+    Says : Bytes → Bytes → Type 0
+    Says b′ c = T (sound b′) × (treeOf b′ ≡ record { pages = pageCount b; root = changeAt ns (rewrite (n .bytes) c) (rowAt (pageCount b) b 0) })
+    full : Says (rewritten (tg .at) from v b) (put from v (contentIn x))
+    full =
+        let hf′ : from ≤ sizeAt b (tg .at) = subst (λ (m : ℕ). from ≤ m) same-size hf in
+        let sp : pagesFor (max (sizeAt b (tg .at)) (from + length v)) - pagesFor (sizeAt b (tg .at)) ≤ zeroBits b (pageCount b) =
+              subst (λ (m : ℕ). pagesFor (max m (from + length v)) - pagesFor m ≤ zeroBits b (pageCount b)) same-size space in
+        subst (λ (b′ : Bytes). Says b′ (put from v (contentIn x))) (sym (rewritten-is b f ns n tg isFile from v hf′ sp))
+          (subst (λ (c : Bytes). Says (b′ b f ns n tg isFile from v hf′ sp) (put from v c)) same-content (rewritten-sound b f ns n tg isFile from v hf′ sp))
+    go : (c : Bool) → (T c → length v ≡ 0) → Says (if c then b else rewritten (entryPosition b (below ns n)) from v b) (put from v (contentIn x))
+    go true z = subst (Says b) (same-content ∙ sym (put-none from v (contentIn x) (z tt))) (unchanged b f ns n tg isFile)
+    go false z = subst (λ (at : ℕ). Says (rewritten at from v b) (put from v (contentIn x))) (sym (tg .position)) full

@@ -1,0 +1,11 @@
+-- The specification computed: lists of calls run on real images by the definitions, and what they must give. Read in this order.
+pub mod Run
+-- Document 01's cases marked T.
+pub mod Table
+-- Further cases, by theme, and all of them under one theorem.
+pub mod Desk
+pub mod Answers
+pub mod Changes
+pub mod Soundness
+pub mod Pictures
+pub mod Values

@@ -1,0 +1,98 @@
+-- What an image means as a whole: its tree, the tree that the calls replay to, and the listing.
+use mathlib.Core.Path.{_≡_, refl}
+use Prim.Native.Nat.{ℕ, _+_}
+use mathlib.Core.List.{List, [], _∷_, _++_}
+use lib.ListN.{replicate, set}
+use Rattle.volume.specs.Bytes.{Bytes, put}
+use Rattle.model.specs.Tree.{Row, end, free, file, dir, Tree, fill, rewrite, vacate, inside}
+use Rattle.model.specs.Image.{treeOf}
+use Rattle.model.specs.Walk.{changeAt}
+use Rattle.model.specs.Call.{Call, format, verdict, find, list, read, makeFile, makeDirectory, write, remove}
+use Rattle.model.specs.Meaning.{freshTree, inParent, changed, treeAfter}
+use Rattle.model.specs.Demands.{replay}
+use Rattle.model.specs.Text.{text}
+use Rattle.model.specs.Listing.{digits, line, rowLines, treeLines, listingOf, listing}
+use Rattle.model.proofs.Run.{computing, Step, calls, Case, _gives_, done, sized, answered, shown, Hold, computed, stated, hold}
+use Rattle.model.proofs.Table.{blank, newFile, newDirectory, date}
+use Rattle.model.proofs.Desk.{day1, day2, day3, content, nay, nayAt, fresh, one, desk}
+
+unfoldable pub replaying : Unit {0}
+unfolding fill rewrite vacate inside changeAt inParent changed treeAfter replay
+replaying = tt
+
+unfoldable pub printing : Unit {0}
+unfolding digits line rowLines treeLines listingOf listing
+printing = tt
+
+-- ---- trees
+
+deskTree : Tree
+deskTree = record {
+  pages = 8;
+  root =
+    file (text "0042" ++ replicate 12 0) day1 (content 256)
+    (dir (text "A" ++ replicate 15 0) day2
+      (file (text "7" ++ replicate 15 0) day3 []
+      (dir (text "B" ++ replicate 15 0) day1 (free (free (free (free (free (free (free (free end)))))))) 
+      (free (free (free (free (free (free end))))))))
+    (free (free (free (free end))))) }
+
+-- the calls that make the desk from a fresh image, among others that leave nothing behind
+deskSteps : List Step
+deskSteps =
+    makeFile (text "/0042") day1 gives done
+    ∷ makeFile (text "/x") day1 gives done
+    ∷ makeFile (text "/0042") day2 gives nay 8
+    ∷ write (text "/0042") 0 (content 200) gives done
+    ∷ remove (text "/x") gives done
+    ∷ makeDirectory (text "/A") day2 gives done
+    ∷ write (text "/0042") 200 (replicate 2000 1) gives nay 10
+    ∷ makeDirectory (text "/A/x") day3 gives done
+    ∷ makeDirectory (text "/A/B") day1 gives done
+    ∷ remove (text "/A") gives nay 13
+    ∷ remove (text "/A/x") gives done
+    ∷ makeFile (text "/A/7") day3 gives done
+    ∷ write (text "/0042") 0 (content 256) gives done
+    ∷ verdict gives sized 8 3
+    ∷ []
+
+pub trees : List Case
+trees =
+    shown desk [] treeOf deskTree
+    ∷ shown fresh deskSteps treeOf deskTree
+    ∷ shown fresh [] (λ b. replay (calls deskSteps) (treeOf b)) deskTree
+    ∷ shown desk [] (λ b. replay (format ∷ []) (treeOf b)) (record { pages = 8; root = free (free (free (free (free (free end))))) })
+    ∷ []
+
+pub trees-hold : Hold trees
+unfolding computing replaying computed stated trees deskSteps deskTree desk fresh
+trees-hold = hold trees refl
+
+-- ---- listings
+
+pub listings : List Case
+listings =
+    shown blank (
+      format gives done
+      ∷ newFile "/0042" gives done
+      ∷ write (text "/0042") 0 (replicate 256 0) gives done
+      ∷ newDirectory "/A" gives done
+      ∷ newFile "/A/7" gives done
+      ∷ [])
+      listing (text "pages 8 free 4\nF 256 /0042\nD 256 /A\nF 0 /A/7\n")
+    ∷ shown fresh [] listing (text "pages 8 free 7\n")
+    -- entries in order, a directory's contents directly after it; names may hold spaces
+    ∷ shown desk (newFile "/A/B/ ~" gives done ∷ newFile "/a b" gives done ∷ remove (text "/0042") gives done ∷ newFile "/0123456789ABCDEF" gives done ∷ [])
+        listing (text "pages 8 free 5\nF 0 /0123456789ABCDEF\nD 256 /A\nF 0 /A/7\nD 256 /A/B\nF 0 /A/B/ ~\nF 0 /a b\n")
+    ∷ shown fresh (newFile "/A" gives done ∷ write (text "/A") 0 (replicate 1785 0) gives done ∷ []) listing (text "pages 8 free 0\nF 1785 /A\n")
+    ∷ shown (replicate 65536 0) (format gives done ∷ []) listing (text "pages 256 free 255\n")
+    -- refused
+    ∷ shown [] [] listing (text "refused 1\n")
+    ∷ shown (replicate 65537 0) [] listing (text "refused 1\n")
+    ∷ shown (replicate 2048 0) [] listing (text "refused 2\n")
+    ∷ shown (set desk 3 4) [] listing (text "refused 3\n")
+    ∷ []
+
+pub listings-hold : Hold listings
+unfolding computing printing computed stated listings desk fresh
+listings-hold = hold listings refl

@@ -1,0 +1,161 @@
+-- The facts of a sound image one by one: an image that lacks just that fact, and what the judge finds first in it. And what does not count.
+use mathlib.Core.Path.{_≡_, refl}
+use Prim.Native.Nat.{ℕ, _+_}
+use mathlib.Core.List.{List, [], _∷_, _++_, map}
+use lib.ListN.{replicate, set, take}
+use Rattle.volume.specs.Bytes.{Bytes, part, put}
+use Rattle.volume.specs.Lists.{upTo}
+use Rattle.model.specs.Sound.{owners}
+use Rattle.model.specs.Call.{format, verdict, find, list, read, makeFile, makeDirectory, write, remove, isFile, isDirectory, empty, granted}
+use Rattle.model.specs.Text.{text}
+use Rattle.model.specs.Judge.{Fault, badEntry, badChain, ownedTwice, markedFree, lostPage, badCount, fault, clean, thenJudge, judgePage, judgeChain, freshName, judgeEntry, judgeEntries, judgeDirectory, lostOr, judgeRest, judge}
+use Rattle.model.proofs.Run.{computing, Case, _gives_, reads, done, sized, answered, shown, Hold, computed, stated, hold}
+use Rattle.model.proofs.Desk.{day1, day2, day3, content, nay, nayAt, found, entry, whole, header, stored, fresh, one, two, desk, shelf}
+
+unfoldable pub judging : Unit {0}
+unfolding thenJudge judgePage judgeChain freshName judgeEntry judgeEntries judgeDirectory lostOr judgeRest judge
+judging = tt
+
+-- refused by 3, and this is the first fault
+abbrev unsound : Bytes → Fault → Case
+unsound b f = shown b (verdict gives nay 3 ∷ []) judge (fault f)
+
+-- sound, with so many free pages; the judge meets these pages, the last one first
+abbrev sound : Bytes → ℕ → List ℕ → Case
+sound b free pages = shown b (verdict gives sized 8 free ∷ []) judge (clean pages)
+
+-- a directory on page 1, and an empty file
+box : Bytes
+box = header 6 0b11 ++ stored 0x81 (text "A" ++ replicate 15 0) 1 0x00 0x01 day1 ++ replicate 160 0 ++ replicate 256 0 ++ replicate 1536 0xE5
+
+note : Bytes
+note = header 7 0b1 ++ stored 0x80 (text "A" ++ replicate 15 0) 0 0x00 0x00 day1 ++ replicate 160 0 ++ replicate 1792 0xE5
+
+pub sounds : List Case
+sounds =
+    sound fresh 7 []
+    ∷ sound note 7 []
+    ∷ sound one 6 (1 ∷ [])
+    ∷ sound two 5 (2 ∷ 1 ∷ [])
+    ∷ sound box 6 (1 ∷ [])
+    ∷ sound desk 3 (4 ∷ 3 ∷ 2 ∷ 1 ∷ [])
+    ∷ sound shelf 3 (4 ∷ 3 ∷ 2 ∷ 1 ∷ [])
+    ∷ []
+
+pub facts : List Case
+facts =
+    -- bit 0 of the bitmap, with the count that then is right; byte 3 off by one
+    unsound (put 3 (7 ∷ 0b10 ∷ []) one) badCount
+    ∷ unsound (set one 3 5) badCount
+    ∷ unsound (set one 3 7) badCount
+    -- legal names: the bytes 1F, 20, 2F, 7E and 7F, first and later
+    ∷ unsound (set one 65 0x1F) (badEntry 0 0)
+    ∷ sound (set one 65 0x20) 6 (1 ∷ [])
+    ∷ unsound (set one 65 0x2F) (badEntry 0 0)
+    ∷ sound (set one 65 0x7E) 6 (1 ∷ [])
+    ∷ unsound (set one 65 0x7F) (badEntry 0 0)
+    ∷ unsound (set one 66 0x1F) (badEntry 0 0)
+    ∷ sound (set one 66 0x20) 6 (1 ∷ [])
+    ∷ unsound (set one 66 0x2F) (badEntry 0 0)
+    ∷ sound (set one 66 0x7E) 6 (1 ∷ [])
+    ∷ unsound (set one 66 0x7F) (badEntry 0 0)
+    -- no byte at all, a byte behind the padding, and 16 bytes without padding
+    ∷ unsound (set one 65 0) (badEntry 0 0)
+    ∷ unsound (set one 67 0x41) (badEntry 0 0)
+    ∷ unsound (set one 80 0x41) (badEntry 0 0)
+    ∷ sound (put 65 (replicate 16 0x41) one) 6 (1 ∷ [])
+    ∷ unsound (set box 65 0x7F) (badEntry 0 0)
+    ∷ unsound (set desk 769 0x7F) (badEntry 3 0)
+    ∷ unsound (set desk 801 0x7F) (badEntry 3 1)
+    -- equal names in one directory, told at the later entry; in two directories they are apart
+    ∷ unsound (set two 97 0x41) (badEntry 0 1)
+    ∷ unsound (set desk 801 0x37) (badEntry 3 1)
+    ∷ sound (set desk 769 0x41) 3 (4 ∷ 3 ∷ 2 ∷ 1 ∷ [])
+    -- a directory's size
+    ∷ unsound (set box 82 0x01) (badEntry 0 0)
+    ∷ unsound (set box 83 0x00) (badEntry 0 0)
+    ∷ unsound (set box 83 0x02) (badEntry 0 0)
+    ∷ unsound (set desk 819 0x00) (badEntry 3 1)
+    -- the last page's link is not 0; it may lead back, to a free page, or out of the image
+    ∷ unsound (set one 256 1) (badChain 0 0 1)
+    ∷ unsound (set one 256 5) (badChain 0 0 1)
+    ∷ unsound (set one 256 8) (badChain 0 0 1)
+    ∷ unsound (set two 512 1) (badChain 0 1 1)
+    ∷ unsound (set shelf 768 7) (badChain 0 0 3)
+    -- an empty file with a start page
+    ∷ unsound (set note 81 1) (badChain 0 0 0)
+    ∷ unsound (set desk 785 5) (badChain 3 0 0)
+    -- a page out of range: of a file, of a directory, and after the first
+    ∷ unsound (put 3 (7 ∷ 0b1 ∷ []) (set one 81 8)) (badChain 0 0 0)
+    ∷ unsound (put 3 (7 ∷ 0b1 ∷ []) (set one 81 255)) (badChain 0 0 0)
+    ∷ unsound (put 3 (7 ∷ 0b1 ∷ []) (set one 81 0)) (badChain 0 0 0)
+    ∷ unsound (put 3 (7 ∷ 0b1 ∷ []) (set box 81 8)) (badChain 0 0 0)
+    ∷ unsound (put 3 (7 ∷ 0b1 ∷ []) (set box 81 0)) (badChain 0 0 0)
+    ∷ unsound (put 3 (6 ∷ 0b11 ∷ []) (put 82 (0x00 ∷ 0x01 ∷ []) (set one 256 8))) (badChain 0 0 1)
+    -- the chain ends early
+    ∷ unsound (put 82 (0x00 ∷ 0x01 ∷ []) one) (badChain 0 0 1)
+    ∷ unsound (put 82 (0xFD ∷ 0x02 ∷ []) (set (set two 96 0) 256 2)) (badChain 0 0 2)
+    -- a page owned twice, by two files, a file and a directory, two directories; nothing is lost
+    ∷ unsound (put 3 (6 ∷ 0b11 ∷ []) (set two 113 1)) (ownedTwice 1)
+    ∷ unsound (put 96 (stored 0x80 (text "B" ++ replicate 15 0) 1 0xFF 0x00 day1) box) (ownedTwice 1)
+    ∷ unsound (put 96 (stored 0x81 (text "B" ++ replicate 15 0) 1 0x00 0x01 day1) box) (ownedTwice 1)
+    -- a chain that returns to itself
+    ∷ unsound (put 82 (0xFE ∷ 0x01 ∷ []) (set one 256 1)) (ownedTwice 1)
+    ∷ unsound (put 82 (0xFD ∷ 0x02 ∷ []) (set (set (set two 96 0) 256 2) 512 1)) (ownedTwice 1)
+    -- a directory that holds itself, and one that holds what it stands in
+    ∷ unsound (put 256 (stored 0x81 (text "A" ++ replicate 15 0) 1 0x00 0x01 day1) box) (ownedTwice 1)
+    ∷ unsound (put 1024 (stored 0x81 (text "A" ++ replicate 15 0) 3 0x00 0x01 day1) desk) (ownedTwice 3)
+    -- a page that is owned and marked free, of a file and of a directory
+    ∷ unsound (put 3 (7 ∷ 0b1 ∷ []) one) (markedFree 1)
+    ∷ unsound (put 3 (7 ∷ 0b1 ∷ []) box) (markedFree 1)
+    ∷ unsound (put 3 (4 ∷ 0b11011 ∷ []) desk) (markedFree 2)
+    -- a page that is marked and nobody owns; the lowest is told
+    ∷ unsound (put 3 (5 ∷ 0b100011 ∷ []) one) (lostPage 5)
+    ∷ unsound (put 3 (5 ∷ 0b10000011 ∷ []) one) (lostPage 7)
+    ∷ unsound (put 3 (4 ∷ 0b1010011 ∷ []) one) (lostPage 4)
+    ∷ []
+
+-- Other flags, reserved bytes, bitmap bytes past the first N/8, stored dates and empty entries may hold anything, and are kept.
+loose : Bytes
+loose = put 5 (replicate 59 0xFF) (put 64 (0xFE ∷ []) (put 84 (replicate 12 0xFF) (put 96 (replicate 160 0x7F) one)))
+
+pub kept : List Case
+kept =
+    sound loose 6 (1 ∷ [])
+    ∷ shown loose (
+        find (text "/A") gives found isFile 255 (replicate 8 0xFF)
+        ∷ list (text "/") 0 gives entry isFile (text "A" ++ replicate 15 0) 255 (replicate 8 0xFF)
+        ∷ list (text "/") 1 gives granted empty
+        ∷ write (text "/A") 255 (0xA0 ∷ []) gives done
+        ∷ makeDirectory (text "/B") day1 gives done
+        ∷ [])
+        whole (put 3 (4 ∷ 0b1111 ∷ []) (put 82 (0x00 ∷ 0x01 ∷ []) (put 96 (stored 0x81 (text "B" ++ replicate 15 0) 3 0x00 0x01 day1)
+          (set (put 512 (0 ∷ 0xA0 ∷ replicate 510 0) loose) 256 2))))
+    ∷ shown loose (remove (text "/A") gives done ∷ []) whole (put 3 (7 ∷ 0b1 ∷ []) (set loose 64 0))
+    -- the flags' other bits on a directory
+    ∷ shown (set box 64 0xFF) (verdict gives sized 8 6 ∷ find (text "/A") gives found isDirectory 256 day1 ∷ makeFile (text "/A/x") day1 gives done ∷ [])
+        (part 64 1) (0xFF ∷ [])
+    ∷ []
+
+-- the entries that own each of pages 0 to 7, by position
+pub owning : List Case
+owning =
+    shown desk [] (λ b. map (owners b) (upTo 8)) ([] ∷ (64 ∷ []) ∷ (64 ∷ []) ∷ (96 ∷ []) ∷ (800 ∷ []) ∷ [] ∷ [] ∷ [] ∷ [])
+    ∷ shown (put 3 (6 ∷ 0b11 ∷ []) (set two 113 1)) [] (λ b. map (owners b) (upTo 3)) ([] ∷ (64 ∷ 96 ∷ []) ∷ [] ∷ [])
+    ∷ []
+
+pub sounds-hold : Hold sounds
+unfolding computing judging computed stated sounds fresh note one two box desk shelf
+sounds-hold = hold sounds refl
+
+pub facts-hold : Hold facts
+unfolding computing judging computed stated facts note one two box desk shelf
+facts-hold = hold facts refl
+
+pub kept-hold : Hold kept
+unfolding computing judging computed stated kept loose one box
+kept-hold = hold kept refl
+
+pub owning-hold : Hold owning
+unfolding computing computed stated owning two desk
+owning-hold = hold owning refl

@@ -1,0 +1,77 @@
+-- Document 01, "What the delivery holds" and "The plain tree": the calls with their arguments, and what each answers.
+use Prim.Native.Nat.{ℕ}
+use mathlib.Core.List.{List, [], _∷_}
+use Rattle.volume.specs.Bytes.{Bytes}
+
+-- A path, a date and what a write writes are bytes. A read's last argument is what the reader's buffer holds beforehand.
+pub data Call : Type 0 where
+  format : Call
+  verdict : Call
+  find : (path : Bytes) → Call
+  list : (path : Bytes) (entry : ℕ) → Call
+  read : (path : Bytes) (position : ℕ) (buffer : Bytes) → Call
+  makeFile : (path date : Bytes) → Call
+  makeDirectory : (path date : Bytes) → Call
+  write : (path : Bytes) (position : ℕ) (bytes : Bytes) → Call
+  remove : (path : Bytes) → Call
+
+-- ---- what a granted call tells
+
+pub data Kind : Type 0 where
+  isFile isDirectory : Kind
+
+-- N and the free number
+pub record Verdict : Type 0 where
+  pub pages : ℕ
+  pub free : ℕ
+
+pub record Found : Type 0 where
+  pub kind : Kind
+  pub size : ℕ
+  pub date : Bytes
+
+pub data Listed : Type 0 where
+  empty : Listed
+  holds : (kind : Kind) (name : Bytes) (size : ℕ) (date : Bytes) → Listed
+
+-- read tells how many bytes it copied; format, make, write and remove tell only that they were done
+abbrev pub Told : Call → Type 0
+Told format = Unit {0}
+Told verdict = Verdict
+Told (find path) = Found
+Told (list path entry) = Listed
+Told (read path position buffer) = ℕ
+Told (makeFile path date) = Unit {0}
+Told (makeDirectory path date) = Unit {0}
+Told (write path position bytes) = Unit {0}
+Told (remove path) = Unit {0}
+
+-- the reader's buffer before the call; only a read has one
+abbrev pub bufferBefore : Call → Bytes
+bufferBefore format = []
+bufferBefore verdict = []
+bufferBefore (find path) = []
+bufferBefore (list path entry) = []
+bufferBefore (read path position room) = room
+bufferBefore (makeFile path date) = []
+bufferBefore (makeDirectory path date) = []
+bufferBefore (write path position bytes) = []
+bufferBefore (remove path) = []
+
+-- ---- answers
+
+-- Number and place of a refusal. The place is up to three numbers, 0 where there is nothing to point at: for 5 and 6 the byte of the path
+-- at which the name begins that isn't there, or that is a file's.
+pub record Refusal : Type 0 where
+  pub number : ℕ
+  pub place : ℕ × ℕ × ℕ
+
+abbrev pub no : ℕ → Refusal
+no n = record { number = n; place = (0, 0, 0) }
+
+abbrev pub noAt : (number byte : ℕ) → Refusal
+noAt n i = record { number = n; place = (i, 0, 0) }
+
+pub data Answer (A : Type 0) : Type 0 where
+  refused : Refusal → Answer A
+  granted : A → Answer A

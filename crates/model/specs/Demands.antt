@@ -1,0 +1,118 @@
+-- The three demands of document 00, as statements about `answer`, `after` and `bufferAfter`. The crate `laws` proves them.
+use mathlib.Core.Path.{_≡_}
+use mathlib.Core.Logic.{_↔_, _≢_}
+use Prim.Native.Nat.{ℕ, _+_, _≤_, _<_}
+use mathlib.Core.Bool.{Bool, false, not}
+use mathlib.Core.List.{List, [], _∷_}
+use lib.ListN.{length}
+use lib.Dec.{T}
+use Rattle.volume.specs.Bytes.{Bytes, same}
+use Rattle.volume.specs.Lists.{member}
+use Rattle.model.specs.Layout.{pageCount, validLength, freeCount, pageBit, zeroBits}
+use Rattle.model.specs.Sound.{sound, owners}
+use Rattle.model.specs.Tree.{Tree, needs, freeNumber}
+use Rattle.model.specs.Image.{treeOf}
+use Rattle.model.specs.Call.{Call, format, verdict, Told, bufferBefore, Refusal, no, Answer, refused, granted}
+use Rattle.model.specs.Refusal.{earlier, wanted, Passes, tableOrder}
+use Rattle.model.specs.Meaning.{freshTree, treeAnswer, treeBuffer, treeAfter, isFormat, answer, after, bufferAfter}
+
+-- ---- Demand 1: any input, an answer; a refusal has a number of the table and changes nothing.
+-- (That there is always an answer is the type of `answer`, which has no condition.)
+
+pub record Untouched (c : Call) (b : Bytes) (f : Refusal) : Type 0 where
+  pub numbered : T (member (f .number) tableOrder)
+  pub image : after c b ≡ b
+  pub lent : bufferAfter c b ≡ bufferBefore c
+
+abbrev pub Demand1 : Type 0
+Demand1 = (c : Call) (b : Bytes) (f : Refusal) → answer c b ≡ refused f → Untouched c b f
+
+-- ---- Demand 2: bytes mean a tree; an image that is not sound is refused; on a sound one each call answers, and changes tree and bytes, as the
+-- plain tree does; names differ when any byte differs.
+
+-- numbers 1 to 3, by any call but format
+pub record Unsound (c : Call) (b : Bytes) : Type 0 where
+  pub number : ℕ
+  pub low : 1 ≤ number
+  pub high : number ≤ 3
+  pub told : answer c b ≡ refused (no number)
+
+pub record AsTree (c : Call) (b : Bytes) : Type 0 where
+  pub answered : answer c b ≡ treeAnswer c (treeOf b)
+  pub lent : bufferAfter c b ≡ treeBuffer c (treeOf b)
+  pub isSound : T (sound (after c b))
+  pub means : treeOf (after c b) ≡ treeAfter c (treeOf b)
+
+pub record Demand2 : Type 0 where
+  pub unsound : (c : Call) (b : Bytes) → T (not (isFormat c)) → T (not (sound b)) → Unsound c b
+  pub asTree : (c : Call) (b : Bytes) → T (sound b) → AsTree c b
+  pub fresh : (b : Bytes) → T (validLength (length b)) → T (sound (after format b)) × (treeOf (after format b) ≡ freshTree (pageCount b))
+  pub names : (n m : Bytes) → n ≢ m → same n m ≡ false
+
+-- ---- Demand 3: lists of calls on one image
+
+-- what a call gave back: its answer, and the reader's buffer
+pub record Result (c : Call) : Type 0 where
+  pub answered : Answer (Told c)
+  pub lent : Bytes
+
+abbrev pub Results : List Call → Type 0
+Results [] = Unit {0}
+Results (c ∷ cs) = Result c × Results cs
+
+-- one call as its public contract promises it: image b before, b′ after
+pub record Promised (c : Call) (b : Bytes) (r : Result c) (b′ : Bytes) : Type 0 where
+  pub answered : r .answered ≡ answer c b
+  pub lent : r .lent ≡ bufferAfter c b
+  pub image : b′ ≡ after c b
+
+-- A list of calls, each of which gets the image as the last one left it. Any library whose calls meet their contracts runs so.
+abbrev pub Runs : Bytes → (cs : List Call) → Results cs → Bytes → Type 0
+Runs b [] rs b′ = b′ ≡ b
+Runs b (c ∷ cs) rs b′ = (mid : Bytes) × Promised c b (rs .0) mid × Runs mid cs (rs .1) b′
+
+-- The replay looks at no answer and at no byte.
+unfoldable pub replay : List Call → Tree → Tree
+replay [] t = t
+replay (c ∷ cs) t = replay cs (treeAfter c t)
+
+unfoldable pub replayResults : (cs : List Call) → Tree → Results cs
+replayResults [] t = tt
+replayResults (c ∷ cs) t = (record { answered = treeAnswer c t; lent = treeBuffer c t }, replayResults cs (treeAfter c t))
+
+-- Each call is refused for want of pages exactly when no earlier line stops it and it needs more than the free number before it.
+abbrev pub WantOfPages : (cs : List Call) → Results cs → Tree → Type 0
+WantOfPages [] rs t = Unit {0}
+WantOfPages (c ∷ cs) rs t =
+    ((rs .0 .answered ≡ refused (no 10)) ↔ (Passes (earlier c t) × (freeNumber t < wanted c t)))
+    × WantOfPages cs (rs .1) (treeAfter c t)
+
+-- A page is free and nobody owns it, or it is marked and exactly one file or directory owns it, the one whose entry is at a position.
+pub data Owned (b : Bytes) (p : ℕ) : Type 0 where
+  isFree : pageBit b p ≡ 0 → owners b p ≡ [] → Owned b p
+  isOwned : (position : ℕ) → pageBit b p ≡ 1 → owners b p ≡ position ∷ [] → Owned b p
+
+-- what holds of the image after the list, t being the replayed tree
+pub record Account (b : Bytes) (t : Tree) : Type 0 where
+  pub isSound : T (sound b)
+  pub means : treeOf b ≡ t
+  -- the header's count, the zero bits and the verdict are the page total, less one, less the pages that the tree needs
+  pub counted : freeCount b + 1 + needs (t .root) ≡ t .pages
+  pub zeros : zeroBits b (pageCount b) ≡ freeCount b
+  pub told : answer verdict b ≡ granted (record { pages = t .pages; free = freeCount b })
+  pub number : freeNumber t ≡ freeCount b
+  pub pages : (p : ℕ) → 1 ≤ p → p < pageCount b → Owned b p
+
+pub record Demanded (b : Bytes) (t : Tree) (cs : List Call) (rs : Results cs) (b′ : Bytes) : Type 0 where
+  pub account : Account b′ (replay cs t)
+  pub long : length b′ ≡ length b
+  pub answered : rs ≡ replayResults cs t
+  pub wantOfPages : WantOfPages cs rs t
+
+-- a list starts from any sound image, or from a fresh one
+pub data Starts (b : Bytes) (t : Tree) : Type 0 where
+  soundly : T (sound b) → treeOf b ≡ t → Starts b t
+  freshly : (old : Bytes) → T (validLength (length old)) → b ≡ after format old → freshTree (pageCount old) ≡ t → Starts b t
+
+abbrev pub Demand3 : Type 0
+Demand3 = (b : Bytes) (t : Tree) → Starts b t → (cs : List Call) (rs : Results cs) (b′ : Bytes) → Runs b cs rs b′ → Demanded b t cs rs b′

@@ -1,0 +1,35 @@
+-- The specification: what a reader must believe, in the order of document 01. It rests on the crate `volume`, which says how pages are
+-- taken, linked and given back in any image; `Layout` says where version 1 keeps them.
+--
+-- Words. The paper's word stands left where ours is another one.
+--   record            file: an entry with a name, a date and a byte string
+--   drawer            directory: a row of entries, 6 in the root and 8 in any other
+--   slot              entry: 32 bytes of a directory; its number counts from 0 within the directory
+--   link              the first byte of a file's page: the number of the page that follows, 0 for none
+--   chain             the pages of a file, from the start page on by their links
+--   mark              a page's bit in the bitmap, 1 if it is allocated
+--   N                 pageCount: the number of pages of an image
+--   k                 pagesFor: the number of pages of a file of some size
+--   plain tree        Tree: N and the root's row
+--   reader's buffer   what a read is handed to copy into
+-- Units. A page is named by its number, counted from 0. A position is a byte of the image, counted from 0: page p begins at position
+-- 256 · p. An entry is named by the position of its first byte, a directory by the number of its page, the root by 0. A place in a file
+-- is a byte of its content, counted from 0, and a place in a path a byte of the path.
+pub mod Layout
+pub mod Name
+pub mod Date
+pub mod Entry
+pub mod Sound
+pub mod Tree
+pub mod Path
+pub mod Image
+pub mod Walk
+pub mod Effect
+pub mod Call
+pub mod Refusal
+pub mod Meaning
+pub mod Demands
+pub mod Text
+pub mod Listing
+-- Not to be believed: soundness as the code tests it. The laws say that it is the same.
+pub mod Judge

@@ -1,0 +1,150 @@
+-- Document 01, "The plain tree" and "The numbers that say no": what each call answers and does, on the plain tree and on the bytes of any
+-- image. A public call's contract cites `answer`, `after` and `bufferAfter`.
+use Prim.Native.Nat.{ℕ, zero, suc}
+use mathlib.Core.Bool.{Bool, true, false, not}
+use mathlib.Core.List.{List, [], _∷_, _++_}
+use lib.ListN.{length, take, drop}
+use Rattle.volume.specs.Bytes.{Bytes, put, if_then_else_}
+use Rattle.volume.specs.Lists.{all}
+use Rattle.model.specs.Layout.{pageSize, pageCount, validLength, validHeader}
+use Rattle.model.specs.Sound.{pagesAt, inRange, sound}
+use Rattle.model.specs.Tree.{Row, end, free, file, dir, Tree, emptyRow, freeNumber, Node, fileNode, directoryNode, fill, rewrite, vacate}
+use Rattle.model.specs.Path.{Path, pathOf, parents, lastName}
+use Rattle.model.specs.Image.{treeOf}
+use Rattle.model.specs.Walk.{changeAt, entryPosition}
+use Rattle.model.specs.Effect.{formatted, fileMade, directoryMade, written, removed}
+use Rattle.model.specs.Call.{Call, format, verdict, find, list, read, makeFile, makeDirectory, write, remove, Kind, isFile, isDirectory, Verdict, Found, Listed, empty, holds, Told, bufferBefore, Refusal, no, Answer, refused, granted}
+use Rattle.model.specs.Refusal.{Line, refusals, settle, node, directoryRow, contentIn}
+
+-- ---- on the plain tree
+
+-- kind, size and date; a directory's size is 256
+unfoldable pub foundAt : Node → Found
+foundAt (fileNode date v) = record { kind = isFile; size = length v; date = date }
+foundAt (directoryNode date r) = record { kind = isDirectory; size = pageSize; date = date }
+
+-- entry i of a row
+unfoldable pub listed : Row → ℕ → Listed
+listed end i = empty
+listed (free r) zero = empty
+listed (free r) (suc i) = listed r i
+listed (file n d v r) zero = holds isFile n (length v) d
+listed (file n d v r) (suc i) = listed r i
+listed (dir n d s r) zero = holds isDirectory n pageSize d
+listed (dir n d s r) (suc i) = listed r i
+
+-- the bytes that a read at a position copies: as many as there are and as the buffer has room for
+abbrev pub copied : Bytes → (position : ℕ) → (buffer : Bytes) → Bytes
+copied v at buffer = take (length buffer) (drop at v)
+
+-- what a granted call tells
+unfoldable pub told : (c : Call) → Tree → Told c
+told format t = tt
+told verdict t = record { pages = t .pages; free = freeNumber t }
+told (find path) t = foundAt (node path t)
+told (list path i) t = listed (directoryRow path t) i
+told (read path at room) t = length (copied (contentIn (node path t)) at room)
+told (makeFile path date) t = tt
+told (makeDirectory path date) t = tt
+told (write path at v) t = tt
+told (remove path) t = tt
+
+-- the reader's buffer after a granted call; past what a read copied it stays
+unfoldable pub filled : Call → Tree → Bytes
+filled format t = []
+filled verdict t = []
+filled (find path) t = []
+filled (list path i) t = []
+filled (read path at room) t = put 0 (copied (contentIn (node path t)) at room) room
+filled (makeFile path date) t = []
+filled (makeDirectory path date) t = []
+filled (write path at v) t = []
+filled (remove path) t = []
+
+-- f done to the row of the parent directory
+unfoldable pub inParent : Path → (Row → Row) → Tree → Tree
+inParent path f t = record { pages = t .pages; root = changeAt (parents path) f (t .root) }
+
+abbrev pub freshTree : (pages : ℕ) → Tree
+freshTree n = record { pages = n; root = emptyRow 6 }
+
+-- the tree after a granted call; no call changes the image's length, so N stays
+unfoldable pub changed : Call → Tree → Tree
+changed format t = freshTree (t .pages)
+changed verdict t = t
+changed (find path) t = t
+changed (list path i) t = t
+changed (read path at room) t = t
+changed (makeFile path date) t = inParent (pathOf path) (fill (file (lastName (pathOf path)) date [])) t
+changed (makeDirectory path date) t = inParent (pathOf path) (fill (dir (lastName (pathOf path)) date (emptyRow 8))) t
+changed (write path at v) t = inParent (pathOf path) (rewrite (lastName (pathOf path)) (put at v (contentIn (node path t)))) t
+changed (remove path) t = inParent (pathOf path) (vacate (lastName (pathOf path))) t
+
+unfoldable pub treeAnswer : (c : Call) → Tree → Answer (Told c)
+treeAnswer c t = settle (refusals c t) refused (granted (told c t))
+
+unfoldable pub treeBuffer : Call → Tree → Bytes
+treeBuffer c t = settle (refusals c t) (λ f. bufferBefore c) (filled c t)
+
+unfoldable pub treeAfter : Call → Tree → Tree
+treeAfter c t = settle (refusals c t) (λ f. t) (changed c t)
+
+-- ---- on the bytes of an image
+
+unfoldable pub isFormat : Call → Bool
+isFormat format = true
+isFormat verdict = false
+isFormat (find path) = false
+isFormat (list path i) = false
+isFormat (read path at room) = false
+isFormat (makeFile path date) = false
+isFormat (makeDirectory path date) = false
+isFormat (write path at v) = false
+isFormat (remove path) = false
+
+-- 15: read, write or remove: the chain ends or leaves the image early. Law `never-broken`: in a sound image it does not.
+abbrev pub isBroken : Bytes → Path → Bool
+isBroken b path = not (all (inRange (pageCount b)) (pagesAt b (entryPosition b path)))
+
+unfoldable pub brokenLine : Call → Bytes → List Line
+brokenLine format b = []
+brokenLine verdict b = []
+brokenLine (find path) b = []
+brokenLine (list path i) b = []
+brokenLine (read path at room) b = (isBroken b (pathOf path), no 15) ∷ []
+brokenLine (makeFile path date) b = []
+brokenLine (makeDirectory path date) b = []
+brokenLine (write path at v) b = (isBroken b (pathOf path), no 15) ∷ []
+brokenLine (remove path) b = (isBroken b (pathOf path), no 15) ∷ []
+
+-- Format judges only the image's length. Every other call judges the image first: 1, its length is not one of the allowed; 2, byte 0, 1 or
+-- 2 is wrong; 3, it is not sound.
+unfoldable pub lines : Call → Bytes → List Line
+lines c b =
+    (not (validLength (length b)), no 1)
+    ∷ (if isFormat c then [] else (
+      (not (validHeader b), no 2)
+      ∷ (not (sound b), no 3)
+      ∷ (refusals c (treeOf b) ++ brokenLine c b)))
+
+-- the bytes after a granted call
+unfoldable pub effect : Call → Bytes → Bytes
+effect format b = formatted b
+effect verdict b = b
+effect (find path) b = b
+effect (list path i) b = b
+effect (read path at room) b = b
+effect (makeFile path date) b = fileMade (pathOf path) date b
+effect (makeDirectory path date) b = directoryMade (pathOf path) date b
+effect (write path at v) b = written (pathOf path) at v b
+effect (remove path) b = removed (pathOf path) b
+
+-- what call c answers on image b, what the image is after it, and what the reader's buffer is; a refused call changes nothing
+unfoldable pub answer : (c : Call) → Bytes → Answer (Told c)
+answer c b = settle (lines c b) refused (granted (told c (treeOf b)))
+
+unfoldable pub after : Call → Bytes → Bytes
+after c b = settle (lines c b) (λ f. b) (effect c b)
+
+unfoldable pub bufferAfter : Call → Bytes → Bytes
+bufferAfter c b = settle (lines c b) (λ f. bufferBefore c) (filled c (treeOf b))

@@ -1,0 +1,157 @@
+-- Document 01, "The numbers that say no", on the plain tree. Each call's lines stand in the order of the paper's table, and the first
+-- that holds is given. Lines 1, 2, 3 and 15 ask the bytes and stand in `Meaning`.
+use mathlib.Core.Path.{_≡_}
+use Prim.Native.Nat.{ℕ, _+_, _-_, max}
+use mathlib.Core.Bool.{Bool, true, false, not, _||_}
+use mathlib.Core.Option.{Option, none, some}
+use mathlib.Core.List.{List, [], _∷_, _++_}
+use lib.ListN.{length}
+use lib.Dec.{eqb, leb, ltb}
+use Rattle.volume.specs.Bytes.{Bytes, if_then_else_}
+use Rattle.model.specs.Layout.{pagesFor}
+use Rattle.model.specs.Date.{goodDate}
+use Rattle.model.specs.Path.{Path, pathOf, isNoPath, isRoot, parents, names, lastName}
+use Rattle.model.specs.Tree.{Row, end, Tree, width, held, freeNumber, Node, fileNode, directoryNode, lookup}
+use Rattle.model.specs.Walk.{Walked, arrived, missing, blocked, walk, walkTo, arrivedOr}
+use Rattle.model.specs.Call.{Call, format, verdict, find, list, read, makeFile, makeDirectory, write, remove, Refusal, no, noAt}
+
+-- ---- what the lines ask
+
+unfoldable pub isMissing : {A : Type 0} → Walked A → Bool
+isMissing (arrived x) = false
+isMissing (missing i) = true
+isMissing (blocked i) = false
+
+unfoldable pub isBlocked : {A : Type 0} → Walked A → Bool
+isBlocked (arrived x) = false
+isBlocked (missing i) = false
+isBlocked (blocked i) = true
+
+-- the byte of the path at which a walk stopped
+unfoldable pub stoppedAt : {A : Type 0} → Walked A → ℕ
+stoppedAt (arrived x) = 0
+stoppedAt (missing i) = i
+stoppedAt (blocked i) = i
+
+unfoldable pub isThere : Option Node → Bool
+isThere none = false
+isThere (some x) = true
+
+unfoldable pub isDirectoryNode : Node → Bool
+isDirectoryNode (fileNode d v) = false
+isDirectoryNode (directoryNode d r) = true
+
+-- the bytes of a file, and the row of a directory
+unfoldable pub contentIn : Node → Bytes
+contentIn (fileNode d v) = v
+contentIn (directoryNode d r) = []
+
+unfoldable pub rowIn : Node → Row
+rowIn (fileNode d v) = end
+rowIn (directoryNode d r) = r
+
+-- where a path leads, and the row of its parent directory
+abbrev pub walked : Bytes → Tree → Walked Node
+walked path t = walkTo (pathOf path) (t .root)
+
+abbrev pub node : Bytes → Tree → Node
+node path t = arrivedOr (directoryNode [] end) (walked path t)
+
+abbrev pub walkedParent : Bytes → Tree → Walked Row
+walkedParent path t = walk (parents (pathOf path)) (t .root)
+
+abbrev pub parentRow : Bytes → Tree → Row
+parentRow path t = arrivedOr end (walkedParent path t)
+
+abbrev pub walkedDirectory : Bytes → Tree → Walked Row
+walkedDirectory path t = walk (names (pathOf path)) (t .root)
+
+abbrev pub directoryRow : Bytes → Tree → Row
+directoryRow path t = arrivedOr end (walkedDirectory path t)
+
+abbrev pub size : Bytes → Tree → ℕ
+size path t = length (contentIn (node path t))
+
+-- the pages that a call needs ("Lists of calls, and the replay")
+unfoldable pub wanted : Call → Tree → ℕ
+wanted format t = 0
+wanted verdict t = 0
+wanted (find path) t = 0
+wanted (list path i) t = 0
+wanted (read path at buffer) t = 0
+wanted (makeFile path date) t = pagesFor 0
+wanted (makeDirectory path date) t = 1
+wanted (write path at v) t = pagesFor (max (size path t) (at + length v)) - pagesFor (size path t)
+wanted (remove path) t = 0
+
+-- ---- the lines
+
+-- a condition, and the refusal that is given when it holds
+abbrev pub Line : Type 0
+Line = Bool × Refusal
+
+-- 4: the path is no path
+abbrev pub pathLine : Bytes → Line
+pathLine path = (isNoPath (pathOf path), no 4)
+
+-- 5: a name of the walk isn't in its directory; 6: the walk, or list, meets a file where it needs a directory
+abbrev pub walkLines : {A : Type 0} → Walked A → List Line
+walkLines w = (isMissing w, noAt 5 (stoppedAt w)) ∷ (isBlocked w, noAt 6 (stoppedAt w)) ∷ []
+
+-- 7: read or write: the path is a directory; 12: the position is past the size
+abbrev pub fileLines : Bytes → ℕ → Tree → List Line
+fileLines path at t = (isDirectoryNode (node path t), no 7) ∷ (ltb (size path t) at, no 12) ∷ []
+
+-- 11: the date is not good; then the walk of all names but the last; 8: the name is there already, or the path is `/`; 9: no empty entry
+unfoldable pub makeLines : Bytes → Bytes → Tree → List Line
+makeLines path date t =
+    pathLine path
+    ∷ (not (goodDate date), no 11)
+    ∷ walkLines (walkedParent path t) ++ (
+      (isRoot (pathOf path) || isThere (lookup (lastName (pathOf path)) (parentRow path t)), no 8)
+      ∷ (eqb (held (parentRow path t)) (width (parentRow path t)), no 9)
+      ∷ [])
+
+-- the lines above number 10; 12 of list: the entry number is past the directory's last; 14: remove: the path is `/`
+unfoldable pub earlier : Call → Tree → List Line
+earlier format t = []
+earlier verdict t = []
+earlier (find path) t = pathLine path ∷ walkLines (walked path t)
+earlier (list path i) t = pathLine path ∷ walkLines (walkedDirectory path t) ++ ((leb (width (directoryRow path t)) i, no 12) ∷ [])
+earlier (read path at buffer) t = pathLine path ∷ walkLines (walked path t) ++ fileLines path at t
+earlier (makeFile path date) t = makeLines path date t
+earlier (makeDirectory path date) t = makeLines path date t
+earlier (write path at v) t = pathLine path ∷ walkLines (walked path t) ++ fileLines path at t
+earlier (remove path) t = pathLine path ∷ (isRoot (pathOf path), no 14) ∷ walkLines (walked path t)
+
+-- 10: more pages wanted than the free number; a call that needs none never gets it
+abbrev pub spaceLine : Call → Tree → Line
+spaceLine c t = (ltb (freeNumber t) (wanted c t), no 10)
+
+-- the line below number 10; 13: remove: the directory holds something
+unfoldable pub later : Call → Tree → List Line
+later format t = []
+later verdict t = []
+later (find path) t = []
+later (list path i) t = []
+later (read path at buffer) t = []
+later (makeFile path date) t = []
+later (makeDirectory path date) t = []
+later (write path at v) t = []
+later (remove path) t = (ltb 0 (held (rowIn (node path t))), no 13) ∷ []
+
+unfoldable pub refusals : Call → Tree → List Line
+refusals c t = earlier c t ++ (spaceLine c t ∷ later c t)
+
+-- f of the first line's refusal that holds, or x if none does: then the call is granted
+unfoldable pub settle {ℓ} : {A : Type ℓ} → List Line → (Refusal → A) → A → A
+settle [] f x = x
+settle (l ∷ ls) f x = let rest = settle ls f x in if l .0 then f (l .1) else rest
+
+-- no line holds
+abbrev pub Passes : List Line → Type 0
+Passes ls = settle ls some none ≡ none
+
+-- the paper's table from the top down
+unfoldable pub tableOrder : List ℕ
+tableOrder = 1 ∷ 2 ∷ 3 ∷ 4 ∷ 11 ∷ 14 ∷ 5 ∷ 6 ∷ 8 ∷ 7 ∷ 12 ∷ 9 ∷ 10 ∷ 13 ∷ 15 ∷ []

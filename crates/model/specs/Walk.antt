@@ -1,0 +1,84 @@
+-- Document 01, "The plain tree": the path is walked with a state that takes one name and yields the next place. The walk on the tree, and
+-- the walk on the bytes, which says where make, write and remove work. Law `walk-bytes`: they lead to the same place or stop at the same name.
+use Prim.Native.Nat.{ℕ}
+use mathlib.Core.Bool.{Bool, true, false}
+use mathlib.Core.Option.{Option, none, some, Option·getD, Option·map}
+use mathlib.Core.List.{List, [], _∷_}
+use lib.ListN.{replicate}
+use Rattle.volume.specs.Bytes.{Bytes}
+use Rattle.volume.specs.Lists.{first}
+use Rattle.model.specs.Entry.{entries, Entry, vacant, aFile, aDirectory, entryAt}
+use Rattle.model.specs.Sound.{isNamed}
+use Rattle.model.specs.Tree.{Row, end, Node, fileNode, directoryNode, lookup, inside}
+use Rattle.model.specs.Path.{Name, Path, noPath, root, below, parents, lastName}
+
+-- Where a walk leads: to a place, or to a name that isn't in its directory, or to a file's name where it needs a directory;
+-- a walk stops there, so the leftmost fault counts.
+pub data Walked (A : Type 0) : Type 0 where
+  arrived : A → Walked A
+  missing : (begins : ℕ) → Walked A
+  blocked : (begins : ℕ) → Walked A
+
+-- ---- on the plain tree
+
+-- into the directory of that name
+unfoldable pub enter : Name → Option Node → (Row → Walked Row) → Walked Row
+enter n none on = missing (n .begins)
+enter n (some (fileNode d v)) on = blocked (n .begins)
+enter n (some (directoryNode d r)) on = on r
+
+-- the directory that the names lead to
+unfoldable pub walk : List Name → Row → Walked Row
+walk [] r = arrived r
+walk (n ∷ ns) r = enter n (lookup (n .bytes) r) (walk ns)
+
+unfoldable pub nodeNamed : Name → Option Node → Walked Node
+nodeNamed n none = missing (n .begins)
+nodeNamed n (some x) = arrived x
+
+unfoldable pub inWalked : {A B : Type 0} → Walked A → (A → Walked B) → Walked B
+inWalked (arrived x) f = f x
+inWalked (missing i) f = missing i
+inWalked (blocked i) f = blocked i
+
+-- What a path leads to. The root's date is eight zeros. (Bytes that are no path lead nowhere: line 4 stands above all that asks.)
+unfoldable pub walkTo : Path → Row → Walked Node
+walkTo noPath r = missing 0
+walkTo root r = arrived (directoryNode (replicate 8 0) r)
+walkTo (below ns n) r = inWalked (walk ns r) (λ s. nodeNamed n (lookup (n .bytes) s))
+
+-- f done to the row of the directory that the names lead to
+unfoldable pub changeAt : List Name → (Row → Row) → Row → Row
+changeAt [] f r = f r
+changeAt (n ∷ ns) f r = inside (n .bytes) (changeAt ns f) r
+
+-- ---- on the bytes
+
+-- the position of the entry of that name in the directory on page p
+unfoldable pub entryNamed : Bytes → (page : ℕ) → Bytes → Option ℕ
+entryNamed b p n = first (λ at. isNamed n (entryAt b at)) (entries p)
+
+unfoldable pub enterOn : Name → Option Entry → (ℕ → Walked ℕ) → Walked ℕ
+enterOn n none on = missing (n .begins)
+enterOn n (some vacant) on = missing (n .begins)
+enterOn n (some (aFile name date start size)) on = blocked (n .begins)
+enterOn n (some (aDirectory name date start size)) on = on start
+
+-- the page of the directory that the names lead to from the one on page p
+unfoldable pub walkOn : Bytes → List Name → (page : ℕ) → Walked ℕ
+walkOn b [] p = arrived p
+walkOn b (n ∷ ns) p = enterOn n (Option·map (entryAt b) (entryNamed b p (n .bytes))) (walkOn b ns)
+
+-- ---- what a walk arrived at; where it stopped a refusal stands above all that asks
+
+unfoldable pub arrivedOr : {A : Type 0} → A → Walked A → A
+arrivedOr d (arrived x) = x
+arrivedOr d (missing i) = d
+arrivedOr d (blocked i) = d
+
+-- the page of a path's parent directory, and the position of the entry that the path leads to
+abbrev pub parentPage : Bytes → Path → ℕ
+parentPage b p = arrivedOr 0 (walkOn b (parents p) 0)
+
+abbrev pub entryPosition : Bytes → Path → ℕ
+entryPosition b p = Option·getD (entryNamed b (parentPage b p) (lastName p)) 0

@@ -1,0 +1,20 @@
+-- The laws of a volume, for whoever builds on it: lists and counts first, then bytes and chains, then pages under any lawful geometry.
+-- Read in this order.
+pub mod Examples
+pub mod Occ
+pub mod Tests
+pub mod Flat
+pub mod Splice
+pub mod Puts
+pub mod Chains
+pub mod Fields
+pub mod Lawful
+pub mod Spreads
+pub mod Bits
+pub mod Marks
+pub mod Pages
+pub mod Grow
+pub mod Longer
+pub mod Writes
+pub mod Entries
+pub mod Small

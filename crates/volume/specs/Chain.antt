@@ -1,0 +1,25 @@
+-- Chains of pages, over the link of a page and the room on it. Nothing here knows where an image keeps them.
+use Prim.Native.Nat.{ℕ, zero, suc, _+_, _-_}
+use mathlib.Core.Bool.{Bool, true, false}
+use mathlib.Core.List.{List, [], _∷_}
+use lib.ListN.{length, take, drop}
+use lib.Dec.{ltb}
+use Rattle.volume.specs.Bytes.{Bytes, put, if_then_else_}
+
+-- the k pages from p on by their links
+unfoldable pub chain : (ℕ → ℕ) → ℕ → ℕ → List ℕ
+chain next zero p = []
+chain next (suc k) p = p ∷ chain next k (next p)
+
+-- where k steps from p lead: to p itself for none, else to the link of the k-th page
+unfoldable pub beyond : (ℕ → ℕ) → ℕ → ℕ → ℕ
+beyond next zero p = p
+beyond next (suc k) p = beyond next k (next p)
+
+-- v written from place `at` of the content along the pages: each has `room` bytes of it, the first at position `first p`
+unfoldable pub spread : (first : ℕ → ℕ) (room : ℕ) → List ℕ → ℕ → Bytes → Bytes → Bytes
+spread first room [] at v b = b
+spread first room (p ∷ ps) at v b =
+    if ltb at room
+    then spread first room ps 0 (drop (room - at) v) (put (first p + at) (take (room - at) v) b)
+    else spread first room ps (at - room) v b
