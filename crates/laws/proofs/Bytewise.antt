@@ -39,7 +39,7 @@ use Rattle.laws.proofs.Walks.{nodeOf, Target, target}
 use Rattle.laws.proofs.Slots.{home, lawful, header-marked, size as sized}
 use Rattle.laws.proofs.NewEntry.{new-length, new-start}
 use Rattle.laws.proofs.Make.{Place, place-of, place-held, madeAt}
-use Rattle.laws.proofs.Write.{isFileEntry, file-pages, file-chained, file-content, file-size, rewritten-is}
+use Rattle.laws.proofs.Write.{isFileEntry, node-file, file-pages, file-chained, file-content, file-size, rewritten-is}
 use Rattle.laws.proofs.Lines.{passed, settle-both}
 use Rattle.laws.proofs.Passed.{Makes, Writes, Removes, not-not, sound-passed, make-passed, write-passed, remove-passed}
 
@@ -133,12 +133,6 @@ small-removed b f path r s =
 
 -- ---- write
 
-file-named : (b : Bytes) (below : ℕ → Row) (n : Bytes) (x : Entry) → T (isNamed n x) → T (not (isDirectoryNode (nodeOf b below x))) → T (isFileEntry x)
-unfolding isNamed isDirectoryNode nodeOf isFileEntry
-file-named b g n vacant h k = h
-file-named b g n (aFile name date start size) h k = tt
-file-named b g n (aDirectory name date start size) h k = k
-
 module _ (b : Bytes) (f : Facts b) (path : Bytes) (from : ℕ) (v : Bytes) (w : Writes b path from v) where
   tg : Target b (w .ns) (w .n)
   tg = target b f (w .ns) (w .n) (w .reached) (w .entered)
@@ -147,7 +141,7 @@ module _ (b : Bytes) (f : Facts b) (path : Bytes) (from : ℕ) (v : Bytes) (w : 
   here = let l = w .leads in let r = tg .node in cc
 
   isFile : T (isFileEntry (entryAt b (tg .at)))
-  isFile = file-named b (rowAt (tg .above .e) b) (w .n .bytes) (entryAt b (tg .at)) (named-found b (tg .above .t) (w .n .bytes) (tg .at) (tg .found) .1)
+  isFile = node-file b (rowAt (tg .above .e) b) (w .n .bytes) (entryAt b (tg .at)) (named-found b (tg .above .t) (w .n .bytes) (tg .at) (tg .found) .1)
       (subst (λ (x : Node). T (not (isDirectoryNode x))) here (w .isFile))
 
   same-size : size path (treeOf b) ≡ sizeAt b (tg .at)

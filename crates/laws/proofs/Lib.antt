@@ -24,3 +24,5 @@ pub mod Lists
 pub mod Headline
 pub mod Bytewise
 pub mod Passed
+pub mod Stays
+pub mod Listings

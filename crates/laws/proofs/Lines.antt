@@ -37,6 +37,11 @@ module _ {A : Type 0} (f : Refusal → A) where
   settle-skip true r ls x h = absurd h
   settle-skip false r ls x h = refl
 
+  pub settle-holds : (c : Bool) (r : Refusal) (ls : List Line) (x : A) → T c → settle ((c, r) ∷ ls) f x ≡ f r
+  unfolding settle
+  settle-holds true r ls x h = refl
+  settle-holds false r ls x h = absurd h
+
   pub settle-append : (ls ms : List Line) (x : A) → settle (ls ++ ms) f x ≡ settle ls f (settle ms f x)
   unfolding settle
   settle-append [] ms x = refl

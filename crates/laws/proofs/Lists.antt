@@ -26,7 +26,8 @@ use Rattle.laws.proofs.Facts.{Facts, sound-facts, Sized, valid-sized, o
 use Rattle.laws.proofs.Counting.{free-sum, free-number}
 use Rattle.laws.proofs.Format.{formatted-length}
 use Rattle.laws.proofs.Grants.{granted-law}
-use Rattle.laws.proofs.Lines.{passed, passes-left, settle-both}
+use Rattle.laws.proofs.Lines.{passed, settle-both}
+use Rattle.laws.proofs.Passed.{not-not, sound-passed}
 use Rattle.laws.proofs.Steps.{as-tree, want-of-pages}
 
 -- ---- the owners of a page
@@ -101,30 +102,25 @@ sound-length : (b b′ : Bytes) → T (sound b) → T (sound b′) → treeOf b�
 unfolding treeOf
 sound-length b b′ h h′ e = omega (arith, valid-sized b (sound-facts b h .fits) .whole, valid-sized b′ (sound-facts b′ h′ .fits) .whole)
 
-not-not : (c : Bool) → T (not (not c)) → T c
-not-not true h = tt
-not-not false h = h
-
 pub length-kept : (c : Call) (b : Bytes) → length (after c b) ≡ length b
 unfolding after lines isFormat effect
 length-kept c b = settle-both (λ (x y : Bytes). length x ≡ length b) (lines c b) (λ f. b) (effect c b) (λ f. b) b (λ f. refl) (go c)
   where
-    other : (d : Call) → Passes ((not (validLength (length b)), no 1) ∷ (not (validHeader b), no 2) ∷ (not (sound b), no 3) ∷ (refusals d (treeOf b) ++ brokenLine d b)) → length (effect d b) ≡ length b
-    other d e =
-        let p = passed _ _ (passed _ _ (passed _ _ e .1) .1) in
-        let h = not-not (sound b) (p .0) in
-        let g = granted-law d b h (passes-left (refusals d (treeOf b)) (brokenLine d b) (p .1)) in
-        sound-length b (effect d b) h (g .0) (ap (λ (t : Tree). t .pages) (g .1) ∙ changed-pages d (treeOf b))
+    other : (d : Call) → T (not (isFormat d)) → Passes (lines d b) → length (effect d b) ≡ length b
+    other d n e =
+        let p = sound-passed d b n e in
+        let g = granted-law d b (p .0) (p .1) in
+        sound-length b (effect d b) (p .0) (g .0) (ap (λ (t : Tree). t .pages) (g .1) ∙ changed-pages d (treeOf b))
     go : (d : Call) → Passes (lines d b) → length (effect d b) ≡ length b
     go format e = formatted-length b (not-not (validLength (length b)) (passed _ _ e .0))
-    go verdict e = other verdict e
-    go (find path) e = other (find path) e
-    go (list path i) e = other (list path i) e
-    go (read path at room) e = other (read path at room) e
-    go (makeFile path date) e = other (makeFile path date) e
-    go (makeDirectory path date) e = other (makeDirectory path date) e
-    go (write path at v) e = other (write path at v) e
-    go (remove path) e = other (remove path) e
+    go verdict e = refl
+    go (find path) e = refl
+    go (list path i) e = refl
+    go (read path at room) e = refl
+    go (makeFile path date) e = other (makeFile path date) tt e
+    go (makeDirectory path date) e = other (makeDirectory path date) tt e
+    go (write path at v) e = other (write path at v) tt e
+    go (remove path) e = other (remove path) tt e
 
 -- ---- the list
 

@@ -266,7 +266,7 @@ place-of b f ns n date k c =
       above = p; at = lowestVacant b (p .t); found = some-vacant b (p .e) (p .t) (r .1); legal = c .legal;
       apart = not-named b (p .e) (p .t) (n .bytes) (r .0); long = c .long; dated = c .dated; space = c .space }
 
-made-position : (b : Bytes) (ns : List Name) (n : Name) (date : Bytes) (fl z k : ℕ) (p : Parent b ns)
+pub made-position : (b : Bytes) (ns : List Name) (n : Name) (date : Bytes) (fl z k : ℕ) (p : Parent b ns)
     → made fl z k (below ns n) date b ≡ madeAt fl z k (n .bytes) date (lowestVacant b (p .t)) b
 unfolding made arrivedOr
 made-position b ns n date fl z k p = ap (λ (v : Walked ℕ). madeAt fl z k (n .bytes) date (lowestVacant b (arrivedOr 0 v)) b) (p .page)

@@ -83,6 +83,17 @@ vacant-works b b′ e t at n found v = record {
 module _ (b : Bytes) (f : Facts b) (ns : List Name) (n : Name) (tg : Target b ns n)
     (empty : held (rowIn (nodeOf b (rowAt (tg .above .e) b) (entryAt b (tg .at)))) ≤ 0) where
 
+  pub removed-bytes : Removed version1 (pageCount b) b (set (foldl (On.released version1) b (pagesAt b (tg .at))) (tg .at) 0) (tg .at) (pagesAt b (tg .at))
+  removed-bytes =
+      let e : ℕ = tg .above .e in
+      let t : ℕ = tg .above .t in
+      let at : ℕ = tg .at in
+      let m : Mem at (entries t) = named-found b t (n .bytes) at (tg .found) .0 in
+      let s : Slot b t at = slot b f ns (suc e) t at (tg .above .leads) m in
+      let o : Owned b (pagesAt b at) = subst (Owned b) (entry-pages e b (entryAt b at) empty) (entry-owned b f ns e t at (tg .above .leads) m) in
+      removed-is version1 home (pageCount b) (lawful b f) b at (pagesAt b at) (size b f .whole) (omega (arith, s .inside)) (rest-kept b f at (omega (arith, s .within .far)))
+        (λ q k. (o .inside q k .1, o .inside q k .2)) (o .once)
+
   removed-sound : let b′ = set (foldl (On.released version1) b (pagesAt b (tg .at))) (tg .at) 0 in
       T (sound b′) × (treeOf b′ ≡ record { pages = pageCount b; root = changeAt ns (vacate (n .bytes)) (rowAt (pageCount b) b 0) })
   unfolding own
@@ -95,10 +106,7 @@ module _ (b : Bytes) (f : Facts b) (ns : List Name) (n : Name) (tg : Target b ns
       let m : Mem at (entries t) = named-found b t (n .bytes) at (tg .found) .0 in
       let mine : own e b (entryAt b at) ≡ ps = entry-pages e b (entryAt b at) empty in
       let s : Slot b t at = slot b f ns (suc e) t at (tg .above .leads) m in
-      let o : Owned b ps = subst (Owned b) mine (entry-owned b f ns e t at (tg .above .leads) m) in
-      let r : Removed version1 (pageCount b) b b′ at ps =
-            removed-is version1 home (pageCount b) (lawful b f) b at ps (size b f .whole) (omega (arith, s .inside)) (rest-kept b f at (omega (arith, s .within .far)))
-              (λ q k. (o .inside q k .1, o .inside q k .2)) (o .once) in
+      let r = removed-bytes in
       let v : entryAt b′ at ≡ vacant = zero-vacant b′ at (r .flag) in
       let none-left : own e b′ (entryAt b′ at) ≡ [] = ap (own e b′) v in
       changed b b′ f ns e t at [] (tg .above .leads) m

@@ -62,7 +62,7 @@ file-entry b b′ at h fl n d = rw (fl, n, d) (go (occupied b at) (isDirectory b
     go false c k = absurd k
 
 -- a named entry whose node is no directory
-node-file : (b : Bytes) (g : ℕ → Row) (n : Bytes) (x : Entry) → T (isNamed n x) → T (not (isDirectoryNode (nodeOf b g x))) → T (isFileEntry x)
+pub node-file : (b : Bytes) (g : ℕ → Row) (n : Bytes) (x : Entry) → T (isNamed n x) → T (not (isDirectoryNode (nodeOf b g x))) → T (isFileEntry x)
 unfolding isNamed isDirectoryNode nodeOf isFileEntry
 node-file b g n vacant h k = h
 node-file b g n (aFile name date start size) h k = tt

@@ -1,9 +1,9 @@
 -- What calls answer: numbers and places of refusals and which goes first, what find, list and read tell, the bounds of names and dates.
-use mathlib.Core.Path.{_≡_, refl}
+use mathlib.Core.Path.{refl}
 use Prim.Native.Nat.{ℕ}
 use mathlib.Core.List.{List, [], _∷_, _++_}
 use lib.ListN.{replicate, set, drop}
-use Rattle.volume.specs.Bytes.{Bytes, part}
+use Rattle.volume.specs.Bytes.{part}
 use Rattle.model.specs.Call.{format, verdict, find, list, read, makeFile, makeDirectory, write, remove, isFile, isDirectory, empty, granted}
 use Rattle.model.specs.Text.{text}
 use Rattle.model.proofs.Run.{computing, Step, Case, _gives_, reads, done, sized, answered, shown, Hold, computed, stated, hold}
@@ -123,10 +123,10 @@ told =
     shown blank (
       format gives done
       ∷ makeFile (text "/0042") day1 gives done
-      ∷ write (text "/0042") 0 (content 256) gives done
       ∷ makeDirectory (text "/A") day2 gives done
       ∷ makeFile (text "/A/7") day3 gives done
       ∷ makeDirectory (text "/A/B") day1 gives done
+      ∷ write (text "/0042") 0 (content 256) gives done
       ∷ [])
       whole desk
     ∷ shown desk (
@@ -207,8 +207,10 @@ makes =
         whole full
     ∷ shown full (
         verdict gives sized 8 0
-        ∷ makeFile (text "/G/x") day1 gives nayAt 5 1
-        ∷ makeFile (text "/C/x") day1 gives nayAt 6 1
+        ∷ makeFile (text "/G") [] gives nay 11
+        ∷ makeDirectory (text "/A/C") [] gives nay 11
+        ∷ makeDirectory (text "/G/x") day1 gives nayAt 5 1
+        ∷ makeDirectory (text "/C/x") day1 gives nayAt 6 1
         ∷ makeFile (text "/D") day1 gives nay 8
         ∷ makeDirectory (text "/D") day1 gives nay 8
         ∷ makeFile (text "/G") day1 gives nay 9
@@ -267,10 +269,26 @@ makes =
         ∷ list (text "/") 4 gives entry isFile (0x20 ∷ replicate 15 0) 0 day1
         ∷ list (text "/") 5 gives entry isFile (0x7E ∷ replicate 15 0) 0 day1
         ∷ [])
+    -- names of which one begins as the other does, whichever came first
+    ∷ answered fresh (
+        makeDirectory (text "/AB") day1 gives done
+        ∷ makeFile (text "/A") day2 gives done
+        ∷ makeFile (text "/ABC") day3 gives done
+        ∷ write (text "/A") 0 (1 ∷ []) gives done
+        ∷ find (text "/AB") gives found isDirectory 256 day1
+        ∷ find (text "/A") gives found isFile 1 day2
+        ∷ find (text "/ABC") gives found isFile 0 day3
+        ∷ remove (text "/A") gives done
+        ∷ find (text "/A") gives nayAt 5 1
+        ∷ makeDirectory (text "/ABCD") day1 gives done
+        ∷ makeDirectory (text "/A/x") day1 gives nayAt 5 1
+        ∷ makeDirectory (text "/ABC/x") day1 gives nayAt 6 1
+        ∷ makeDirectory (text "/ABCD/x") day1 gives done
+        ∷ [])
     ∷ []
 
 pub makes-hold : Hold makes
-unfolding computing computed stated makes desk full
+unfolding computing computed stated makes fresh desk full
 makes-hold = hold makes refl
 
 -- ---- dates
@@ -321,10 +339,10 @@ pub readings : List Case
 readings =
     shown blank (
       format gives done
+      ∷ makeDirectory (text "/D") day2 gives done
       ∷ makeFile (text "/R") day1 gives done
       ∷ write (text "/R") 0 (content 600) gives done
-      ∷ makeFile (text "/E") day1 gives done
-      ∷ makeDirectory (text "/D") day1 gives done
+      ∷ makeFile (text "/E") day3 gives done
       ∷ [])
       whole shelf
     ∷ shown shelf (

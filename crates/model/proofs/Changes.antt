@@ -1,10 +1,9 @@
 -- What calls change: whole images after a write, a removal and a make.
-use mathlib.Core.Path.{_≡_, refl}
-use Prim.Native.Nat.{ℕ}
+use mathlib.Core.Path.{refl}
 use mathlib.Core.List.{List, [], _∷_, _++_}
 use lib.ListN.{replicate, set}
 use Rattle.volume.specs.Bytes.{Bytes, part, put}
-use Rattle.model.specs.Call.{format, verdict, find, makeFile, makeDirectory, write, remove, isFile, isDirectory, granted}
+use Rattle.model.specs.Call.{format, verdict, find, makeFile, makeDirectory, write, remove, isFile}
 use Rattle.model.specs.Text.{text}
 use Rattle.model.proofs.Run.{computing, Case, _gives_, reads, done, sized, answered, shown, Hold, computed, stated, hold}
 use Rattle.model.proofs.Desk.{day1, day2, day3, content, nay, nayAt, found, whole, stored, fresh, two, desk, shelf, far}
@@ -44,17 +43,17 @@ writes =
     ∷ answered shelf (write (text "/E") 0 (replicate 765 1) gives done ∷ verdict gives sized 8 0 ∷ [])
     -- in the middle, across pages
     ∷ shown shelf (write (text "/R") 253 (0xA0 ∷ 0xA1 ∷ 0xA2 ∷ 0xA3 ∷ []) gives done ∷ find (text "/R") gives found isFile 600 day1 ∷ [])
-        whole (put 510 (0xA0 ∷ 0xA1 ∷ []) (put 513 (0xA2 ∷ 0xA3 ∷ []) shelf))
+        whole (put 766 (0xA0 ∷ 0xA1 ∷ []) (put 769 (0xA2 ∷ 0xA3 ∷ []) shelf))
     -- over the end, on the last page: 602 bytes
     ∷ shown shelf (write (text "/R") 599 (0xA0 ∷ 0xA1 ∷ 0xA2 ∷ []) gives done ∷ [])
-        whole (put 82 (0x5A ∷ 0x02 ∷ []) (put 858 (0xA0 ∷ 0xA1 ∷ 0xA2 ∷ []) shelf))
+        whole (put 114 (0x5A ∷ 0x02 ∷ []) (put 1114 (0xA0 ∷ 0xA1 ∷ 0xA2 ∷ []) shelf))
     -- at the end, onto a new page: 800 bytes, of which the last 35 stand on page 5
     ∷ shown shelf (write (text "/R") 600 (content 200) gives done ∷ [])
-        whole (put 3 (2 ∷ 0b111111 ∷ []) (put 82 (0x20 ∷ 0x03 ∷ []) (put 768 (5 ∷ []) (put 859 (content 165)
+        whole (put 3 (2 ∷ 0b111111 ∷ []) (put 114 (0x20 ∷ 0x03 ∷ []) (put 1024 (5 ∷ []) (put 1115 (content 165)
           (put 1280 (0 ∷ part 165 35 (content 200) ++ replicate 220 0) shelf)))))
     -- into an empty file, which gets two pages: each zeroed before
-    ∷ shown shelf (write (text "/E") 0 (content 300) gives done ∷ find (text "/E") gives found isFile 300 day1 ∷ [])
-        whole (put 3 (1 ∷ 0b1111111 ∷ []) (put 113 (5 ∷ 0x2C ∷ 0x01 ∷ [])
+    ∷ shown shelf (write (text "/E") 0 (content 300) gives done ∷ find (text "/E") gives found isFile 300 day3 ∷ [])
+        whole (put 3 (1 ∷ 0b1111111 ∷ []) (put 145 (5 ∷ 0x2C ∷ 0x01 ∷ [])
           (put 1280 (6 ∷ content 255 ++ 0 ∷ part 255 45 (content 300) ++ replicate 210 0) shelf)))
     -- the lowest free page comes first, wherever it stands: /B goes on from page 2 on pages 1 and 3
     ∷ shown two (remove (text "/A") gives done ∷ write (text "/B") 255 (content 300) gives done
@@ -97,13 +96,13 @@ removes =
     ∷ answered fresh (remove (text "/") gives nay 14 ∷ [])
     -- the flags byte, the marks and the count change, and no other byte
     ∷ shown desk (remove (text "/0042") gives done ∷ find (text "/0042") gives nayAt 5 1 ∷ verdict gives sized 8 5 ∷ [])
-        whole (put 3 (5 ∷ 0b11001 ∷ []) (set desk 64 0))
+        whole (put 3 (5 ∷ 0b00111 ∷ []) (set desk 64 0))
     ∷ shown desk (remove (text "/A/B") gives done ∷ [])
-        whole (put 3 (4 ∷ 0b01111 ∷ []) (set desk 800 0))
+        whole (put 3 (4 ∷ 0b11011 ∷ []) (set desk 288 0))
     ∷ shown desk (remove (text "/A/7") gives done ∷ remove (text "/A") gives nay 13 ∷ [])
-        whole (set desk 768 0)
+        whole (set desk 256 0)
     ∷ shown desk (remove (text "/A/7") gives done ∷ remove (text "/A/B") gives done ∷ remove (text "/A") gives done ∷ [])
-        whole (put 3 (5 ∷ 0b00111 ∷ []) (set (set (set desk 768 0) 800 0) 96 0))
+        whole (put 3 (5 ∷ 0b11001 ∷ []) (set (set (set desk 256 0) 288 0) 96 0))
     ∷ shown far (remove (text "/A") gives done ∷ []) whole (put 3 (15 ∷ 0b1 ∷ 0b0 ∷ []) (set far 64 0))
     -- case 11
     ∷ answered fresh (
@@ -136,8 +135,8 @@ made =
         whole (put 3 (6 ∷ 0b11 ∷ []) (put 64 (stored 0x81 (text "A" ++ replicate 15 0) 1 0x00 0x01 day3) (put 256 (replicate 256 0) junk)))
     -- below the root; page 5 held E5 bytes
     ∷ shown desk (makeDirectory (text "/A/0123456789ABCDEF") day3 gives done ∷ makeFile (text "/A/B/.") day2 gives done ∷ [])
-        whole (put 3 (2 ∷ 0b111111 ∷ []) (put 832 (stored 0x81 (text "0123456789ABCDEF") 5 0x00 0x01 day3)
-          (put 1024 (stored 0x80 (text "." ++ replicate 15 0) 0 0x00 0x00 day2) (put 1280 (replicate 256 0) desk))))
+        whole (put 3 (2 ∷ 0b111111 ∷ []) (put 320 (stored 0x81 (text "0123456789ABCDEF") 5 0x00 0x01 day3)
+          (put 512 (stored 0x80 (text "." ++ replicate 15 0) 0 0x00 0x00 day2) (put 1280 (replicate 256 0) desk))))
     -- seven directories, each in the one before
     ∷ answered fresh (
         makeDirectory (text "/1") day1 gives done

@@ -1,19 +1,17 @@
 -- What the rows of `Values` have in common: arguments, images and literal bytes.
-use Prim.Native.Nat.{ℕ, _+_, _%_}
-use Prim.Native.String.{String}
-use mathlib.Core.List.{List, [], _∷_, _++_, map}
+use Prim.Native.Nat.{ℕ, _%_}
+use mathlib.Core.List.{[], _∷_, _++_, map}
 use lib.ListN.{replicate}
 use Rattle.volume.specs.Bytes.{Bytes, part, put}
 use Rattle.volume.specs.Lists.{upTo}
-use Rattle.model.specs.Call.{Call, format, makeFile, makeDirectory, write, Kind, Found, Listed, holds, Refusal, no, noAt, Answer, refused, granted}
+use Rattle.model.specs.Call.{Kind, Found, Listed, holds, no, noAt, Answer, refused, granted}
 use Rattle.model.specs.Text.{text}
-
-
+use Rattle.model.proofs.Table.{date}
 
 -- ---- arguments
 
 abbrev pub day1 : Bytes
-day1 = 0x20 ∷ 0x26 ∷ 0x11 ∷ 0x15 ∷ 0x07 ∷ 0x14 ∷ 0x30 ∷ 0x00 ∷ []
+day1 = date
 
 abbrev pub day2 : Bytes
 day2 = 0x19 ∷ 0x99 ∷ 0x12 ∷ 0x31 ∷ 0x05 ∷ 0x23 ∷ 0x59 ∷ 0x58 ∷ []
@@ -71,13 +69,13 @@ two = header 5 0b111 ++ stored 0x80 (text "A" ++ replicate 15 0) 1 0xFF 0x00 day
     ++ 0 ∷ replicate 255 0x42
     ++ replicate 1280 0xE5
 
--- /0042 of 256 bytes on pages 1 and 2; /A on page 3, in it /A/7, empty, and /A/B on page 4, empty
+-- /0042 of 256 bytes on pages 3 and 4; /A on page 1, in it /A/7, empty, and /A/B on page 2, empty
 unfoldable pub desk : Bytes
-desk = header 3 0b11111 ++ stored 0x80 (text "0042" ++ replicate 12 0) 1 0x00 0x01 day1 ++ stored 0x81 (text "A" ++ replicate 15 0) 3 0x00 0x01 day2 ++ replicate 128 0
-    ++ 2 ∷ content 255
-    ++ 0 ∷ 4 ∷ replicate 254 0
-    ++ stored 0x80 (text "7" ++ replicate 15 0) 0 0x00 0x00 day3 ++ stored 0x81 (text "B" ++ replicate 15 0) 4 0x00 0x01 day1 ++ replicate 192 0
+desk = header 3 0b11111 ++ stored 0x80 (text "0042" ++ replicate 12 0) 3 0x00 0x01 day1 ++ stored 0x81 (text "A" ++ replicate 15 0) 1 0x00 0x01 day2 ++ replicate 128 0
+    ++ stored 0x80 (text "7" ++ replicate 15 0) 0 0x00 0x00 day3 ++ stored 0x81 (text "B" ++ replicate 15 0) 2 0x00 0x01 day1 ++ replicate 192 0
     ++ replicate 256 0
+    ++ 4 ∷ content 255
+    ++ 0 ∷ 4 ∷ replicate 254 0
     ++ replicate 768 0xE5
 
 -- the desk and four entries more: /C of 510 bytes on pages 6 and 7, /D and /E, empty, and /F on page 5, empty
@@ -87,14 +85,14 @@ full = put 3 (0 ∷ 0b11111111 ∷ []) (put 128 (
       ++ stored 0x80 (text "E" ++ replicate 15 0) 0 0x00 0x00 day3 ++ stored 0x81 (text "F" ++ replicate 15 0) 5 0x00 0x01 day1)
     (put 1280 (replicate 256 0 ++ 7 ∷ replicate 255 1 ++ 0 ∷ replicate 255 1) desk))
 
--- /R of 600 bytes on pages 1, 2 and 3; /E, empty; /D on page 4, empty
+-- /D on page 1, empty; /R of 600 bytes on pages 2, 3 and 4; /E, empty
 unfoldable pub shelf : Bytes
-shelf = header 3 0b11111 ++ stored 0x80 (text "R" ++ replicate 15 0) 1 0x58 0x02 day1 ++ stored 0x80 (text "E" ++ replicate 15 0) 0 0x00 0x00 day1
-    ++ stored 0x81 (text "D" ++ replicate 15 0) 4 0x00 0x01 day1 ++ replicate 96 0
-    ++ 2 ∷ part 0 255 (content 600)
-    ++ 3 ∷ part 255 255 (content 600)
-    ++ 0 ∷ part 510 90 (content 600) ++ replicate 165 0
+shelf = header 3 0b11111 ++ stored 0x81 (text "D" ++ replicate 15 0) 1 0x00 0x01 day2 ++ stored 0x80 (text "R" ++ replicate 15 0) 2 0x58 0x02 day1
+    ++ stored 0x80 (text "E" ++ replicate 15 0) 0 0x00 0x00 day3 ++ replicate 96 0
     ++ replicate 256 0
+    ++ 3 ∷ part 0 255 (content 600)
+    ++ 4 ∷ part 255 255 (content 600)
+    ++ 0 ∷ part 510 90 (content 600) ++ replicate 165 0
     ++ replicate 768 0xE5
 
 -- 16 pages: /A of 255 bytes on page 9

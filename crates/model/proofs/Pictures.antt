@@ -1,23 +1,21 @@
 -- What an image means as a whole: its tree, the tree that the calls replay to, and the listing.
-use mathlib.Core.Path.{_≡_, refl}
-use Prim.Native.Nat.{ℕ, _+_}
+use mathlib.Core.Path.{refl}
 use mathlib.Core.List.{List, [], _∷_, _++_}
 use lib.ListN.{replicate, set}
-use Rattle.volume.specs.Bytes.{Bytes, put}
-use Rattle.model.specs.Tree.{Row, end, free, file, dir, Tree, fill, rewrite, vacate, inside}
+use Rattle.model.specs.Tree.{end, free, file, dir, Tree, fill, rewrite, vacate, inside}
 use Rattle.model.specs.Image.{treeOf}
 use Rattle.model.specs.Walk.{changeAt}
-use Rattle.model.specs.Call.{Call, format, verdict, find, list, read, makeFile, makeDirectory, write, remove}
-use Rattle.model.specs.Meaning.{freshTree, inParent, changed, treeAfter}
-use Rattle.model.specs.Demands.{replay}
+use Rattle.model.specs.Call.{format, verdict, find, makeFile, makeDirectory, write, remove}
+use Rattle.model.specs.Meaning.{inParent, changed, treeAnswer, treeBuffer, treeAfter}
+use Rattle.model.specs.Demands.{replay, replayResults}
 use Rattle.model.specs.Text.{text}
 use Rattle.model.specs.Listing.{digits, line, rowLines, treeLines, listingOf, listing}
-use Rattle.model.proofs.Run.{computing, Step, calls, Case, _gives_, done, sized, answered, shown, Hold, computed, stated, hold}
-use Rattle.model.proofs.Table.{blank, newFile, newDirectory, date}
-use Rattle.model.proofs.Desk.{day1, day2, day3, content, nay, nayAt, fresh, one, desk}
+use Rattle.model.proofs.Run.{computing, Step, calls, given, Case, _gives_, reads, done, sized, shown, Hold, computed, stated, hold}
+use Rattle.model.proofs.Table.{blank, newFile, newDirectory}
+use Rattle.model.proofs.Desk.{day1, day2, day3, content, nay, nayAt, fresh, desk}
 
 unfoldable pub replaying : Unit {0}
-unfolding fill rewrite vacate inside changeAt inParent changed treeAfter replay
+unfolding fill rewrite vacate inside changeAt inParent changed treeAnswer treeBuffer treeAfter replay replayResults
 replaying = tt
 
 unfoldable pub printing : Unit {0}
@@ -33,7 +31,7 @@ deskTree = record {
     file (text "0042" ++ replicate 12 0) day1 (content 256)
     (dir (text "A" ++ replicate 15 0) day2
       (file (text "7" ++ replicate 15 0) day3 []
-      (dir (text "B" ++ replicate 15 0) day1 (free (free (free (free (free (free (free (free end)))))))) 
+      (dir (text "B" ++ replicate 15 0) day1 (free (free (free (free (free (free (free (free end))))))))
       (free (free (free (free (free (free end))))))))
     (free (free (free (free end))))) }
 
@@ -53,6 +51,8 @@ deskSteps =
     ∷ remove (text "/A/x") gives done
     ∷ makeFile (text "/A/7") day3 gives done
     ∷ write (text "/0042") 0 (content 256) gives done
+    ∷ reads (text "/0042") 253 (replicate 5 9) 3 (2 ∷ 3 ∷ 4 ∷ 9 ∷ 9 ∷ [])
+    ∷ find (text "/A/7/x") gives nayAt 6 3
     ∷ verdict gives sized 8 3
     ∷ []
 
@@ -61,6 +61,7 @@ trees =
     shown desk [] treeOf deskTree
     ∷ shown fresh deskSteps treeOf deskTree
     ∷ shown fresh [] (λ b. replay (calls deskSteps) (treeOf b)) deskTree
+    ∷ shown fresh [] (λ b. replayResults (calls deskSteps) (treeOf b)) (given deskSteps)
     ∷ shown desk [] (λ b. replay (format ∷ []) (treeOf b)) (record { pages = 8; root = free (free (free (free (free (free end))))) })
     ∷ []
 

@@ -1,5 +1,5 @@
 -- Lists of calls run by the definitions: each call gets the image as the last one left it.
-use mathlib.Core.Path.{_≡_, refl, ap}
+use mathlib.Core.Path.{_≡_, ap}
 use Prim.Native.Nat.{ℕ}
 use mathlib.Core.List.{List, [], _∷_, _++_, flatMap}
 use Rattle.volume.specs.Bytes.{Bytes, same}

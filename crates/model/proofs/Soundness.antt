@@ -1,16 +1,16 @@
 -- The facts of a sound image one by one: an image that lacks just that fact, and what the judge finds first in it. And what does not count.
-use mathlib.Core.Path.{_≡_, refl}
-use Prim.Native.Nat.{ℕ, _+_}
-use mathlib.Core.List.{List, [], _∷_, _++_, map}
-use lib.ListN.{replicate, set, take}
+use mathlib.Core.Path.{refl}
+use Prim.Native.Nat.{ℕ}
+use mathlib.Core.List.{List, [], _∷_, _++_, map, foldl}
+use lib.ListN.{replicate, set}
 use Rattle.volume.specs.Bytes.{Bytes, part, put}
 use Rattle.volume.specs.Lists.{upTo}
 use Rattle.model.specs.Sound.{owners}
-use Rattle.model.specs.Call.{format, verdict, find, list, read, makeFile, makeDirectory, write, remove, isFile, isDirectory, empty, granted}
+use Rattle.model.specs.Call.{verdict, find, list, makeFile, makeDirectory, write, remove, isFile, isDirectory, empty, granted}
 use Rattle.model.specs.Text.{text}
 use Rattle.model.specs.Judge.{Fault, badEntry, badChain, ownedTwice, markedFree, lostPage, badCount, fault, clean, thenJudge, judgePage, judgeChain, freshName, judgeEntry, judgeEntries, judgeDirectory, lostOr, judgeRest, judge}
-use Rattle.model.proofs.Run.{computing, Case, _gives_, reads, done, sized, answered, shown, Hold, computed, stated, hold}
-use Rattle.model.proofs.Desk.{day1, day2, day3, content, nay, nayAt, found, entry, whole, header, stored, fresh, one, two, desk, shelf}
+use Rattle.model.proofs.Run.{computing, Case, _gives_, done, sized, shown, Hold, computed, stated, hold}
+use Rattle.model.proofs.Desk.{day1, nay, found, entry, whole, header, stored, fresh, one, two, desk, shelf}
 
 unfoldable pub judging : Unit {0}
 unfolding thenJudge judgePage judgeChain freshName judgeEntry judgeEntries judgeDirectory lostOr judgeRest judge
@@ -20,9 +20,9 @@ judging = tt
 abbrev unsound : Bytes → Fault → Case
 unsound b f = shown b (verdict gives nay 3 ∷ []) judge (fault f)
 
--- sound, with so many free pages; the judge meets these pages, the last one first
+-- sound, with so many free pages; the judge marks these pages of 8
 abbrev sound : Bytes → ℕ → List ℕ → Case
-sound b free pages = shown b (verdict gives sized 8 free ∷ []) judge (clean pages)
+sound b free pages = shown b (verdict gives sized 8 free ∷ []) judge (clean (foldl (λ marks p. set marks p 1) (replicate 8 0) pages))
 
 -- a directory on page 1, and an empty file
 box : Bytes
@@ -38,7 +38,7 @@ sounds =
     ∷ sound one 6 (1 ∷ [])
     ∷ sound two 5 (2 ∷ 1 ∷ [])
     ∷ sound box 6 (1 ∷ [])
-    ∷ sound desk 3 (4 ∷ 3 ∷ 2 ∷ 1 ∷ [])
+    ∷ sound desk 3 (2 ∷ 1 ∷ 4 ∷ 3 ∷ [])
     ∷ sound shelf 3 (4 ∷ 3 ∷ 2 ∷ 1 ∷ [])
     ∷ []
 
@@ -65,26 +65,26 @@ facts =
     ∷ unsound (set one 80 0x41) (badEntry 0 0)
     ∷ sound (put 65 (replicate 16 0x41) one) 6 (1 ∷ [])
     ∷ unsound (set box 65 0x7F) (badEntry 0 0)
-    ∷ unsound (set desk 769 0x7F) (badEntry 3 0)
-    ∷ unsound (set desk 801 0x7F) (badEntry 3 1)
+    ∷ unsound (set desk 257 0x7F) (badEntry 1 0)
+    ∷ unsound (set desk 289 0x7F) (badEntry 1 1)
     -- equal names in one directory, told at the later entry; in two directories they are apart
     ∷ unsound (set two 97 0x41) (badEntry 0 1)
-    ∷ unsound (set desk 801 0x37) (badEntry 3 1)
-    ∷ sound (set desk 769 0x41) 3 (4 ∷ 3 ∷ 2 ∷ 1 ∷ [])
+    ∷ unsound (set desk 289 0x37) (badEntry 1 1)
+    ∷ sound (set desk 257 0x41) 3 (2 ∷ 1 ∷ 4 ∷ 3 ∷ [])
     -- a directory's size
     ∷ unsound (set box 82 0x01) (badEntry 0 0)
     ∷ unsound (set box 83 0x00) (badEntry 0 0)
     ∷ unsound (set box 83 0x02) (badEntry 0 0)
-    ∷ unsound (set desk 819 0x00) (badEntry 3 1)
+    ∷ unsound (set desk 307 0x00) (badEntry 1 1)
     -- the last page's link is not 0; it may lead back, to a free page, or out of the image
     ∷ unsound (set one 256 1) (badChain 0 0 1)
     ∷ unsound (set one 256 5) (badChain 0 0 1)
     ∷ unsound (set one 256 8) (badChain 0 0 1)
     ∷ unsound (set two 512 1) (badChain 0 1 1)
-    ∷ unsound (set shelf 768 7) (badChain 0 0 3)
+    ∷ unsound (set shelf 1024 7) (badChain 0 1 3)
     -- an empty file with a start page
     ∷ unsound (set note 81 1) (badChain 0 0 0)
-    ∷ unsound (set desk 785 5) (badChain 3 0 0)
+    ∷ unsound (set desk 273 5) (badChain 1 0 0)
     -- a page out of range: of a file, of a directory, and after the first
     ∷ unsound (put 3 (7 ∷ 0b1 ∷ []) (set one 81 8)) (badChain 0 0 0)
     ∷ unsound (put 3 (7 ∷ 0b1 ∷ []) (set one 81 255)) (badChain 0 0 0)
@@ -104,7 +104,7 @@ facts =
     ∷ unsound (put 82 (0xFD ∷ 0x02 ∷ []) (set (set (set two 96 0) 256 2) 512 1)) (ownedTwice 1)
     -- a directory that holds itself, and one that holds what it stands in
     ∷ unsound (put 256 (stored 0x81 (text "A" ++ replicate 15 0) 1 0x00 0x01 day1) box) (ownedTwice 1)
-    ∷ unsound (put 1024 (stored 0x81 (text "A" ++ replicate 15 0) 3 0x00 0x01 day1) desk) (ownedTwice 3)
+    ∷ unsound (put 512 (stored 0x81 (text "A" ++ replicate 15 0) 1 0x00 0x01 day1) desk) (ownedTwice 1)
     -- a page that is owned and marked free, of a file and of a directory
     ∷ unsound (put 3 (7 ∷ 0b1 ∷ []) one) (markedFree 1)
     ∷ unsound (put 3 (7 ∷ 0b1 ∷ []) box) (markedFree 1)
@@ -140,7 +140,7 @@ kept =
 -- the entries that own each of pages 0 to 7, by position
 pub owning : List Case
 owning =
-    shown desk [] (λ b. map (owners b) (upTo 8)) ([] ∷ (64 ∷ []) ∷ (64 ∷ []) ∷ (96 ∷ []) ∷ (800 ∷ []) ∷ [] ∷ [] ∷ [] ∷ [])
+    shown desk [] (λ b. map (owners b) (upTo 8)) ([] ∷ (96 ∷ []) ∷ (288 ∷ []) ∷ (64 ∷ []) ∷ (64 ∷ []) ∷ [] ∷ [] ∷ [] ∷ [])
     ∷ shown (put 3 (6 ∷ 0b11 ∷ []) (set two 113 1)) [] (λ b. map (owners b) (upTo 3)) ([] ∷ (64 ∷ 96 ∷ []) ∷ [] ∷ [])
     ∷ []
 

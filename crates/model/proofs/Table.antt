@@ -1,5 +1,5 @@
 -- Document 01, "At the bench": the cases marked T, computed on real images by the definitions.
-use mathlib.Core.Path.{_≡_, refl}
+use mathlib.Core.Path.{refl}
 use Prim.Native.Nat.{ℕ, _+_, _-_}
 use Prim.Native.String.{String}
 use mathlib.Core.List.{List, [], _∷_, _++_, map}
@@ -7,9 +7,7 @@ use lib.ListN.{replicate}
 use Rattle.volume.specs.Bytes.{Bytes, part, byteAt}
 use Rattle.volume.specs.Geometry as On
 use Rattle.model.specs.Layout.{version1, pagesFor, pageBit}
-use Rattle.model.specs.Name.{padded}
-use Rattle.model.specs.Call.{Call, format, verdict, find, list, read, makeFile, makeDirectory, write, remove, Kind, isFile, isDirectory, Verdict, Found, Listed, empty, holds, Told, bufferBefore, Refusal, no, noAt, Answer, refused, granted}
-use Rattle.model.specs.Demands.{Result, Results}
+use Rattle.model.specs.Call.{Call, format, verdict, find, list, makeFile, makeDirectory, write, isFile, holds, no, noAt, refused, granted}
 use Rattle.model.specs.Text.{text}
 use Rattle.model.proofs.Run.{computing, Case, _gives_, done, sized, answered, shown, Hold, computed, stated, hold}
 

@@ -1,5 +1,5 @@
 -- The second table: the values that the laws leave free, all under one theorem. Its rows stand in the files before this one.
-use mathlib.Core.List.{List, [], _∷_, _++_}
+use mathlib.Core.List.{List, _++_}
 use Rattle.model.proofs.Run.{Case, Hold, hold-append}
 use Rattle.model.proofs.Answers.{formats, formats-hold, judgedFirst, judgedFirst-hold, paths, paths-hold, told, told-hold, makes, makes-hold, dates, dates-hold, readings, readings-hold}
 use Rattle.model.proofs.Changes.{writes, writes-hold, removes, removes-hold, made, made-hold}

@@ -1,13 +1,14 @@
--- Soundness as a walk that stops at the first fault: depth first, entries in order, carrying the pages owned so far; then the lost pages,
--- then bit 0 and the count. The order and the places are those that request §2 asks for; the base answers 3 for every fault.
+-- Soundness as a walk that stops at the first fault: depth first, entries in order, with a mark for each page, 1 once it has an owner; then the
+-- lost pages, then bit 0 and the count. The order and the places are those that request §2 asks for; the base answers 3 for every fault.
 -- Law `judge-sound`: an image of right length and header is judged clean exactly if it is sound.
 use Prim.Native.Nat.{ℕ, zero, suc, _-_}
 use mathlib.Core.Bool.{Bool, true, false, not, _&&_}
 use mathlib.Core.Option.{Option, none, some}
 use mathlib.Core.List.{List, [], _∷_}
+use lib.ListN.{getD, set, replicate}
 use lib.Dec.{eqb}
 use Rattle.volume.specs.Bytes.{Bytes, if_then_else_}
-use Rattle.volume.specs.Lists.{all, member, countFrom, first}
+use Rattle.volume.specs.Lists.{all, countFrom, first}
 use Rattle.model.specs.Layout.{pageCount, pagesFor, freeCount, pageBit, zeroBits, link}
 use Rattle.model.specs.Name.{legalName}
 use Rattle.model.specs.Entry.{entries, Entry, vacant, aFile, aDirectory, entryAt}
@@ -21,26 +22,26 @@ pub data Fault : Type 0 where
   lostPage : (page : ℕ) → Fault
   badCount : Fault
 
--- the pages owned so far, or the first fault
+-- the owner marks so far, or the first fault
 pub data Judged : Type 0 where
   fault : Fault → Judged
   clean : List ℕ → Judged
 
 unfoldable pub thenJudge : Judged → (List ℕ → Judged) → Judged
 thenJudge (fault f) on = fault f
-thenJudge (clean seen) on = on seen
+thenJudge (clean marks) on = on marks
 
 -- Page p gets an owner: its range, then whether an earlier step owned it, then its bit.
 unfoldable pub judgePage : Bytes → (range : Fault) → (page : ℕ) → List ℕ → Judged
-judgePage b range p seen =
+judgePage b range p marks =
     if inRange (pageCount b) p
-    then (if member p seen then fault (ownedTwice p) else (if eqb (pageBit b p) 1 then clean (p ∷ seen) else fault (markedFree p)))
+    then (if eqb (getD marks p 0) 0 then (if eqb (pageBit b p) 1 then clean (set marks p 1) else fault (markedFree p)) else fault (ownedTwice p))
     else fault range
 
 -- k pages from p on, of entry i of the directory on page d, of which some have passed; then the link is 0
 unfoldable pub judgeChain : Bytes → (d i k passed p : ℕ) → List ℕ → Judged
-judgeChain b d i zero passed p seen = if eqb p 0 then clean seen else fault (badChain d i passed)
-judgeChain b d i (suc k) passed p seen = thenJudge (judgePage b (badChain d i passed) p seen) (judgeChain b d i k (suc passed) (link b p))
+judgeChain b d i zero passed p marks = if eqb p 0 then clean marks else fault (badChain d i passed)
+judgeChain b d i (suc k) passed p marks = thenJudge (judgePage b (badChain d i passed) p marks) (judgeChain b d i k (suc passed) (link b p))
 
 -- a legal name that none of the earlier entries has
 unfoldable pub freshName : Bytes → (earlier : List ℕ) → Bytes → Bool
@@ -48,22 +49,22 @@ freshName b earlier name = legalName name && all (λ at. not (isNamed name (entr
 
 -- entry i of the directory on page d, after the earlier ones; `below` judges the directory on a page
 unfoldable pub judgeEntry : (ℕ → List ℕ → Judged) → Bytes → (d i : ℕ) (earlier : List ℕ) → Entry → List ℕ → Judged
-judgeEntry below b d i earlier vacant seen = clean seen
-judgeEntry below b d i earlier (aFile name date start size) seen =
-    let walked = judgeChain b d i (pagesFor size) 0 start seen in
+judgeEntry below b d i earlier vacant marks = clean marks
+judgeEntry below b d i earlier (aFile name date start size) marks =
+    let walked = judgeChain b d i (pagesFor size) 0 start marks in
     if freshName b earlier name then walked else fault (badEntry d i)
-judgeEntry below b d i earlier (aDirectory name date start size) seen =
-    let walked = thenJudge (judgePage b (badChain d i 0) start seen) (below start) in
+judgeEntry below b d i earlier (aDirectory name date start size) marks =
+    let walked = thenJudge (judgePage b (badChain d i 0) start marks) (below start) in
     if freshName b earlier name && eqb size 0x0100 then walked else fault (badEntry d i)
 
 unfoldable pub judgeEntries : (ℕ → List ℕ → Judged) → Bytes → (d i : ℕ) (earlier ats : List ℕ) → List ℕ → Judged
-judgeEntries below b d i earlier [] seen = clean seen
-judgeEntries below b d i earlier (at ∷ ats) seen =
-    thenJudge (judgeEntry below b d i earlier (entryAt b at) seen) (judgeEntries below b d (suc i) (at ∷ earlier) ats)
+judgeEntries below b d i earlier [] marks = clean marks
+judgeEntries below b d i earlier (at ∷ ats) marks =
+    thenJudge (judgeEntry below b d i earlier (entryAt b at) marks) (judgeEntries below b d (suc i) (at ∷ earlier) ats)
 
 unfoldable pub judgeDirectory : (depth : ℕ) → Bytes → (page : ℕ) → List ℕ → Judged
-judgeDirectory zero b p seen = fault badCount
-judgeDirectory (suc depth) b p seen = judgeEntries (judgeDirectory depth b) b p 0 [] (entries p) seen
+judgeDirectory zero b p marks = fault badCount
+judgeDirectory (suc depth) b p marks = judgeEntries (judgeDirectory depth b) b p 0 [] (entries p) marks
 
 -- after a clean walk: the lowest marked page that nobody owns, then bit 0 and the count
 unfoldable pub lostOr : Judged → Option ℕ → Judged
@@ -71,14 +72,14 @@ lostOr rest none = rest
 lostOr rest (some p) = fault (lostPage p)
 
 unfoldable pub judgeRest : Bytes → List ℕ → Judged
-judgeRest b seen =
+judgeRest b marks =
     let counted = eqb (pageBit b 0) 1 && eqb (freeCount b) (zeroBits b (pageCount b)) in
-    lostOr (if counted then clean seen else fault badCount)
-      (first (λ p. eqb (pageBit b p) 1 && not (member p seen)) (countFrom 1 (pageCount b - 1)))
+    lostOr (if counted then clean marks else fault badCount)
+      (first (λ p. eqb (getD marks p 0) 0 && eqb (pageBit b p) 1) (countFrom 1 (pageCount b - 1)))
 
 unfoldable pub judge : Bytes → Judged
-judge b = thenJudge (judgeDirectory (pageCount b) b 0 []) (judgeRest b)
+judge b = thenJudge (judgeDirectory (pageCount b) b 0 (replicate (pageCount b) 0)) (judgeRest b)
 
 unfoldable pub isClean : Judged → Bool
 isClean (fault f) = false
-isClean (clean seen) = true
+isClean (clean marks) = true
