@@ -28,7 +28,7 @@ use Rattle.model.specs.Path.{Name, Path, below, pathOf}
 use Rattle.model.specs.Image.{rowAt, treeOf}
 use Rattle.model.specs.Walk.{Walked, arrivedOr, parentPage, entryPosition}
 use Rattle.model.specs.Effect.{formatted, lowestVacant, made, rewritten, written, removed}
-use Rattle.model.specs.Call.{Call, format, verdict, find, list, read, makeFile, makeDirectory, write, remove, no}
+use Rattle.model.specs.Call.{Call, format, verdict, find, list, read, makeFile, makeDirectory, write, remove, refusal}
 use Rattle.model.specs.Refusal.{isDirectoryNode, contentIn, node, wanted, earlier, later, refusals, size, Passes}
 use Rattle.model.specs.Meaning.{isFormat, lines, effect, after}
 use Rattle.laws.proofs.Facts.{Facts, sound-facts, valid-sized}
@@ -244,11 +244,11 @@ small-effect (read path at room) b s h e = s
 small-effect (makeFile path date) b s h e =
     let g = sound-passed (makeFile path date) b tt e in
     let f = sound-facts b (g .0) in
-    small-made b f path date 0x80 0 (pagesFor 0) (make-passed b f path date (pagesFor 0) (no 10) (g .1)) (omega arith) (omega arith) s
+    small-made b f path date 0x80 0 (pagesFor 0) (make-passed b f path date (pagesFor 0) (refusal 10) (g .1)) (omega arith) (omega arith) s
 small-effect (makeDirectory path date) b s h e =
     let g = sound-passed (makeDirectory path date) b tt e in
     let f = sound-facts b (g .0) in
-    small-made b f path date 0x81 0x0100 1 (make-passed b f path date 1 (no 10) (g .1)) (omega arith) (omega arith) s
+    small-made b f path date 0x81 0x0100 1 (make-passed b f path date 1 (refusal 10) (g .1)) (omega arith) (omega arith) s
 small-effect (write path from v) b s h e =
     let g = sound-passed (write path from v) b tt e in
     let f = sound-facts b (g .0) in

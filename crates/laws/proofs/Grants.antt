@@ -9,7 +9,7 @@ use Rattle.model.specs.Tree.{Row, file, dir, emptyRow, fill, rewrite, vacate}
 use Rattle.model.specs.Path.{Path, lastName}
 use Rattle.model.specs.Image.{treeOf}
 use Rattle.model.specs.Effect.{fileMade, directoryMade, written, removed}
-use Rattle.model.specs.Call.{Call, format, verdict, find, list, read, makeFile, makeDirectory, write, remove, no}
+use Rattle.model.specs.Call.{Call, format, verdict, find, list, read, makeFile, makeDirectory, write, remove, refusal}
 use Rattle.model.specs.Refusal.{node, contentIn, wanted, earlier, later, refusals, Passes}
 use Rattle.model.specs.Meaning.{inParent, changed, effect}
 use Rattle.laws.proofs.Facts.{sound-facts}
@@ -31,10 +31,10 @@ granted-law (find path) b h e = (h, refl)
 granted-law (list path i) b h e = (h, refl)
 granted-law (read path at room) b h e = (h, refl)
 granted-law (makeFile path date) b h e =
-    let m = make-passed b (sound-facts b h) path date (pagesFor 0) (no 10) e in
+    let m = make-passed b (sound-facts b h) path date (pagesFor 0) (refusal 10) e in
     subst (λ (p : Path). Says b p (fill (file (lastName p) date [])) (fileMade p date b)) (sym (m .is)) (file-tree b (sound-facts b h) (m .ns) (m .n) date (m .clear))
 granted-law (makeDirectory path date) b h e =
-    let m = make-passed b (sound-facts b h) path date 1 (no 10) e in
+    let m = make-passed b (sound-facts b h) path date 1 (refusal 10) e in
     subst (λ (p : Path). Says b p (fill (dir (lastName p) date (emptyRow 8))) (directoryMade p date b)) (sym (m .is)) (directory-tree b (sound-facts b h) (m .ns) (m .n) date (m .clear))
 granted-law (write path from v) b h e =
     let w = write-passed b (sound-facts b h) path from v e in

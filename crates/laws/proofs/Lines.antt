@@ -9,7 +9,7 @@ use lib.Dec.{T, eqb, leb}
 use Rattle.volume.specs.Bytes.{if_then_else_}
 use Rattle.volume.specs.Lists.{all, member}
 use Rattle.volume.proofs.Tests.{and-both}
-use Rattle.model.specs.Call.{Refusal, no, Answer, refused, granted}
+use Rattle.model.specs.Call.{Refusal, refusal, Answer, refused, granted}
 use Rattle.model.specs.Refusal.{Line, settle, Passes, tableOrder}
 
 -- ---- passing
@@ -103,21 +103,21 @@ refused-numbered {A} (l ∷ ls) x r h e =
 abbrev pub NoTen : List Line → Type 0
 NoTen ls = T (all (λ (l : Line). not (eqb (l .1 .number) 10)) ls)
 
-not-ten : {A : Type 0} (ls : List Line) (x : A) → NoTen ls → settle ls refused (granted x) ≡ refused (no 10) → ⊥
+not-ten : {A : Type 0} (ls : List Line) (x : A) → NoTen ls → settle ls refused (granted x) ≡ refused (refusal 10) → ⊥
 unfolding settle all
 not-ten [] x h e = not-granted e
 not-ten {A} (l ∷ ls) x h e =
     let two = and-both (not (eqb (l .1 .number) 10)) (all (λ (m : Line). not (eqb (m .1 .number) 10)) ls) h in
     go (l .0) (l .1) (two .0) e (not-ten ls x (two .1))
   where
-    go : (c : Bool) (s : Refusal) → T (not (eqb (s .number) 10)) → (if c then refused s else settle ls refused (granted x)) ≡ refused (no 10)
-        → (settle ls refused (granted x) ≡ refused (no 10) → ⊥) → ⊥
-    go true s t u next = let e : s ≡ no 10 = cc u in subst (λ (y : Refusal). T (not (eqb (y .number) 10))) e t
+    go : (c : Bool) (s : Refusal) → T (not (eqb (s .number) 10)) → (if c then refused s else settle ls refused (granted x)) ≡ refused (refusal 10)
+        → (settle ls refused (granted x) ≡ refused (refusal 10) → ⊥) → ⊥
+    go true s t u next = let e : s ≡ refusal 10 = cc u in subst (λ (y : Refusal). T (not (eqb (y .number) 10))) e t
     go false s t u next = next u
 
 -- the line of number 10 is given exactly if those above it pass and its condition holds
 pub ten-given : {A : Type 0} (ls : List Line) (c : Bool) (rest : List Line) (x : A) → NoTen ls → NoTen rest
-    → (settle (ls ++ ((c, no 10) ∷ rest)) refused (granted x) ≡ refused (no 10)) ↔ (Passes ls × T c)
+    → (settle (ls ++ ((c, refusal 10) ∷ rest)) refused (granted x) ≡ refused (refusal 10)) ↔ (Passes ls × T c)
 unfolding settle all
 ten-given [] true rest x h k = (λ e. (refl, tt), λ p. refl)
 ten-given [] false rest x h k = (λ e. absurd (not-ten rest x k e), λ p. absurd (p .1))
@@ -126,10 +126,10 @@ ten-given {A} (l ∷ ls) c rest x h k =
     go (l .0) (l .1) (two .0) (ten-given ls c rest x (two .1) k)
   where
     go : (d : Bool) (s : Refusal) → T (not (eqb (s .number) 10))
-        → (settle (ls ++ ((c, no 10) ∷ rest)) refused (granted x) ≡ refused (no 10)) ↔ (Passes ls × T c)
-        → ((if d then refused s else settle (ls ++ ((c, no 10) ∷ rest)) refused (granted x)) ≡ refused (no 10)) ↔ (((if d then some s else settle ls some none) ≡ none) × T c)
+        → (settle (ls ++ ((c, refusal 10) ∷ rest)) refused (granted x) ≡ refused (refusal 10)) ↔ (Passes ls × T c)
+        → ((if d then refused s else settle (ls ++ ((c, refusal 10) ∷ rest)) refused (granted x)) ≡ refused (refusal 10)) ↔ (((if d then some s else settle ls some none) ≡ none) × T c)
     go true s t next =
-        (λ u. absurd (let e : s ≡ no 10 = cc u in subst (λ (y : Refusal). T (not (eqb (y .number) 10))) e t), λ p. absurd (Option·some-ne-none s (p .0)))
+        (λ u. absurd (let e : s ≡ refusal 10 = cc u in subst (λ (y : Refusal). T (not (eqb (y .number) 10))) e t), λ p. absurd (Option·some-ne-none s (p .0)))
     go false s t next = next
 
 -- ---- the order of the table

@@ -9,7 +9,7 @@ use Rattle.volume.specs.Bytes.{Bytes}
 use Rattle.model.specs.Layout.{validLength}
 use Rattle.model.specs.Image.{treeOf}
 use Rattle.model.specs.Text.{text}
-use Rattle.model.specs.Call.{verdict, Verdict, no as refusal, Answer, refused}
+use Rattle.model.specs.Call.{verdict, Verdict, refusal, Answer, refused}
 use Rattle.model.specs.Meaning.{lines, answer}
 use Rattle.model.specs.Listing.{digits, listingOf, listing}
 use Rattle.laws.proofs.Facts.{Sized, valid-sized}

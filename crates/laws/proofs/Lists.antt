@@ -18,7 +18,7 @@ use Rattle.model.specs.Layout.{version1, pageCount, validLength, validHeader, f
 use Rattle.model.specs.Sound.{pagesAt, reachedEntries, ownedPages, sound, owners}
 use Rattle.model.specs.Tree.{Tree, needs, freeNumber}
 use Rattle.model.specs.Image.{treeOf}
-use Rattle.model.specs.Call.{Call, format, verdict, find, list, read, makeFile, makeDirectory, write, remove, Verdict, Refusal, no, Answer, refused, granted}
+use Rattle.model.specs.Call.{Call, format, verdict, find, list, read, makeFile, makeDirectory, write, remove, Verdict, Refusal, refusal, Answer, refused, granted}
 use Rattle.model.specs.Refusal.{Line, earlier, later, wanted, refusals, settle, Passes}
 use Rattle.model.specs.Meaning.{told, inParent, freshTree, changed, treeAnswer, treeBuffer, treeAfter, isFormat, brokenLine, lines, effect, answer, after, bufferAfter}
 use Rattle.model.specs.Demands.{Result, Results, Promised, Runs, replay, replayResults, WantOfPages, Owned, isFree, isOwned, Account, Demanded, AsTree}

@@ -16,7 +16,7 @@ use Rattle.model.specs.Sound.{sound}
 use Rattle.model.specs.Tree.{Tree, freeNumber}
 use Rattle.model.specs.Path.{pathOf}
 use Rattle.model.specs.Image.{treeOf}
-use Rattle.model.specs.Call.{Call, format, verdict, find, list, read, makeFile, makeDirectory, write, remove, Told, bufferBefore, Refusal, no, Answer, refused, granted}
+use Rattle.model.specs.Call.{Call, format, verdict, find, list, read, makeFile, makeDirectory, write, remove, Told, bufferBefore, Refusal, refusal, Answer, refused, granted}
 use Rattle.model.specs.Refusal.{Line, wanted, makeLines, earlier, later, refusals, settle, Passes, tableOrder}
 use Rattle.model.specs.Meaning.{freshTree, told, filled, changed, treeAnswer, treeBuffer, treeAfter, isFormat, isBroken, brokenLine, lines, effect, answer, after, bufferAfter}
 use Rattle.model.specs.Demands.{Untouched, Unsound, AsTree}
@@ -39,20 +39,20 @@ module _ {A : Type 0} (b : Bytes) (h : T (sound b)) (f : Refusal → A) (x : A) 
   broken-skip verdict = refl
   broken-skip (find path) = refl
   broken-skip (list path i) = refl
-  broken-skip (read path at room) = settle-skip f (isBroken b (pathOf path)) (no 15) [] x (never-broken b h (pathOf path))
+  broken-skip (read path at room) = settle-skip f (isBroken b (pathOf path)) (refusal 15) [] x (never-broken b h (pathOf path))
   broken-skip (makeFile path date) = refl
   broken-skip (makeDirectory path date) = refl
-  broken-skip (write path at v) = settle-skip f (isBroken b (pathOf path)) (no 15) [] x (never-broken b h (pathOf path))
-  broken-skip (remove path) = settle-skip f (isBroken b (pathOf path)) (no 15) [] x (never-broken b h (pathOf path))
+  broken-skip (write path at v) = settle-skip f (isBroken b (pathOf path)) (refusal 15) [] x (never-broken b h (pathOf path))
+  broken-skip (remove path) = settle-skip f (isBroken b (pathOf path)) (refusal 15) [] x (never-broken b h (pathOf path))
 
   -- the lines after that of the length
   abbrev rest : Call → List Line
-  rest c = if isFormat c then [] else ((not (validHeader b), no 2) ∷ (not (sound b), no 3) ∷ (refusals c (treeOf b) ++ brokenLine c b))
+  rest c = if isFormat c then [] else ((not (validHeader b), refusal 2) ∷ (not (sound b), refusal 3) ∷ (refusals c (treeOf b) ++ brokenLine c b))
 
-  judged : (c : Call) → settle ((not (validHeader b), no 2) ∷ (not (sound b), no 3) ∷ (refusals c (treeOf b) ++ brokenLine c b)) f x ≡ settle (refusals c (treeOf b)) f x
+  judged : (c : Call) → settle ((not (validHeader b), refusal 2) ∷ (not (sound b), refusal 3) ∷ (refusals c (treeOf b) ++ brokenLine c b)) f x ≡ settle (refusals c (treeOf b)) f x
   judged c =
-      settle-skip f (not (validHeader b)) (no 2) ((not (sound b), no 3) ∷ (refusals c (treeOf b) ++ brokenLine c b)) x (not-not (validHeader b) (sound-facts b h .headed))
-      ∙ settle-skip f (not (sound b)) (no 3) (refusals c (treeOf b) ++ brokenLine c b) x (not-not (sound b) h)
+      settle-skip f (not (validHeader b)) (refusal 2) ((not (sound b), refusal 3) ∷ (refusals c (treeOf b) ++ brokenLine c b)) x (not-not (validHeader b) (sound-facts b h .headed))
+      ∙ settle-skip f (not (sound b)) (refusal 3) (refusals c (treeOf b) ++ brokenLine c b) x (not-not (sound b) h)
       ∙ settle-append f (refusals c (treeOf b)) (brokenLine c b) x
       ∙ ap (settle (refusals c (treeOf b)) f) (broken-skip c)
 
@@ -70,7 +70,7 @@ module _ {A : Type 0} (b : Bytes) (h : T (sound b)) (f : Refusal → A) (x : A) 
 
   pub settled : (c : Call) → settle (lines c b) f x ≡ settle (refusals c (treeOf b)) f x
   unfolding lines
-  settled c = settle-skip f (not (validLength (length b))) (no 1) (rest c) x (not-not (validLength (length b)) (sound-facts b h .fits)) ∙ by-call c
+  settled c = settle-skip f (not (validLength (length b))) (refusal 1) (rest c) x (not-not (validLength (length b)) (sound-facts b h .fits)) ∙ by-call c
 
 -- ---- a call on a sound image
 
@@ -132,7 +132,7 @@ unsound c b n u = go (isFormat c) (validLength (length b)) (validHeader b) (soun
     tail : List Line
     tail = refusals c (treeOf b) ++ brokenLine c b
     lines-of : Bool → Bool → Bool → Bool → List Line
-    lines-of m l d s = (not l, no 1) ∷ (if m then [] else ((not d, no 2) ∷ (not s, no 3) ∷ (refusals c (treeOf b) ++ brokenLine c b)))
+    lines-of m l d s = (not l, refusal 1) ∷ (if m then [] else ((not d, refusal 2) ∷ (not s, refusal 3) ∷ (refusals c (treeOf b) ++ brokenLine c b)))
     go : (m l d s : Bool) → T (not m) → T (not s) → answer c b ≡ settle (lines-of m l d s) refused (granted (told c (treeOf b))) → Unsound c b
     go true l d s p q e = absurd p
     go false false d s p q e = record { number = 1; low = omega arith; high = omega arith; told = e }
@@ -166,7 +166,7 @@ no-ten-later (makeDirectory path date) t = tt
 no-ten-later (write path at v) t = tt
 no-ten-later (remove path) t = tt
 
-pub want-of-pages : (c : Call) (t : Tree) → (treeAnswer c t ≡ refused (no 10)) ↔ (Passes (earlier c t) × (freeNumber t < wanted c t))
+pub want-of-pages : (c : Call) (t : Tree) → (treeAnswer c t ≡ refused (refusal 10)) ↔ (Passes (earlier c t) × (freeNumber t < wanted c t))
 unfolding treeAnswer refusals
 want-of-pages c t =
     let e = ten-given (earlier c t) (ltb (freeNumber t) (wanted c t)) (later c t) (told c t) (no-ten-earlier c t) (no-ten-later c t) in
@@ -179,7 +179,7 @@ pub after-format : (b : Bytes) → T (validLength (length b)) → T (sound (afte
 unfolding after lines isFormat settle effect
 after-format b v =
     subst (λ (b′ : Bytes). T (sound b′) × (treeOf b′ ≡ freshTree (pageCount b)))
-      (sym (settle-skip (λ f. b) (not (validLength (length b))) (no 1) [] (effect format b) (not-not (validLength (length b)) v))) (fresh b v)
+      (sym (settle-skip (λ f. b) (not (validLength (length b))) (refusal 1) [] (effect format b) (not-not (validLength (length b)) v))) (fresh b v)
 
 pub names-apart : (n m : Bytes) → n ≢ m → same n m ≡ false
 names-apart n m h = go (same n m) (same-true n m)

@@ -8,7 +8,7 @@ use Rattle.model.specs.Call.{format, verdict, find, list, read, makeFile
 use Rattle.model.specs.Text.{text}
 use Rattle.model.proofs.Run.{computing, Step, Case, _gives_, reads, done, sized, answered, shown, Hold, computed, stated, hold}
 use Rattle.model.proofs.Table.{blank}
-use Rattle.model.proofs.Desk.{day1, day2, day3, content, nay, nayAt, found, entry, whole, header, fresh, desk, full, shelf}
+use Rattle.model.proofs.Desk.{day1, day2, day3, content, refusal, refusalAt, found, entry, whole, header, fresh, desk, full, shelf}
 
 -- ---- lengths, and what every call judges first
 
@@ -20,14 +20,14 @@ formats =
         whole (0x5A ∷ 1 ∷ 2 ∷ 15 ∷ 1 ∷ replicate 251 0 ++ replicate 3840 0xE5)
     ∷ shown (replicate 65536 0xE5) (format gives done ∷ verdict gives sized 256 255 ∷ []) (part 0 6) (0x5A ∷ 1 ∷ 32 ∷ 255 ∷ 1 ∷ 0 ∷ [])
     -- a used image is emptied; its pages' bytes stay
-    ∷ shown desk (format gives done ∷ verdict gives sized 8 7 ∷ find (text "/0042") gives nayAt 5 1 ∷ [])
+    ∷ shown desk (format gives done ∷ verdict gives sized 8 7 ∷ find (text "/0042") gives refusalAt 5 1 ∷ [])
         whole (header 7 1 ++ replicate 192 0 ++ drop 256 desk)
     -- lengths that are not allowed
-    ∷ shown [] (format gives nay 1 ∷ verdict gives nay 1 ∷ []) whole []
-    ∷ shown (replicate 2047 0xE5) (format gives nay 1 ∷ verdict gives nay 1 ∷ []) whole (replicate 2047 0xE5)
-    ∷ shown (replicate 2049 0xE5) (format gives nay 1 ∷ verdict gives nay 1 ∷ []) whole (replicate 2049 0xE5)
-    ∷ answered (replicate 2304 0xE5) (format gives nay 1 ∷ verdict gives nay 1 ∷ [])
-    ∷ answered (replicate 67584 0xE5) (format gives nay 1 ∷ verdict gives nay 1 ∷ [])
+    ∷ shown [] (format gives refusal 1 ∷ verdict gives refusal 1 ∷ []) whole []
+    ∷ shown (replicate 2047 0xE5) (format gives refusal 1 ∷ verdict gives refusal 1 ∷ []) whole (replicate 2047 0xE5)
+    ∷ shown (replicate 2049 0xE5) (format gives refusal 1 ∷ verdict gives refusal 1 ∷ []) whole (replicate 2049 0xE5)
+    ∷ answered (replicate 2304 0xE5) (format gives refusal 1 ∷ verdict gives refusal 1 ∷ [])
+    ∷ answered (replicate 67584 0xE5) (format gives refusal 1 ∷ verdict gives refusal 1 ∷ [])
     ∷ []
 
 pub formats-hold : Hold formats
@@ -37,14 +37,14 @@ formats-hold = hold formats refl
 -- every call but format gives n, though its path, position and date are bad
 everyCall : ℕ → List Step
 everyCall n =
-    verdict gives nay n
-    ∷ find (text "x") gives nay n
-    ∷ list (text "x") 9 gives nay n
-    ∷ read (text "x") 9 (1 ∷ 2 ∷ []) gives nay n
-    ∷ makeFile (text "x") [] gives nay n
-    ∷ makeDirectory (text "x") [] gives nay n
-    ∷ write (text "x") 9 (1 ∷ []) gives nay n
-    ∷ remove (text "x") gives nay n
+    verdict gives refusal n
+    ∷ find (text "x") gives refusal n
+    ∷ list (text "x") 9 gives refusal n
+    ∷ read (text "x") 9 (1 ∷ 2 ∷ []) gives refusal n
+    ∷ makeFile (text "x") [] gives refusal n
+    ∷ makeDirectory (text "x") [] gives refusal n
+    ∷ write (text "x") 9 (1 ∷ []) gives refusal n
+    ∷ remove (text "x") gives refusal n
     ∷ []
 
 pub judgedFirst : List Case
@@ -75,40 +75,40 @@ pub paths : List Case
 paths =
     answered desk (
       -- bytes that are no path
-      find [] gives nay 4
-      ∷ find (text "x") gives nay 4
-      ∷ find (text "A/7") gives nay 4
-      ∷ find (text "//") gives nay 4
-      ∷ find (text "//A") gives nay 4
-      ∷ find (text "/A/") gives nay 4
-      ∷ find (text "/A//7") gives nay 4
-      ∷ find (text "/0123456789ABCDEFG") gives nay 4
-      ∷ find (text "/A/0123456789ABCDEFG") gives nay 4
+      find [] gives refusal 4
+      ∷ find (text "x") gives refusal 4
+      ∷ find (text "A/7") gives refusal 4
+      ∷ find (text "//") gives refusal 4
+      ∷ find (text "//A") gives refusal 4
+      ∷ find (text "/A/") gives refusal 4
+      ∷ find (text "/A//7") gives refusal 4
+      ∷ find (text "/0123456789ABCDEFG") gives refusal 4
+      ∷ find (text "/A/0123456789ABCDEFG") gives refusal 4
       -- the bytes of a name: 0x20 to 0x7E, and each counts
-      ∷ find (0x2F ∷ 0x1F ∷ []) gives nay 4
-      ∷ find (0x2F ∷ 0x20 ∷ []) gives nayAt 5 1
-      ∷ find (0x2F ∷ 0x2E ∷ []) gives nayAt 5 1
-      ∷ find (0x2F ∷ 0x30 ∷ []) gives nayAt 5 1
-      ∷ find (0x2F ∷ 0x7E ∷ []) gives nayAt 5 1
-      ∷ find (0x2F ∷ 0x7F ∷ []) gives nay 4
-      ∷ find (0x2F ∷ 0x80 ∷ []) gives nay 4
-      ∷ find (0x2F ∷ 0x41 ∷ 0x00 ∷ []) gives nay 4
-      ∷ find (0x2F ∷ 0x41 ∷ 0x1F ∷ 0x41 ∷ []) gives nay 4
+      ∷ find (0x2F ∷ 0x1F ∷ []) gives refusal 4
+      ∷ find (0x2F ∷ 0x20 ∷ []) gives refusalAt 5 1
+      ∷ find (0x2F ∷ 0x2E ∷ []) gives refusalAt 5 1
+      ∷ find (0x2F ∷ 0x30 ∷ []) gives refusalAt 5 1
+      ∷ find (0x2F ∷ 0x7E ∷ []) gives refusalAt 5 1
+      ∷ find (0x2F ∷ 0x7F ∷ []) gives refusal 4
+      ∷ find (0x2F ∷ 0x80 ∷ []) gives refusal 4
+      ∷ find (0x2F ∷ 0x41 ∷ 0x00 ∷ []) gives refusal 4
+      ∷ find (0x2F ∷ 0x41 ∷ 0x1F ∷ 0x41 ∷ []) gives refusal 4
       -- a name that isn't there: the last, or one on the way
-      ∷ find (text "/42") gives nayAt 5 1
-      ∷ find (text "/00042") gives nayAt 5 1
-      ∷ find (text "/004") gives nayAt 5 1
-      ∷ find (text "/a") gives nayAt 5 1
-      ∷ find (text "/A/0042") gives nayAt 5 3
-      ∷ find (text "/A/x/y") gives nayAt 5 3
-      ∷ find (text "/x/7/y") gives nayAt 5 1
-      ∷ find (text "/A/B/7") gives nayAt 5 5
-      ∷ find (text "/0123456789ABCDEF") gives nayAt 5 1
+      ∷ find (text "/42") gives refusalAt 5 1
+      ∷ find (text "/00042") gives refusalAt 5 1
+      ∷ find (text "/004") gives refusalAt 5 1
+      ∷ find (text "/a") gives refusalAt 5 1
+      ∷ find (text "/A/0042") gives refusalAt 5 3
+      ∷ find (text "/A/x/y") gives refusalAt 5 3
+      ∷ find (text "/x/7/y") gives refusalAt 5 1
+      ∷ find (text "/A/B/7") gives refusalAt 5 5
+      ∷ find (text "/0123456789ABCDEF") gives refusalAt 5 1
       -- a file where a directory is needed; the leftmost fault counts
-      ∷ find (text "/0042/x") gives nayAt 6 1
-      ∷ find (text "/0042/x/y") gives nayAt 6 1
-      ∷ find (text "/A/7/x") gives nayAt 6 3
-      ∷ find (text "/A/x/7/y") gives nayAt 5 3
+      ∷ find (text "/0042/x") gives refusalAt 6 1
+      ∷ find (text "/0042/x/y") gives refusalAt 6 1
+      ∷ find (text "/A/7/x") gives refusalAt 6 3
+      ∷ find (text "/A/x/7/y") gives refusalAt 5 3
       ∷ [])
     ∷ []
 
@@ -141,20 +141,20 @@ told =
         ∷ list (text "/") 1 gives entry isDirectory (text "A" ++ replicate 15 0) 256 day2
         ∷ list (text "/") 2 gives granted empty
         ∷ list (text "/") 5 gives granted empty
-        ∷ list (text "/") 6 gives nay 12
+        ∷ list (text "/") 6 gives refusal 12
         -- any other directory has 8
         ∷ list (text "/A") 0 gives entry isFile (text "7" ++ replicate 15 0) 0 day3
         ∷ list (text "/A") 1 gives entry isDirectory (text "B" ++ replicate 15 0) 256 day1
         ∷ list (text "/A") 7 gives granted empty
-        ∷ list (text "/A") 8 gives nay 12
+        ∷ list (text "/A") 8 gives refusal 12
         ∷ list (text "/A/B") 0 gives granted empty
         -- what list refuses before it looks at the number
-        ∷ list (text "A") 9 gives nay 4
-        ∷ list (text "/x") 9 gives nayAt 5 1
-        ∷ list (text "/A/x") 9 gives nayAt 5 3
-        ∷ list (text "/0042") 0 gives nayAt 6 1
-        ∷ list (text "/A/7") 9 gives nayAt 6 3
-        ∷ list (text "/0042/x") 9 gives nayAt 6 1
+        ∷ list (text "A") 9 gives refusal 4
+        ∷ list (text "/x") 9 gives refusalAt 5 1
+        ∷ list (text "/A/x") 9 gives refusalAt 5 3
+        ∷ list (text "/0042") 0 gives refusalAt 6 1
+        ∷ list (text "/A/7") 9 gives refusalAt 6 3
+        ∷ list (text "/0042/x") 9 gives refusalAt 6 1
         ∷ [])
         whole desk
     ∷ []
@@ -169,29 +169,29 @@ pub makes : List Case
 makes =
     -- refused; of two lines that hold the higher one is given; nothing changes
     shown desk (
-      makeFile (text "A") [] gives nay 4
-      ∷ makeDirectory (text "A") [] gives nay 4
-      ∷ makeFile (text "/x/y") [] gives nay 11
-      ∷ makeDirectory (text "/x/y") [] gives nay 11
-      ∷ makeFile (text "/0042/y") [] gives nay 11
-      ∷ makeDirectory (text "/0042/y") [] gives nay 11
-      ∷ makeFile (text "/") [] gives nay 11
-      ∷ makeDirectory (text "/") [] gives nay 11
-      ∷ makeFile (text "/A") [] gives nay 11
-      ∷ makeDirectory (text "/A") [] gives nay 11
-      ∷ makeFile (text "/x/y") day1 gives nayAt 5 1
-      ∷ makeDirectory (text "/A/x/y") day1 gives nayAt 5 3
-      ∷ makeFile (text "/A/x/y/z") day1 gives nayAt 5 3
-      ∷ makeFile (text "/A/7/y") day1 gives nayAt 6 3
-      ∷ makeDirectory (text "/0042/y") day1 gives nayAt 6 1
-      ∷ makeFile (text "/0042/0042") day1 gives nayAt 6 1
-      ∷ makeFile (text "/") day1 gives nay 8
-      ∷ makeDirectory (text "/") day1 gives nay 8
-      ∷ makeFile (text "/0042") day1 gives nay 8
-      ∷ makeDirectory (text "/0042") day1 gives nay 8
-      ∷ makeFile (text "/A") day1 gives nay 8
-      ∷ makeDirectory (text "/A/B") day1 gives nay 8
-      ∷ makeFile (text "/A/7") day1 gives nay 8
+      makeFile (text "A") [] gives refusal 4
+      ∷ makeDirectory (text "A") [] gives refusal 4
+      ∷ makeFile (text "/x/y") [] gives refusal 11
+      ∷ makeDirectory (text "/x/y") [] gives refusal 11
+      ∷ makeFile (text "/0042/y") [] gives refusal 11
+      ∷ makeDirectory (text "/0042/y") [] gives refusal 11
+      ∷ makeFile (text "/") [] gives refusal 11
+      ∷ makeDirectory (text "/") [] gives refusal 11
+      ∷ makeFile (text "/A") [] gives refusal 11
+      ∷ makeDirectory (text "/A") [] gives refusal 11
+      ∷ makeFile (text "/x/y") day1 gives refusalAt 5 1
+      ∷ makeDirectory (text "/A/x/y") day1 gives refusalAt 5 3
+      ∷ makeFile (text "/A/x/y/z") day1 gives refusalAt 5 3
+      ∷ makeFile (text "/A/7/y") day1 gives refusalAt 6 3
+      ∷ makeDirectory (text "/0042/y") day1 gives refusalAt 6 1
+      ∷ makeFile (text "/0042/0042") day1 gives refusalAt 6 1
+      ∷ makeFile (text "/") day1 gives refusal 8
+      ∷ makeDirectory (text "/") day1 gives refusal 8
+      ∷ makeFile (text "/0042") day1 gives refusal 8
+      ∷ makeDirectory (text "/0042") day1 gives refusal 8
+      ∷ makeFile (text "/A") day1 gives refusal 8
+      ∷ makeDirectory (text "/A/B") day1 gives refusal 8
+      ∷ makeFile (text "/A/7") day1 gives refusal 8
       ∷ [])
       whole desk
     -- no entry of the root is left, and no page: 8 before 9, and 9 before 10
@@ -200,24 +200,24 @@ makes =
         ∷ makeFile (text "/D") day2 gives done
         ∷ makeFile (text "/E") day3 gives done
         ∷ makeDirectory (text "/F") day1 gives done
-        ∷ makeFile (text "/G") day1 gives nay 9
-        ∷ makeDirectory (text "/G") day1 gives nay 9
+        ∷ makeFile (text "/G") day1 gives refusal 9
+        ∷ makeDirectory (text "/G") day1 gives refusal 9
         ∷ write (text "/C") 0 (replicate 510 1) gives done
         ∷ [])
         whole full
     ∷ shown full (
         verdict gives sized 8 0
-        ∷ makeFile (text "/G") [] gives nay 11
-        ∷ makeDirectory (text "/A/C") [] gives nay 11
-        ∷ makeDirectory (text "/G/x") day1 gives nayAt 5 1
-        ∷ makeDirectory (text "/C/x") day1 gives nayAt 6 1
-        ∷ makeFile (text "/D") day1 gives nay 8
-        ∷ makeDirectory (text "/D") day1 gives nay 8
-        ∷ makeFile (text "/G") day1 gives nay 9
-        ∷ makeDirectory (text "/G") day1 gives nay 9
-        ∷ makeDirectory (text "/A/B") day1 gives nay 8
-        ∷ makeDirectory (text "/A/C") day1 gives nay 10
-        ∷ write (text "/D") 0 (1 ∷ []) gives nay 10
+        ∷ makeFile (text "/G") [] gives refusal 11
+        ∷ makeDirectory (text "/A/C") [] gives refusal 11
+        ∷ makeDirectory (text "/G/x") day1 gives refusalAt 5 1
+        ∷ makeDirectory (text "/C/x") day1 gives refusalAt 6 1
+        ∷ makeFile (text "/D") day1 gives refusal 8
+        ∷ makeDirectory (text "/D") day1 gives refusal 8
+        ∷ makeFile (text "/G") day1 gives refusal 9
+        ∷ makeDirectory (text "/G") day1 gives refusal 9
+        ∷ makeDirectory (text "/A/B") day1 gives refusal 8
+        ∷ makeDirectory (text "/A/C") day1 gives refusal 10
+        ∷ write (text "/D") 0 (1 ∷ []) gives refusal 10
         ∷ [])
         whole full
     -- an empty file wants no page; /A has 8 entries
@@ -228,7 +228,7 @@ makes =
         ∷ makeFile (text "/A/F") day1 gives done
         ∷ makeFile (text "/A/G") day1 gives done
         ∷ makeFile (text "/A/H") day2 gives done
-        ∷ makeFile (text "/A/I") day1 gives nay 9
+        ∷ makeFile (text "/A/I") day1 gives refusal 9
         ∷ list (text "/A") 7 gives entry isFile (text "H" ++ replicate 15 0) 0 day2
         ∷ [])
     -- the lowest empty entry is filled, the one that a removal left
@@ -252,7 +252,7 @@ makes =
         ∷ makeDirectory (text "/.") day2 gives done
         ∷ makeFile (text "/./..") day3 gives done
         ∷ find (text "/./..") gives found isFile 0 day3
-        ∷ find (text "/..") gives nayAt 5 1
+        ∷ find (text "/..") gives refusalAt 5 1
         ∷ makeFile (text "/a") day3 gives done
         ∷ find (text "/A") gives found isDirectory 256 day2
         ∷ find (text "/a") gives found isFile 0 day3
@@ -279,10 +279,10 @@ makes =
         ∷ find (text "/A") gives found isFile 1 day2
         ∷ find (text "/ABC") gives found isFile 0 day3
         ∷ remove (text "/A") gives done
-        ∷ find (text "/A") gives nayAt 5 1
+        ∷ find (text "/A") gives refusalAt 5 1
         ∷ makeDirectory (text "/ABCD") day1 gives done
-        ∷ makeDirectory (text "/A/x") day1 gives nayAt 5 1
-        ∷ makeDirectory (text "/ABC/x") day1 gives nayAt 6 1
+        ∷ makeDirectory (text "/A/x") day1 gives refusalAt 5 1
+        ∷ makeDirectory (text "/ABC/x") day1 gives refusalAt 6 1
         ∷ makeDirectory (text "/ABCD/x") day1 gives done
         ∷ [])
     ∷ []
@@ -305,26 +305,26 @@ dates =
       ∷ [])
     -- one past each end
     ∷ shown fresh (
-        makeFile (text "/A") (0x20 ∷ 0x26 ∷ 0x00 ∷ 0x15 ∷ 0x07 ∷ 0x14 ∷ 0x30 ∷ 0x00 ∷ []) gives nay 11
-        ∷ makeFile (text "/A") (0x20 ∷ 0x26 ∷ 0x13 ∷ 0x15 ∷ 0x07 ∷ 0x14 ∷ 0x30 ∷ 0x00 ∷ []) gives nay 11
-        ∷ makeFile (text "/A") (0x20 ∷ 0x26 ∷ 0x11 ∷ 0x00 ∷ 0x07 ∷ 0x14 ∷ 0x30 ∷ 0x00 ∷ []) gives nay 11
-        ∷ makeFile (text "/A") (0x20 ∷ 0x26 ∷ 0x11 ∷ 0x32 ∷ 0x07 ∷ 0x14 ∷ 0x30 ∷ 0x00 ∷ []) gives nay 11
-        ∷ makeFile (text "/A") (0x20 ∷ 0x26 ∷ 0x11 ∷ 0x15 ∷ 0x07 ∷ 0x24 ∷ 0x30 ∷ 0x00 ∷ []) gives nay 11
-        ∷ makeFile (text "/A") (0x20 ∷ 0x26 ∷ 0x11 ∷ 0x15 ∷ 0x07 ∷ 0x14 ∷ 0x60 ∷ 0x00 ∷ []) gives nay 11
-        ∷ makeDirectory (text "/A") (0x20 ∷ 0x26 ∷ 0x11 ∷ 0x15 ∷ 0x07 ∷ 0x14 ∷ 0x30 ∷ 0x60 ∷ []) gives nay 11
+        makeFile (text "/A") (0x20 ∷ 0x26 ∷ 0x00 ∷ 0x15 ∷ 0x07 ∷ 0x14 ∷ 0x30 ∷ 0x00 ∷ []) gives refusal 11
+        ∷ makeFile (text "/A") (0x20 ∷ 0x26 ∷ 0x13 ∷ 0x15 ∷ 0x07 ∷ 0x14 ∷ 0x30 ∷ 0x00 ∷ []) gives refusal 11
+        ∷ makeFile (text "/A") (0x20 ∷ 0x26 ∷ 0x11 ∷ 0x00 ∷ 0x07 ∷ 0x14 ∷ 0x30 ∷ 0x00 ∷ []) gives refusal 11
+        ∷ makeFile (text "/A") (0x20 ∷ 0x26 ∷ 0x11 ∷ 0x32 ∷ 0x07 ∷ 0x14 ∷ 0x30 ∷ 0x00 ∷ []) gives refusal 11
+        ∷ makeFile (text "/A") (0x20 ∷ 0x26 ∷ 0x11 ∷ 0x15 ∷ 0x07 ∷ 0x24 ∷ 0x30 ∷ 0x00 ∷ []) gives refusal 11
+        ∷ makeFile (text "/A") (0x20 ∷ 0x26 ∷ 0x11 ∷ 0x15 ∷ 0x07 ∷ 0x14 ∷ 0x60 ∷ 0x00 ∷ []) gives refusal 11
+        ∷ makeDirectory (text "/A") (0x20 ∷ 0x26 ∷ 0x11 ∷ 0x15 ∷ 0x07 ∷ 0x14 ∷ 0x30 ∷ 0x60 ∷ []) gives refusal 11
         -- a half byte above 9, in each byte
-        ∷ makeFile (text "/A") (0x2A ∷ 0x26 ∷ 0x11 ∷ 0x15 ∷ 0x07 ∷ 0x14 ∷ 0x30 ∷ 0x00 ∷ []) gives nay 11
-        ∷ makeFile (text "/A") (0xA0 ∷ 0x26 ∷ 0x11 ∷ 0x15 ∷ 0x07 ∷ 0x14 ∷ 0x30 ∷ 0x00 ∷ []) gives nay 11
-        ∷ makeFile (text "/A") (0x20 ∷ 0xA6 ∷ 0x11 ∷ 0x15 ∷ 0x07 ∷ 0x14 ∷ 0x30 ∷ 0x00 ∷ []) gives nay 11
-        ∷ makeFile (text "/A") (0x20 ∷ 0x26 ∷ 0x0A ∷ 0x15 ∷ 0x07 ∷ 0x14 ∷ 0x30 ∷ 0x00 ∷ []) gives nay 11
-        ∷ makeFile (text "/A") (0x20 ∷ 0x26 ∷ 0x11 ∷ 0x1A ∷ 0x07 ∷ 0x14 ∷ 0x30 ∷ 0x00 ∷ []) gives nay 11
-        ∷ makeFile (text "/A") (0x20 ∷ 0x26 ∷ 0x11 ∷ 0x15 ∷ 0x0A ∷ 0x14 ∷ 0x30 ∷ 0x00 ∷ []) gives nay 11
-        ∷ makeFile (text "/A") (0x20 ∷ 0x26 ∷ 0x11 ∷ 0x15 ∷ 0x07 ∷ 0x0A ∷ 0x30 ∷ 0x00 ∷ []) gives nay 11
-        ∷ makeFile (text "/A") (0x20 ∷ 0x26 ∷ 0x11 ∷ 0x15 ∷ 0x07 ∷ 0x14 ∷ 0x3A ∷ 0x00 ∷ []) gives nay 11
-        ∷ makeDirectory (text "/A") (0x20 ∷ 0x26 ∷ 0x11 ∷ 0x15 ∷ 0x07 ∷ 0x14 ∷ 0x30 ∷ 0x0F ∷ []) gives nay 11
+        ∷ makeFile (text "/A") (0x2A ∷ 0x26 ∷ 0x11 ∷ 0x15 ∷ 0x07 ∷ 0x14 ∷ 0x30 ∷ 0x00 ∷ []) gives refusal 11
+        ∷ makeFile (text "/A") (0xA0 ∷ 0x26 ∷ 0x11 ∷ 0x15 ∷ 0x07 ∷ 0x14 ∷ 0x30 ∷ 0x00 ∷ []) gives refusal 11
+        ∷ makeFile (text "/A") (0x20 ∷ 0xA6 ∷ 0x11 ∷ 0x15 ∷ 0x07 ∷ 0x14 ∷ 0x30 ∷ 0x00 ∷ []) gives refusal 11
+        ∷ makeFile (text "/A") (0x20 ∷ 0x26 ∷ 0x0A ∷ 0x15 ∷ 0x07 ∷ 0x14 ∷ 0x30 ∷ 0x00 ∷ []) gives refusal 11
+        ∷ makeFile (text "/A") (0x20 ∷ 0x26 ∷ 0x11 ∷ 0x1A ∷ 0x07 ∷ 0x14 ∷ 0x30 ∷ 0x00 ∷ []) gives refusal 11
+        ∷ makeFile (text "/A") (0x20 ∷ 0x26 ∷ 0x11 ∷ 0x15 ∷ 0x0A ∷ 0x14 ∷ 0x30 ∷ 0x00 ∷ []) gives refusal 11
+        ∷ makeFile (text "/A") (0x20 ∷ 0x26 ∷ 0x11 ∷ 0x15 ∷ 0x07 ∷ 0x0A ∷ 0x30 ∷ 0x00 ∷ []) gives refusal 11
+        ∷ makeFile (text "/A") (0x20 ∷ 0x26 ∷ 0x11 ∷ 0x15 ∷ 0x07 ∷ 0x14 ∷ 0x3A ∷ 0x00 ∷ []) gives refusal 11
+        ∷ makeDirectory (text "/A") (0x20 ∷ 0x26 ∷ 0x11 ∷ 0x15 ∷ 0x07 ∷ 0x14 ∷ 0x30 ∷ 0x0F ∷ []) gives refusal 11
         -- seven bytes, and nine
-        ∷ makeFile (text "/A") (0x20 ∷ 0x26 ∷ 0x11 ∷ 0x15 ∷ 0x07 ∷ 0x14 ∷ 0x30 ∷ []) gives nay 11
-        ∷ makeDirectory (text "/A") (day1 ++ 0x00 ∷ []) gives nay 11
+        ∷ makeFile (text "/A") (0x20 ∷ 0x26 ∷ 0x11 ∷ 0x15 ∷ 0x07 ∷ 0x14 ∷ 0x30 ∷ []) gives refusal 11
+        ∷ makeDirectory (text "/A") (day1 ++ 0x00 ∷ []) gives refusal 11
         ∷ [])
         whole fresh
     ∷ []
@@ -353,23 +353,23 @@ readings =
       -- at the size, before it and past it; what is not copied over stays
       ∷ reads (text "/R") 599 (1 ∷ 2 ∷ 3 ∷ []) 1 (97 ∷ 2 ∷ 3 ∷ [])
       ∷ reads (text "/R") 600 (1 ∷ 2 ∷ 3 ∷ []) 0 (1 ∷ 2 ∷ 3 ∷ [])
-      ∷ read (text "/R") 601 (1 ∷ 2 ∷ 3 ∷ []) gives nay 12
+      ∷ read (text "/R") 601 (1 ∷ 2 ∷ 3 ∷ []) gives refusal 12
       ∷ reads (text "/R") 0 (replicate 700 0xEE) 600 (content 600 ++ replicate 100 0xEE)
       ∷ reads (text "/E") 0 (1 ∷ 2 ∷ []) 0 (1 ∷ 2 ∷ [])
-      ∷ read (text "/E") 1 (1 ∷ 2 ∷ []) gives nay 12
+      ∷ read (text "/E") 1 (1 ∷ 2 ∷ []) gives refusal 12
       -- no room: refused all the same
       ∷ reads (text "/R") 0 [] 0 []
       ∷ reads (text "/R") 600 [] 0 []
-      ∷ read (text "/R") 601 [] gives nay 12
-      ∷ read (text "/D") 0 [] gives nay 7
+      ∷ read (text "/R") 601 [] gives refusal 12
+      ∷ read (text "/D") 0 [] gives refusal 7
       -- refused; 7 before 12
-      ∷ read (text "R") 601 (1 ∷ []) gives nay 4
-      ∷ read (text "/x") 601 (1 ∷ []) gives nayAt 5 1
-      ∷ read (text "/D/x/y") 0 (1 ∷ []) gives nayAt 5 3
-      ∷ read (text "/R/x") 601 (1 ∷ []) gives nayAt 6 1
-      ∷ read (text "/D") 1 (1 ∷ []) gives nay 7
-      ∷ read (text "/") 0 (1 ∷ []) gives nay 7
-      ∷ read (text "/") 257 (1 ∷ []) gives nay 7
+      ∷ read (text "R") 601 (1 ∷ []) gives refusal 4
+      ∷ read (text "/x") 601 (1 ∷ []) gives refusalAt 5 1
+      ∷ read (text "/D/x/y") 0 (1 ∷ []) gives refusalAt 5 3
+      ∷ read (text "/R/x") 601 (1 ∷ []) gives refusalAt 6 1
+      ∷ read (text "/D") 1 (1 ∷ []) gives refusal 7
+      ∷ read (text "/") 0 (1 ∷ []) gives refusal 7
+      ∷ read (text "/") 257 (1 ∷ []) gives refusal 7
       ∷ [])
       whole shelf
     ∷ []

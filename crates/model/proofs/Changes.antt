@@ -6,7 +6,7 @@ use Rattle.volume.specs.Bytes.{Bytes, part, put}
 use Rattle.model.specs.Call.{format, verdict, find, makeFile, makeDirectory, write, remove, isFile}
 use Rattle.model.specs.Text.{text}
 use Rattle.model.proofs.Run.{computing, Case, _gives_, reads, done, sized, answered, shown, Hold, computed, stated, hold}
-use Rattle.model.proofs.Desk.{day1, day2, day3, content, nay, nayAt, found, whole, stored, fresh, two, desk, shelf, far}
+use Rattle.model.proofs.Desk.{day1, day2, day3, content, refusal, refusalAt, found, whole, stored, fresh, two, desk, shelf, far}
 
 -- ---- write
 
@@ -17,26 +17,26 @@ writes =
       write (text "/R") 0 [] gives done
       ∷ write (text "/R") 600 [] gives done
       ∷ write (text "/E") 0 [] gives done
-      ∷ write (text "R") 0 [] gives nay 4
-      ∷ write (text "/x") 0 [] gives nayAt 5 1
-      ∷ write (text "/R/x") 0 [] gives nayAt 6 1
-      ∷ write (text "/D") 0 [] gives nay 7
-      ∷ write (text "/") 0 [] gives nay 7
-      ∷ write (text "/R") 601 [] gives nay 12
-      ∷ write (text "/E") 1 [] gives nay 12
+      ∷ write (text "R") 0 [] gives refusal 4
+      ∷ write (text "/x") 0 [] gives refusalAt 5 1
+      ∷ write (text "/R/x") 0 [] gives refusalAt 6 1
+      ∷ write (text "/D") 0 [] gives refusal 7
+      ∷ write (text "/") 0 [] gives refusal 7
+      ∷ write (text "/R") 601 [] gives refusal 12
+      ∷ write (text "/E") 1 [] gives refusal 12
       -- refused with bytes: 7 before 12 and 10, 12 before 10
-      ∷ write (text "R") 601 (replicate 2000 1) gives nay 4
-      ∷ write (text "/D/x/y") 601 (replicate 2000 1) gives nayAt 5 3
-      ∷ write (text "/R/x") 601 (replicate 2000 1) gives nayAt 6 1
-      ∷ write (text "/D") 257 (1 ∷ []) gives nay 7
-      ∷ write (text "/D") 0 (replicate 2000 1) gives nay 7
-      ∷ write (text "/") 0 (1 ∷ []) gives nay 7
-      ∷ write (text "/R") 601 (1 ∷ []) gives nay 12
-      ∷ write (text "/R") 601 (replicate 2000 1) gives nay 12
+      ∷ write (text "R") 601 (replicate 2000 1) gives refusal 4
+      ∷ write (text "/D/x/y") 601 (replicate 2000 1) gives refusalAt 5 3
+      ∷ write (text "/R/x") 601 (replicate 2000 1) gives refusalAt 6 1
+      ∷ write (text "/D") 257 (1 ∷ []) gives refusal 7
+      ∷ write (text "/D") 0 (replicate 2000 1) gives refusal 7
+      ∷ write (text "/") 0 (1 ∷ []) gives refusal 7
+      ∷ write (text "/R") 601 (1 ∷ []) gives refusal 12
+      ∷ write (text "/R") 601 (replicate 2000 1) gives refusal 12
       -- three pages are free: /R may have six, which hold 1,530 bytes
-      ∷ write (text "/R") 600 (replicate 931 1) gives nay 10
-      ∷ write (text "/R") 0 (replicate 1531 1) gives nay 10
-      ∷ write (text "/E") 0 (replicate 766 1) gives nay 10
+      ∷ write (text "/R") 600 (replicate 931 1) gives refusal 10
+      ∷ write (text "/R") 0 (replicate 1531 1) gives refusal 10
+      ∷ write (text "/E") 0 (replicate 766 1) gives refusal 10
       ∷ [])
       whole shelf
     ∷ answered shelf (write (text "/R") 600 (replicate 930 1) gives done ∷ find (text "/R") gives found isFile 1530 day1 ∷ verdict gives sized 8 0 ∷ [])
@@ -71,7 +71,7 @@ writes =
     -- case 12, so far as the answers go
     ∷ answered (replicate 65536 0xE5) (
         format gives done ∷ makeFile (text "/A") day1 gives done
-        ∷ write (text "/A") 0 (replicate 65026 1) gives nay 10 ∷ write (text "/A") 0 (replicate 65025 1) gives done ∷ [])
+        ∷ write (text "/A") 0 (replicate 65026 1) gives refusal 10 ∷ write (text "/A") 0 (replicate 65025 1) gives done ∷ [])
     ∷ []
 
 pub writes-hold : Hold writes
@@ -84,22 +84,22 @@ pub removes : List Case
 removes =
     -- refused
     shown desk (
-      remove (text "A") gives nay 4
-      ∷ remove (text "/") gives nay 14
-      ∷ remove (text "/x") gives nayAt 5 1
-      ∷ remove (text "/A/x/7") gives nayAt 5 3
-      ∷ remove (text "/0042/x") gives nayAt 6 1
-      ∷ remove (text "/A/7/x") gives nayAt 6 3
-      ∷ remove (text "/A") gives nay 13
+      remove (text "A") gives refusal 4
+      ∷ remove (text "/") gives refusal 14
+      ∷ remove (text "/x") gives refusalAt 5 1
+      ∷ remove (text "/A/x/7") gives refusalAt 5 3
+      ∷ remove (text "/0042/x") gives refusalAt 6 1
+      ∷ remove (text "/A/7/x") gives refusalAt 6 3
+      ∷ remove (text "/A") gives refusal 13
       ∷ [])
       whole desk
-    ∷ answered fresh (remove (text "/") gives nay 14 ∷ [])
+    ∷ answered fresh (remove (text "/") gives refusal 14 ∷ [])
     -- the flags byte, the marks and the count change, and no other byte
-    ∷ shown desk (remove (text "/0042") gives done ∷ find (text "/0042") gives nayAt 5 1 ∷ verdict gives sized 8 5 ∷ [])
+    ∷ shown desk (remove (text "/0042") gives done ∷ find (text "/0042") gives refusalAt 5 1 ∷ verdict gives sized 8 5 ∷ [])
         whole (put 3 (5 ∷ 0b00111 ∷ []) (set desk 64 0))
     ∷ shown desk (remove (text "/A/B") gives done ∷ [])
         whole (put 3 (4 ∷ 0b11011 ∷ []) (set desk 288 0))
-    ∷ shown desk (remove (text "/A/7") gives done ∷ remove (text "/A") gives nay 13 ∷ [])
+    ∷ shown desk (remove (text "/A/7") gives done ∷ remove (text "/A") gives refusal 13 ∷ [])
         whole (set desk 256 0)
     ∷ shown desk (remove (text "/A/7") gives done ∷ remove (text "/A/B") gives done ∷ remove (text "/A") gives done ∷ [])
         whole (put 3 (5 ∷ 0b11001 ∷ []) (set (set (set desk 256 0) 288 0) 96 0))
@@ -147,11 +147,11 @@ made =
         ∷ makeDirectory (text "/1/2/3/4/5/6") day1 gives done
         ∷ makeDirectory (text "/1/2/3/4/5/6/7") day1 gives done
         ∷ verdict gives sized 8 0
-        ∷ makeDirectory (text "/1/2/3/4/5/6/7/8") day1 gives nay 10
+        ∷ makeDirectory (text "/1/2/3/4/5/6/7/8") day1 gives refusal 10
         ∷ makeFile (text "/1/2/3/4/5/6/7/8") day2 gives done
         ∷ find (text "/1/2/3/4/5/6/7/8") gives found isFile 0 day2
-        ∷ find (text "/1/2/3/4/5/6/7/9") gives nayAt 5 15
-        ∷ remove (text "/1/2/3/4/5/6/7") gives nay 13
+        ∷ find (text "/1/2/3/4/5/6/7/9") gives refusalAt 5 15
+        ∷ remove (text "/1/2/3/4/5/6/7") gives refusal 13
         ∷ [])
     ∷ []
 

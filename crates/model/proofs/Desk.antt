@@ -25,11 +25,11 @@ content n = map (λ i. i % 251) (upTo n)
 
 -- ---- answers
 
-abbrev pub nay : {A : Type 0} → ℕ → Answer A
-nay n = refused (no n)
+abbrev pub refusal : {A : Type 0} → ℕ → Answer A
+refusal n = refused (no n)
 
-abbrev pub nayAt : {A : Type 0} → (number byte : ℕ) → Answer A
-nayAt n i = refused (noAt n i)
+abbrev pub refusalAt : {A : Type 0} → (number byte : ℕ) → Answer A
+refusalAt n i = refused (noAt n i)
 
 abbrev pub found : Kind → ℕ → Bytes → Answer Found
 found kind size date = granted (record { kind = kind; size = size; date = date })

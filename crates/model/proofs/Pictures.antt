@@ -12,7 +12,7 @@ use Rattle.model.specs.Text.{text}
 use Rattle.model.specs.Listing.{digits, line, rowLines, treeLines, listingOf, listing}
 use Rattle.model.proofs.Run.{computing, Step, calls, given, Case, _gives_, reads, done, sized, shown, Hold, computed, stated, hold}
 use Rattle.model.proofs.Table.{blank, newFile, newDirectory}
-use Rattle.model.proofs.Desk.{day1, day2, day3, content, nay, nayAt, fresh, desk}
+use Rattle.model.proofs.Desk.{day1, day2, day3, content, refusal, refusalAt, fresh, desk}
 
 unfoldable pub replaying : Unit {0}
 unfolding fill rewrite vacate inside changeAt inParent changed treeAnswer treeBuffer treeAfter replay replayResults
@@ -40,19 +40,19 @@ deskSteps : List Step
 deskSteps =
     makeFile (text "/0042") day1 gives done
     ∷ makeFile (text "/x") day1 gives done
-    ∷ makeFile (text "/0042") day2 gives nay 8
+    ∷ makeFile (text "/0042") day2 gives refusal 8
     ∷ write (text "/0042") 0 (content 200) gives done
     ∷ remove (text "/x") gives done
     ∷ makeDirectory (text "/A") day2 gives done
-    ∷ write (text "/0042") 200 (replicate 2000 1) gives nay 10
+    ∷ write (text "/0042") 200 (replicate 2000 1) gives refusal 10
     ∷ makeDirectory (text "/A/x") day3 gives done
     ∷ makeDirectory (text "/A/B") day1 gives done
-    ∷ remove (text "/A") gives nay 13
+    ∷ remove (text "/A") gives refusal 13
     ∷ remove (text "/A/x") gives done
     ∷ makeFile (text "/A/7") day3 gives done
     ∷ write (text "/0042") 0 (content 256) gives done
     ∷ reads (text "/0042") 253 (replicate 5 9) 3 (2 ∷ 3 ∷ 4 ∷ 9 ∷ 9 ∷ [])
-    ∷ find (text "/A/7/x") gives nayAt 6 3
+    ∷ find (text "/A/7/x") gives refusalAt 6 3
     ∷ verdict gives sized 8 3
     ∷ []
 

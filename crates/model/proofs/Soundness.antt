@@ -1,7 +1,7 @@
 -- The facts of a sound image one by one: an image that lacks just that fact, and what the judge finds first in it. And what does not count.
 use mathlib.Core.Path.{refl}
 use Prim.Native.Nat.{ℕ}
-use mathlib.Core.List.{List, [], _∷_, _++_, map, foldl}
+use mathlib.Core.List.{List, [], _∷_, _++_, map}
 use lib.ListN.{replicate, set}
 use Rattle.volume.specs.Bytes.{Bytes, part, put}
 use Rattle.volume.specs.Lists.{upTo}
@@ -10,7 +10,7 @@ use Rattle.model.specs.Call.{verdict, find, list, makeFile, makeDirector
 use Rattle.model.specs.Text.{text}
 use Rattle.model.specs.Judge.{Fault, badEntry, badChain, ownedTwice, markedFree, lostPage, badCount, fault, clean, thenJudge, judgePage, judgeChain, freshName, judgeEntry, judgeEntries, judgeDirectory, lostOr, judgeRest, judge}
 use Rattle.model.proofs.Run.{computing, Case, _gives_, done, sized, shown, Hold, computed, stated, hold}
-use Rattle.model.proofs.Desk.{day1, nay, found, entry, whole, header, stored, fresh, one, two, desk, shelf}
+use Rattle.model.proofs.Desk.{day1, refusal, found, entry, whole, header, stored, fresh, one, two, desk, shelf}
 
 unfoldable pub judging : Unit {0}
 unfolding thenJudge judgePage judgeChain freshName judgeEntry judgeEntries judgeDirectory lostOr judgeRest judge
@@ -18,11 +18,11 @@ judging = tt
 
 -- refused by 3, and this is the first fault
 abbrev unsound : Bytes → Fault → Case
-unsound b f = shown b (verdict gives nay 3 ∷ []) judge (fault f)
+unsound b f = shown b (verdict gives refusal 3 ∷ []) judge (fault f)
 
--- sound, with so many free pages; the judge marks these pages of 8
+-- sound, with so many free pages; the judge meets these pages, the last one first
 abbrev sound : Bytes → ℕ → List ℕ → Case
-sound b free pages = shown b (verdict gives sized 8 free ∷ []) judge (clean (foldl (λ marks p. set marks p 1) (replicate 8 0) pages))
+sound b free pages = shown b (verdict gives sized 8 free ∷ []) judge (clean pages)
 
 -- a directory on page 1, and an empty file
 box : Bytes

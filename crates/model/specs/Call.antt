@@ -66,11 +66,11 @@ pub record Refusal : Type 0 where
   pub number : ℕ
   pub place : ℕ × ℕ × ℕ
 
-abbrev pub no : ℕ → Refusal
-no n = record { number = n; place = (0, 0, 0) }
+abbrev pub refusal : ℕ → Refusal
+refusal n = record { number = n; place = (0, 0, 0) }
 
-abbrev pub noAt : (number byte : ℕ) → Refusal
-noAt n i = record { number = n; place = (i, 0, 0) }
+abbrev pub refusalAt : (number byte : ℕ) → Refusal
+refusalAt n i = record { number = n; place = (i, 0, 0) }
 
 pub data Answer (A : Type 0) : Type 0 where
   refused : Refusal → Answer A

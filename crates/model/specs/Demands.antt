@@ -12,7 +12,7 @@ use Rattle.model.specs.Layout.{pageCount, validLength, freeCount, pageBi
 use Rattle.model.specs.Sound.{sound, owners}
 use Rattle.model.specs.Tree.{Tree, needs, freeNumber}
 use Rattle.model.specs.Image.{treeOf}
-use Rattle.model.specs.Call.{Call, format, verdict, Told, bufferBefore, Refusal, no, Answer, refused, granted}
+use Rattle.model.specs.Call.{Call, format, verdict, Told, bufferBefore, Refusal, refusal, Answer, refused, granted}
 use Rattle.model.specs.Refusal.{earlier, wanted, Passes, tableOrder}
 use Rattle.model.specs.Meaning.{freshTree, treeAnswer, treeBuffer, treeAfter, isFormat, answer, after, bufferAfter}
 
@@ -35,7 +35,7 @@ pub record Unsound (c : Call) (b : Bytes) : Type 0 where
   pub number : ℕ
   pub low : 1 ≤ number
   pub high : number ≤ 3
-  pub told : answer c b ≡ refused (no number)
+  pub told : answer c b ≡ refused (refusal number)
 
 pub record AsTree (c : Call) (b : Bytes) : Type 0 where
   pub answered : answer c b ≡ treeAnswer c (treeOf b)
@@ -84,7 +84,7 @@ replayResults (c ∷ cs) t = (record { answered = treeAnswer c t; lent = treeBuf
 abbrev pub WantOfPages : (cs : List Call) → Results cs → Tree → Type 0
 WantOfPages [] rs t = Unit {0}
 WantOfPages (c ∷ cs) rs t =
-    ((rs .0 .answered ≡ refused (no 10)) ↔ (Passes (earlier c t) × (freeNumber t < wanted c t)))
+    ((rs .0 .answered ≡ refused (refusal 10)) ↔ (Passes (earlier c t) × (freeNumber t < wanted c t)))
     × WantOfPages cs (rs .1) (treeAfter c t)
 
 -- A page is free and nobody owns it, or it is marked and exactly one file or directory owns it, the one whose entry is at a position.

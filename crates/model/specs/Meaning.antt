@@ -13,7 +13,7 @@ use Rattle.model.specs.Path.{Path, pathOf, parents, lastName}
 use Rattle.model.specs.Image.{treeOf}
 use Rattle.model.specs.Walk.{changeAt, entryPosition}
 use Rattle.model.specs.Effect.{formatted, fileMade, directoryMade, written, removed}
-use Rattle.model.specs.Call.{Call, format, verdict, find, list, read, makeFile, makeDirectory, write, remove, Kind, isFile, isDirectory, Verdict, Found, Listed, empty, holds, Told, bufferBefore, Refusal, no, Answer, refused, granted}
+use Rattle.model.specs.Call.{Call, format, verdict, find, list, read, makeFile, makeDirectory, write, remove, Kind, isFile, isDirectory, Verdict, Found, Listed, empty, holds, Told, bufferBefore, Refusal, refusal, Answer, refused, granted}
 use Rattle.model.specs.Refusal.{Line, refusals, settle, node, directoryRow, contentIn}
 
 -- ---- on the plain tree
@@ -111,20 +111,20 @@ brokenLine format b = []
 brokenLine verdict b = []
 brokenLine (find path) b = []
 brokenLine (list path i) b = []
-brokenLine (read path at room) b = (isBroken b (pathOf path), no 15) ∷ []
+brokenLine (read path at room) b = (isBroken b (pathOf path), refusal 15) ∷ []
 brokenLine (makeFile path date) b = []
 brokenLine (makeDirectory path date) b = []
-brokenLine (write path at v) b = (isBroken b (pathOf path), no 15) ∷ []
-brokenLine (remove path) b = (isBroken b (pathOf path), no 15) ∷ []
+brokenLine (write path at v) b = (isBroken b (pathOf path), refusal 15) ∷ []
+brokenLine (remove path) b = (isBroken b (pathOf path), refusal 15) ∷ []
 
 -- Format judges only the image's length. Every other call judges the image first: 1, its length is not one of the allowed; 2, byte 0, 1 or
 -- 2 is wrong; 3, it is not sound.
 unfoldable pub lines : Call → Bytes → List Line
 lines c b =
-    (not (validLength (length b)), no 1)
+    (not (validLength (length b)), refusal 1)
     ∷ (if isFormat c then [] else (
-      (not (validHeader b), no 2)
-      ∷ (not (sound b), no 3)
+      (not (validHeader b), refusal 2)
+      ∷ (not (sound b), refusal 3)
       ∷ (refusals c (treeOf b) ++ brokenLine c b)))
 
 -- the bytes after a granted call

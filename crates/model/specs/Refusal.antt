@@ -13,7 +13,7 @@ use Rattle.model.specs.Date.{goodDate}
 use Rattle.model.specs.Path.{Path, pathOf, isNoPath, isRoot, parents, names, lastName}
 use Rattle.model.specs.Tree.{Row, end, Tree, width, held, freeNumber, Node, fileNode, directoryNode, lookup}
 use Rattle.model.specs.Walk.{Walked, arrived, missing, blocked, walk, walkTo, arrivedOr}
-use Rattle.model.specs.Call.{Call, format, verdict, find, list, read, makeFile, makeDirectory, write, remove, Refusal, no, noAt}
+use Rattle.model.specs.Call.{Call, format, verdict, find, list, read, makeFile, makeDirectory, write, remove, Refusal, refusal, refusalAt}
 
 -- ---- what the lines ask
 
@@ -92,24 +92,24 @@ Line = Bool × Refusal
 
 -- 4: the path is no path
 abbrev pub pathLine : Bytes → Line
-pathLine path = (isNoPath (pathOf path), no 4)
+pathLine path = (isNoPath (pathOf path), refusal 4)
 
 -- 5: a name of the walk isn't in its directory; 6: the walk, or list, meets a file where it needs a directory
 abbrev pub walkLines : {A : Type 0} → Walked A → List Line
-walkLines w = (isMissing w, noAt 5 (stoppedAt w)) ∷ (isBlocked w, noAt 6 (stoppedAt w)) ∷ []
+walkLines w = (isMissing w, refusalAt 5 (stoppedAt w)) ∷ (isBlocked w, refusalAt 6 (stoppedAt w)) ∷ []
 
 -- 7: read or write: the path is a directory; 12: the position is past the size
 abbrev pub fileLines : Bytes → ℕ → Tree → List Line
-fileLines path at t = (isDirectoryNode (node path t), no 7) ∷ (ltb (size path t) at, no 12) ∷ []
+fileLines path at t = (isDirectoryNode (node path t), refusal 7) ∷ (ltb (size path t) at, refusal 12) ∷ []
 
 -- 11: the date is not good; then the walk of all names but the last; 8: the name is there already, or the path is `/`; 9: no empty entry
 unfoldable pub makeLines : Bytes → Bytes → Tree → List Line
 makeLines path date t =
     pathLine path
-    ∷ (not (goodDate date), no 11)
+    ∷ (not (goodDate date), refusal 11)
     ∷ walkLines (walkedParent path t) ++ (
-      (isRoot (pathOf path) || isThere (lookup (lastName (pathOf path)) (parentRow path t)), no 8)
-      ∷ (eqb (held (parentRow path t)) (width (parentRow path t)), no 9)
+      (isRoot (pathOf path) || isThere (lookup (lastName (pathOf path)) (parentRow path t)), refusal 8)
+      ∷ (eqb (held (parentRow path t)) (width (parentRow path t)), refusal 9)
       ∷ [])
 
 -- the lines above number 10; 12 of list: the entry number is past the directory's last; 14: remove: the path is `/`
@@ -117,16 +117,16 @@ unfoldable pub earlier : Call → Tree → List Line
 earlier format t = []
 earlier verdict t = []
 earlier (find path) t = pathLine path ∷ walkLines (walked path t)
-earlier (list path i) t = pathLine path ∷ walkLines (walkedDirectory path t) ++ ((leb (width (directoryRow path t)) i, no 12) ∷ [])
+earlier (list path i) t = pathLine path ∷ walkLines (walkedDirectory path t) ++ ((leb (width (directoryRow path t)) i, refusal 12) ∷ [])
 earlier (read path at buffer) t = pathLine path ∷ walkLines (walked path t) ++ fileLines path at t
 earlier (makeFile path date) t = makeLines path date t
 earlier (makeDirectory path date) t = makeLines path date t
 earlier (write path at v) t = pathLine path ∷ walkLines (walked path t) ++ fileLines path at t
-earlier (remove path) t = pathLine path ∷ (isRoot (pathOf path), no 14) ∷ walkLines (walked path t)
+earlier (remove path) t = pathLine path ∷ (isRoot (pathOf path), refusal 14) ∷ walkLines (walked path t)
 
 -- 10: more pages wanted than the free number; a call that needs none never gets it
 abbrev pub spaceLine : Call → Tree → Line
-spaceLine c t = (ltb (freeNumber t) (wanted c t), no 10)
+spaceLine c t = (ltb (freeNumber t) (wanted c t), refusal 10)
 
 -- the line below number 10; 13: remove: the directory holds something
 unfoldable pub later : Call → Tree → List Line
@@ -138,7 +138,7 @@ later (read path at buffer) t = []
 later (makeFile path date) t = []
 later (makeDirectory path date) t = []
 later (write path at v) t = []
-later (remove path) t = (ltb 0 (held (rowIn (node path t))), no 13) ∷ []
+later (remove path) t = (ltb 0 (held (rowIn (node path t))), refusal 13) ∷ []
 
 unfoldable pub refusals : Call → Tree → List Line
 refusals c t = earlier c t ++ (spaceLine c t ∷ later c t)

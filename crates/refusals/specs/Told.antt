@@ -1,0 +1,21 @@
+-- The paper's number and place of each case of the enum `Refusal`.
+use Prim.Native.Nat.{ℕ}
+use Rattle.model.specs.Call.{Refusal as Model, refusal, refusalAt}
+use Rattle.refusals.specs.declared.Refusal.{Refusal}
+use Rattle.refusals.specs.declared.Refusal.the-variants.{BadLength, BadHeader, Unsound, NoPath, BadDate, IsRoot, NoSuchName, NotADirectory, NameTaken, IsADirectory, PastEnd, DirectoryFull, NoFreePages, NotEmpty}
+
+abbrev pub told : Refusal → Model
+told BadLength = refusal 1
+told BadHeader = refusal 2
+told Unsound = refusal 3
+told NoPath = refusal 4
+told BadDate = refusal 11
+told IsRoot = refusal 14
+told (NoSuchName byte) = refusalAt 5 byte
+told (NotADirectory byte) = refusalAt 6 byte
+told NameTaken = refusal 8
+told IsADirectory = refusal 7
+told PastEnd = refusal 12
+told DirectoryFull = refusal 9
+told NoFreePages = refusal 10
+told NotEmpty = refusal 13

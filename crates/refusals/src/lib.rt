@@ -1,0 +1,59 @@
+// Why a call says no: one case for each number of the paper's table that a call can give, with its place where it has one.
+// The code says the case, the contracts say its number and place, by `told` in specs/; nothing else decides a number.
+ghost use mathlib.Core.Path.{_≡_};
+ghost use Prim.Native.Nat.{_<_};
+ghost use Rattle.refusals.specs.Told.{told};
+
+// Number 15 has no case: in a sound image a chain neither ends nor leaves the image early.
+pub enum Refusal {
+    // 1: the image's length is not one of the allowed.
+    BadLength,
+    // 2: byte 0, 1 or 2 is not 5A, 01, N/8.
+    BadHeader,
+    // 3: the image is not sound.
+    Unsound,
+    // 4: the path is no path.
+    NoPath,
+    // 11: make: the date is not good.
+    BadDate,
+    // 14: remove: the path is `/`.
+    IsRoot,
+    // 5: a name of the walk isn't in its directory; the byte of the path at which it begins.
+    NoSuchName(usize),
+    // 6: the walk, or list, meets a file where it needs a directory; the byte of the path at which the file's name begins.
+    NotADirectory(usize),
+    // 8: make: the name is there already, or the path is `/`.
+    NameTaken,
+    // 7: read or write: the path is a directory.
+    IsADirectory,
+    // 12: the position is past the size, or the entry number past the directory's last.
+    PastEnd,
+    // 9: make: no empty entry.
+    DirectoryFull,
+    // 10: make or write: more pages wanted than the free number.
+    NoFreePages,
+    // 13: remove: the directory holds something.
+    NotEmpty,
+}
+
+// The paper's number.
+pub fn number(r: Refusal) -> u8
+    ensures { λ n. ⌜ n ≡ told r .number ⌝ }
+{
+    match r {
+        Refusal::BadLength => 1,
+        Refusal::BadHeader => 2,
+        Refusal::Unsound => 3,
+        Refusal::NoPath => 4,
+        Refusal::BadDate => 11,
+        Refusal::IsRoot => 14,
+        Refusal::NoSuchName(_) => 5,
+        Refusal::NotADirectory(_) => 6,
+        Refusal::NameTaken => 8,
+        Refusal::IsADirectory => 7,
+        Refusal::PastEnd => 12,
+        Refusal::DirectoryFull => 9,
+        Refusal::NoFreePages => 10,
+        Refusal::NotEmpty => 13,
+    }
+}
