@@ -1,28 +1,27 @@
 -- Line 15 never holds in a sound image: a path leads to an entry of a reached directory, whose pages are owned, or to none.
-use mathlib.Core.Path.{_≡_, refl, sym, ap, _∙_, subst}
-use Prim.Native.Nat.{ℕ, zero, suc, _+_, _/_, _≤_, _<_}
+use mathlib.Core.Path.{_≡_, refl, sym, subst}
+use Prim.Native.Nat.{ℕ, zero, suc}
 use native.Mathlib.Omega.{arith}
-use mathlib.Core.Bool.{Bool, true, false, not}
+use mathlib.Core.Bool.{not}
 use mathlib.Core.Option.{Option, none, some, Option·getD}
-use mathlib.Core.List.{List, [], _∷_}
+use mathlib.Core.List.{List, []}
 use lib.Dec.{T, eqb, leb, ltb, eqb→eq, le→leb, lt→ltb}
 use Rattle.volume.specs.Bytes.{Bytes, byteAt}
 use Rattle.volume.specs.Lists.{all}
 use Rattle.volume.proofs.Occ.{Mem}
-use Rattle.volume.proofs.Tests.{both-and, occ-all, conditions-cons}
+use Rattle.volume.proofs.Tests.{not-not-of, both-and, occ-all, conditions-cons}
 use Rattle.model.specs.Layout.{pageCount, validHeader}
 use Rattle.model.specs.Entry.{entries, Entry, vacant, entryAt}
 use Rattle.model.specs.Sound.{pagesOf, pagesAt, goodDirectory, inRange, sound}
-use Rattle.model.specs.Tree.{Row}
 use Rattle.model.specs.Path.{Name, Path, parents, lastName}
 use Rattle.model.specs.Image.{rowAt}
 use Rattle.model.specs.Walk.{Walked, arrived, missing, blocked, walk, entryNamed, walkOn, arrivedOr, entryPosition}
 use Rattle.model.specs.Meaning.{isBroken}
-use Rattle.laws.proofs.Facts.{Facts, sound-facts, valid-sized, Sized}
+use Rattle.laws.proofs.Facts.{Facts, sound-facts}
 use Rattle.laws.proofs.Owns.{pages-own}
 use Rattle.laws.proofs.Focus.{Leads, named-found}
 use Rattle.laws.proofs.Walks.{Mirrors, walk-mirrors}
-use Rattle.laws.proofs.Slots.{Owned, entry-owned}
+use Rattle.laws.proofs.Slots.{entry-owned}
 
 entry-whole : (b : Bytes) → Facts b → (ns : List Name) (e t at : ℕ) → Leads b (pageCount b) 0 ns (suc e) t → Mem at (entries t) → T (all (inRange (pageCount b)) (pagesAt b at))
 entry-whole b f ns e t at leads m = occ-all (inRange (pageCount b)) (pagesAt b at) (λ q k.
@@ -52,16 +51,12 @@ no-entry b f =
     let e : byteAt b 0 ≡ 0x5A = eqb→eq (byteAt b 0) 0x5A (conditions-cons (eqb (byteAt b 0) 0x5A) _ (f .headed) .0) in
     rw e
 
-not-not : (c : Bool) → T c → T (not (not c))
-not-not true h = tt
-not-not false h = h
-
 pub never-broken : (b : Bytes) → T (sound b) → (p : Path) → T (not (isBroken b p))
 unfolding pagesOf all
 never-broken b h p =
     let f = sound-facts b h in
     let w = walked-page b f (parents p) in
-    not-not (all (inRange (pageCount b)) (pagesAt b (entryPosition b p))) (go f (w .0) (w .1) (arrivedOr 0 (walkOn b (parents p) 0)) (w .2) (entryNamed b (arrivedOr 0 (walkOn b (parents p) 0)) (lastName p)) refl)
+    not-not-of (all (inRange (pageCount b)) (pagesAt b (entryPosition b p))) (go f (w .0) (w .1) (arrivedOr 0 (walkOn b (parents p) 0)) (w .2) (entryNamed b (arrivedOr 0 (walkOn b (parents p) 0)) (lastName p)) refl)
   where
     go : (f : Facts b) (ms : List Name) (e t : ℕ) → Leads b (pageCount b) 0 ms (suc e) t → (o : Option ℕ) → entryNamed b t (lastName p) ≡ o
         → T (all (inRange (pageCount b)) (pagesAt b (Option·getD o 0)))

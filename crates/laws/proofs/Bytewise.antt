@@ -13,7 +13,7 @@ use Rattle.volume.specs.Lists.{all}
 use Rattle.volume.specs.Field.{byte}
 use Rattle.volume.specs.Geometry as On
 use Rattle.volume.proofs.Occ.{occ, Mem, sum-mono, sum-occ, under-of-mem}
-use Rattle.volume.proofs.Tests.{and-both, conditions-cons}
+use Rattle.volume.proofs.Tests.{not-not, and-both, conditions-cons}
 use Rattle.volume.proofs.Puts.{put-in}
 use Rattle.volume.proofs.Chains.{chain-length}
 use Rattle.volume.proofs.Entries.{made-room}
@@ -21,9 +21,9 @@ use Rattle.volume.proofs.Small.{Small, FitsIn, small-append, small-zeros, small
 use Rattle.model.specs.Layout.{version1, pageCount, pagesFor, validLength, freeCount, zeroBits, link}
 use Rattle.model.specs.Name.{legalByte, legalRest, legalName}
 use Rattle.model.specs.Date.{isBcd, goodDate}
-use Rattle.model.specs.Entry.{entries, startAt, sizeAt, Entry, vacant, aFile, aDirectory, entryAt, newEntry}
-use Rattle.model.specs.Sound.{pagesAt, isNamed, ownedPages, sound}
-use Rattle.model.specs.Tree.{Row, Node}
+use Rattle.model.specs.Entry.{entries, startAt, sizeAt, entryAt, newEntry}
+use Rattle.model.specs.Sound.{pagesAt, ownedPages, sound}
+use Rattle.model.specs.Tree.{Node}
 use Rattle.model.specs.Path.{Name, Path, below, pathOf}
 use Rattle.model.specs.Image.{rowAt, treeOf}
 use Rattle.model.specs.Walk.{Walked, arrivedOr, parentPage, entryPosition}
@@ -41,7 +41,7 @@ use Rattle.laws.proofs.NewEntry.{new-length, new-start}
 use Rattle.laws.proofs.Make.{Place, place-of, place-held, madeAt}
 use Rattle.laws.proofs.Write.{isFileEntry, node-file, file-pages, file-chained, file-content, file-size, rewritten-is}
 use Rattle.laws.proofs.Lines.{passed, settle-both}
-use Rattle.laws.proofs.Passed.{Makes, Writes, Removes, not-not, sound-passed, make-passed, write-passed, remove-passed}
+use Rattle.laws.proofs.Passed.{Makes, Writes, Removes, sound-passed, make-passed, write-passed, remove-passed}
 
 -- ---- bytes of a list
 

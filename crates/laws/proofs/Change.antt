@@ -1,20 +1,19 @@
 -- The one theorem behind make, write and remove. If an image changes only in the header's bytes 3 to 35, in one entry of the directory that
 -- some names lead to, and in pages that nobody else owns, and marks and count follow the pages, then it stays sound and the tree changes there alone.
-use mathlib.Core.Path.{_≡_, refl, sym, ap, ap₂, _∙_, subst}
+use mathlib.Core.Path.{_≡_, sym, ap, ap₂, _∙_, subst}
 use mathlib.Core.Logic.{_≢_, inl, inr}
-use Prim.Native.Nat.{ℕ, zero, suc, _+_, _-_, _/_, _≤_, _<_}
+use Prim.Native.Nat.{ℕ, suc, _+_, _/_, _≤_, _<_}
 use native.Mathlib.Omega.{arith}
-use native.Mathlib.Decide.{decLt, decLe}
+use native.Mathlib.Decide.{decLt}
 use mathlib.Core.Bool.{Bool, true, not}
 use mathlib.Core.Option.{some}
-use mathlib.Core.List.{List, [], _∷_}
+use mathlib.Core.List.{List, _∷_}
 use lib.ListN.{length}
-use lib.Dec.{T, eqb, eqb→eq}
+use lib.Dec.{T}
 use Rattle.volume.specs.Bytes.{Bytes, byteAt}
-use Rattle.volume.specs.Lists.{conditions, first}
+use Rattle.volume.specs.Lists.{first}
 use Rattle.volume.proofs.Occ.{occ, Mem, hit, hit-refl, hit-ne, hit-cases, under-of-mem, not-mem, mem-or-not}
-use Rattle.volume.proofs.Tests.{conditions-cons, cons-conditions, eq-eqb}
-use Rattle.volume.proofs.Marks.{bit-low, zero-balance}
+use Rattle.volume.proofs.Marks.{zero-balance}
 use Rattle.model.specs.Layout.{version1, pageCount, freeCount, validLength, validHeader, pageBit, zeroBits}
 use Rattle.model.specs.Entry.{entries, Entry, entryAt}
 use Rattle.model.specs.Sound.{goodEntry, sameName, inDirectory, goodDirectory, owned, ownedPages, sound}
@@ -22,12 +21,12 @@ use Rattle.model.specs.Tree.{Row, Tree}
 use Rattle.model.specs.Path.{Name}
 use Rattle.model.specs.Image.{entryRow, rowAt, treeOf}
 use Rattle.model.specs.Walk.{changeAt}
-use Rattle.laws.proofs.Facts.{FactsTo, Facts, facts-sound, once, none-left, Sized, valid-sized}
-use Rattle.laws.proofs.Entries.{Within, entry-within, within-page, entries-apart, entry-same}
+use Rattle.laws.proofs.Facts.{FactsTo, Facts, facts-sound, once, valid-sized}
+use Rattle.laws.proofs.Entries.{entry-within, within-page, entries-apart, entry-same}
 use Rattle.laws.proofs.Owns.{own, own-le, own-two}
 use Rattle.laws.proofs.Frame.{SamePage, SameEntry, entry-frame}
 use Rattle.laws.proofs.Level.{level-row, level-owned, level-good}
-use Rattle.laws.proofs.Focus.{Leads, leads-sub, leads-owned, focus, Focused}
+use Rattle.laws.proofs.Focus.{Leads, leads-sub, leads-owned, focus}
 
 -- the header's first three bytes and the length make the header valid
 header-same : (b b′ : Bytes) → length b′ ≡ length b → ((i : ℕ) → i < 3 → byteAt b′ i ≡ byteAt b i) → T (validHeader b) → T (validHeader b′)

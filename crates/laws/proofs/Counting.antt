@@ -1,16 +1,16 @@
 -- The free counts agree: the marked pages are the header and the owned ones, and a directory owns as many pages as its row needs.
 use mathlib.Core.Path.{_≡_, refl, sym, ap, _∙_, subst}
 use mathlib.Core.Logic.{inl, inr}
-use Prim.Native.Nat.{ℕ, zero, suc, _+_, _-_, _*_, _/_, _≤_, _<_}
+use Prim.Native.Nat.{ℕ, zero, suc, _+_, _*_, _≤_, _<_}
 use native.Mathlib.Omega.{arith}
 use mathlib.Core.Bool.{Bool}
-use mathlib.Core.List.{List, [], _∷_, _++_, flatMap}
+use mathlib.Core.List.{List, [], _∷_, flatMap}
 use lib.ListN.{length, length-append, length-take}
 use lib.Dec.{T}
 use Rattle.volume.specs.Bytes.{Bytes}
 use Rattle.volume.specs.Chain.{chain}
 use Rattle.volume.specs.Geometry as On
-use Rattle.volume.proofs.Occ.{occ, Mem, hit-refl, hit-ne, hit-cases, mem-head, mem-tail, sum, sum-occ, under-of-mem, under-cons, not-mem}
+use Rattle.volume.proofs.Occ.{occ, Mem, hit-cases, mem-head, mem-tail, sum, sum-occ, under-of-mem, under-cons, not-mem}
 use Rattle.volume.proofs.Puts.{part-length}
 use Rattle.volume.proofs.Chains.{chain-length}
 use Rattle.volume.proofs.Flat.{flatMap-length}
@@ -18,11 +18,11 @@ use Rattle.volume.proofs.Marks.{bit-low}
 use Rattle.model.specs.Layout.{version1, pageCount, pagesFor, freeCount, pageBit, zeroBits, link}
 use Rattle.model.specs.Entry.{entries, Entry, vacant, aFile, aDirectory, entryAt}
 use Rattle.model.specs.Sound.{pagesOf, reached, owned, ownedPages, soundTo, sound}
-use Rattle.model.specs.Tree.{Row, end, needs, freeNumber}
+use Rattle.model.specs.Tree.{Row, needs, freeNumber}
 use Rattle.model.specs.Image.{contentOn, contentOf, entryRow, rowOf, rowAt, treeOf}
-use Rattle.laws.proofs.Facts.{FactsTo, Facts, soundTo-facts, facts-sound, Sized, valid-sized}
+use Rattle.laws.proofs.Facts.{FactsTo, Facts, soundTo-facts, facts-sound, valid-sized}
 use Rattle.laws.proofs.Owns.{own, owned-entries, own-le}
-use Rattle.laws.proofs.Frame.{SameDirectory, depth-count}
+use Rattle.laws.proofs.Frame.{depth-count}
 
 -- ---- marked pages
 

@@ -1,18 +1,17 @@
 -- The entries of a directory lie apart in its page, behind the header's fields, and what an entry is hangs on its 32 bytes alone.
-use mathlib.Core.Path.{_≡_, refl, sym, ap, _∙_, subst}
+use mathlib.Core.Path.{_≡_}
 use mathlib.Core.Logic.{_≢_, inl, inr}
 use Prim.Native.Nat.{ℕ, zero, suc, _+_, _*_, _/_, _%_, _≤_, _<_}
 use native.Mathlib.Omega.{arith}
 use native.Mathlib.Decide.{decLt}
-use mathlib.Core.Bool.{Bool, true, false}
-use mathlib.Core.List.{List, [], _∷_, map}
+use mathlib.Core.List.{map}
 use lib.ListN.{length}
-use lib.Dec.{T, eqb, eqb·suc-zero}
-use Rattle.volume.specs.Bytes.{Bytes, byteAt, part, if_then_else_}
-use Rattle.volume.specs.Lists.{countFrom, upTo}
-use Rattle.volume.proofs.Occ.{occ, Mem, Nodup, hit, hit-refl, hit-cases, nodup-cons, not-mem, mem-cons}
+use lib.Dec.{eqb·suc-zero}
+use Rattle.volume.specs.Bytes.{Bytes, byteAt}
+use Rattle.volume.specs.Lists.{countFrom}
+use Rattle.volume.proofs.Occ.{Mem, Nodup, nodup-cons, not-mem, mem-cons}
 use Rattle.volume.proofs.Puts.{part-bytes}
-use Rattle.model.specs.Entry.{entryCount, entriesStart, entries, nameAt, startAt, sizeAt, dateAt, Entry, entryAt}
+use Rattle.model.specs.Entry.{entryCount, entriesStart, entries, nameAt, startAt, dateAt, entryAt}
 
 -- ---- positions in steps of 32
 

@@ -1,20 +1,20 @@
 -- The tests of a sound image as facts. Range, "none is owned twice" and "marked exactly if owned" come to one equation for each page:
 -- it is owned as often as its bit says.
-use mathlib.Core.Path.{_≡_, refl, sym, ap, _∙_, subst}
-use mathlib.Core.Logic.{_↔_, _≢_, inl, inr}
-use Prim.Native.Nat.{ℕ, zero, suc, _+_, _-_, _*_, _/_, _%_, _≤_, _<_}
+use mathlib.Core.Path.{_≡_}
+use mathlib.Core.Logic.{_≢_, inl, inr}
+use Prim.Native.Nat.{ℕ, _-_, _*_, _%_, _≤_, _<_}
 use native.Mathlib.Omega.{arith}
-use mathlib.Core.Bool.{Bool, true, false, not, _&&_, Bool·beq}
+use mathlib.Core.Bool.{Bool, true, false, Bool·beq}
 use mathlib.Core.List.{List, [], _∷_}
 use lib.ListN.{length}
 use lib.Dec.{T, eqb, leb, ltb, eqb→eq, leb→le, le→leb, ltb→lt, lt→ltb}
 use Rattle.volume.specs.Bytes.{Bytes}
-use Rattle.volume.specs.Lists.{all, conditions, member, distinct, countFrom}
-use Rattle.volume.proofs.Occ.{occ, Mem, Nodup, mem-or-not, not-mem}
-use Rattle.volume.proofs.Tests.{and-both, both-and, conditions-cons, cons-conditions, member-occ, occ-member, distinct-occ, occ-distinct, all-occ, occ-all, occ-countFrom, countFrom-occ, eq-eqb}
+use Rattle.volume.specs.Lists.{all, member, distinct, countFrom}
+use Rattle.volume.proofs.Occ.{occ, Mem, Nodup, mem-or-not}
+use Rattle.volume.proofs.Tests.{and-both, both-and, no-conditions, conditions-cons, cons-conditions, member-occ, occ-member, distinct-occ, occ-distinct, all-occ, occ-all, occ-countFrom, countFrom-occ, eq-eqb}
 use Rattle.volume.proofs.Marks.{bit-low}
 use Rattle.model.specs.Layout.{version1, pageCount, validLength, validHeader, freeCount, pageBit, zeroBits}
-use Rattle.model.specs.Sound.{goodDirectory, owned, ownedPages, inRange, soundTo, sound}
+use Rattle.model.specs.Sound.{goodDirectory, owned, inRange, soundTo, sound}
 
 -- ---- lengths
 
@@ -49,10 +49,6 @@ pub record FactsTo (depth : ℕ) (b : Bytes) : Type 0 where
 
 abbrev pub Facts : Bytes → Type 0
 Facts b = FactsTo (pageCount b) b
-
-pub none-left : T (conditions [])
-unfolding all
-none-left = tt
 
 -- the test "marked exactly if owned"
 abbrev agrees : Bytes → List ℕ → ℕ → Bool
@@ -130,7 +126,7 @@ module _ (depth : ℕ) (b : Bytes) where
               (cons-conditions _ []
                 (occ-all (agrees b (owned depth b 0)) (countFrom 1 (pageCount b - 1)) (λ q m.
                   let r = countFrom-occ 1 (pageCount b - 1) q m in exact-agrees b (owned depth b 0) q (f .exact q (r .0) (omega (arith, r .0, r .1)))))
-                none-left)))))))
+                no-conditions)))))))
 
 pub sound-facts : (b : Bytes) → T (sound b) → Facts b
 unfolding sound

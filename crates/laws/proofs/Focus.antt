@@ -2,34 +2,26 @@
 -- each page has one owner, so the root's row, pages and goodness follow.
 use mathlib.Core.Path.{_≡_, refl, sym, ap, ap₂, _∙_, subst}
 use mathlib.Core.Logic.{_≢_}
-use Prim.Native.Nat.{ℕ, zero, suc, _+_, _≤_, _<_}
+use Prim.Native.Nat.{ℕ, zero, suc, _+_, _≤_}
 use native.Mathlib.Omega.{arith}
-use mathlib.Core.Bool.{Bool, true, false, not}
+use mathlib.Core.Bool.{Bool, true, not}
 use mathlib.Core.Option.{some}
 use mathlib.Core.List.{List, [], _∷_}
 use lib.ListN.{length}
 use lib.Dec.{T}
-use Rattle.volume.specs.Bytes.{Bytes, same, if_then_else_}
+use Rattle.volume.specs.Bytes.{Bytes, same}
 use Rattle.volume.proofs.Occ.{occ, Mem, hit-refl}
-use Rattle.volume.proofs.Tests.{first-found}
+use Rattle.volume.proofs.Tests.{if-yes, if-no, first-found}
 use Rattle.model.specs.Entry.{entries, Entry, vacant, aFile, aDirectory, entryAt}
 use Rattle.model.specs.Sound.{goodEntry, isNamed, sameName, inDirectory, goodDirectory, owned}
 use Rattle.model.specs.Tree.{Row, dir, inside}
 use Rattle.model.specs.Path.{Name}
 use Rattle.model.specs.Image.{entryRow, rowAt}
 use Rattle.model.specs.Walk.{changeAt, entryNamed}
-use Rattle.laws.proofs.Entries.{Within, entry-within, within-page, entry-same}
+use Rattle.laws.proofs.Entries.{entry-within, within-page, entry-same}
 use Rattle.laws.proofs.Owns.{own, own-le, own-two}
 use Rattle.laws.proofs.Frame.{SamePage, SameEntry, entry-frame}
 use Rattle.laws.proofs.Level.{Good, good-split, level-row, level-owned, level-good}
-
-pub if-yes {ℓ} : {A : Type ℓ} (c : Bool) (x y : A) → T c → (if c then x else y) ≡ x
-if-yes true x y h = refl
-if-yes false x y h = absurd h
-
-pub if-no {ℓ} : {A : Type ℓ} (c : Bool) (x y : A) → T (not c) → (if c then x else y) ≡ y
-if-no true x y h = absurd h
-if-no false x y h = refl
 
 -- the entry at position `at` is a directory on page s
 pub record DirectoryAt (b : Bytes) (at s : ℕ) : Type 0 where

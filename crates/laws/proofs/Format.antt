@@ -12,7 +12,7 @@ use Rattle.volume.specs.Bytes.{Bytes, byteAt, bit}
 use Rattle.volume.specs.Lists.{countFrom}
 use Rattle.volume.specs.Geometry as On
 use Rattle.volume.proofs.Occ.{hit, hit-refl, hit-ne, occ, Mem}
-use Rattle.volume.proofs.Tests.{cons-conditions, eq-eqb}
+use Rattle.volume.proofs.Tests.{no-conditions, cons-conditions, eq-eqb}
 use Rattle.volume.proofs.Puts.{put-length, put-in, put-out}
 use Rattle.volume.proofs.Bits.{bit-set}
 use Rattle.model.specs.Layout.{pageCount, validLength, validHeader, pageBit, zeroBits}
@@ -22,7 +22,7 @@ use Rattle.model.specs.Tree.{Row, Tree}
 use Rattle.model.specs.Image.{rowAt, treeOf}
 use Rattle.model.specs.Effect.{formatted}
 use Rattle.model.specs.Meaning.{freshTree}
-use Rattle.laws.proofs.Facts.{valid-sized, FactsTo, facts-sound, none-left}
+use Rattle.laws.proofs.Facts.{valid-sized, FactsTo, facts-sound}
 use Rattle.laws.proofs.Entries.{entry-within}
 use Rattle.laws.proofs.Vacant.{zero-vacant, vacant-row, vacant-owns, vacant-good}
 
@@ -76,7 +76,7 @@ module _ (b : Bytes) (v : T (validLength (length b))) where
   headed : T (validHeader (formatted b))
   unfolding validHeader
   headed = cons-conditions _ _ (eq-eqb (on-header 0 (omega arith))) (cons-conditions _ _ (eq-eqb (on-header 1 (omega arith)))
-      (cons-conditions _ [] (eq-eqb (on-header 2 (omega arith) ∙ ap (λ (n : ℕ). n / 8) (sym pages))) none-left))
+      (cons-conditions _ [] (eq-eqb (on-header 2 (omega arith) ∙ ap (λ (n : ℕ). n / 8) (sym pages))) no-conditions))
 
   pub fresh : T (sound (formatted b)) × (treeOf (formatted b) ≡ freshTree (pageCount b))
   unfolding treeOf entries countFrom

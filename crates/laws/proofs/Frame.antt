@@ -1,16 +1,16 @@
 -- What a directory means, reaches and owns, and whether it is good, hangs on the bytes of its entries and of its owned pages alone, and not
 -- on the depth to which it is read, if that is enough: each is put together from its entries, so it is the same where those are.
-use mathlib.Core.Path.{_≡_, refl, sym, ap, ap₂, _∙_, subst}
+use mathlib.Core.Path.{_≡_, refl, sym, ap, ap₂, _∙_}
 use Prim.Native.Nat.{ℕ, zero, suc, _+_, _*_, _/_, _≤_, _<_}
 use native.Mathlib.Omega.{arith}
-use mathlib.Core.Bool.{Bool, true, false, not, _&&_}
+use mathlib.Core.Bool.{Bool, true, not, _&&_}
 use mathlib.Core.List.{List, [], _∷_, flatMap}
 use lib.ListN.{length, take}
 use lib.Dec.{T, eqb}
 use Rattle.volume.specs.Bytes.{Bytes, byteAt}
 use Rattle.volume.specs.Lists.{all}
 use Rattle.volume.specs.Chain.{chain, beyond}
-use Rattle.volume.proofs.Occ.{occ, Mem, mem-head, mem-tail, hit-refl}
+use Rattle.volume.proofs.Occ.{Mem, mem-head, mem-tail}
 use Rattle.volume.proofs.Tests.{conditions-cons, all-occ}
 use Rattle.volume.proofs.Puts.{part-bytes}
 use Rattle.volume.proofs.Chains.{chain-frame}
@@ -19,9 +19,9 @@ use Rattle.model.specs.Layout.{pagesFor, link}
 use Rattle.model.specs.Name.{legalName}
 use Rattle.model.specs.Entry.{entries, Entry, vacant, aFile, aDirectory, entryAt}
 use Rattle.model.specs.Sound.{pagesOf, goodEntry, sameName, namesApart, inDirectory, goodDirectory, reachedBy, reached, owned}
-use Rattle.model.specs.Tree.{Row, end, free, file, dir}
+use Rattle.model.specs.Tree.{Row, file, dir}
 use Rattle.model.specs.Image.{contentOn, contentOf, entryRow, rowOf, rowAt}
-use Rattle.laws.proofs.Entries.{Within, entry-within, within-page, entry-same}
+use Rattle.laws.proofs.Entries.{entry-within, within-page, entry-same}
 use Rattle.laws.proofs.Owns.{own, owned-entries, own-le, own-length, pages-own}
 
 -- page q has the same bytes in both, but for the header's fields

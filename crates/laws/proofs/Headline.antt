@@ -1,5 +1,5 @@
 -- The theorems. Their statements are in crates/model/specs/Demands.antt; none has a condition that its statement does not show.
-use mathlib.Core.Path.{_≡_, sym, ap, _∙_, subst}
+use mathlib.Core.Path.{sym, ap, _∙_, subst}
 use lib.Dec.{T}
 use Rattle.volume.specs.Bytes.{Bytes}
 use Rattle.model.specs.Sound.{sound}

@@ -1,23 +1,22 @@
 -- One directory of which one entry changes and the others are the same: its row, pages and goodness follow entry by entry.
-use mathlib.Core.Path.{_≡_, refl, sym, ap, ap₂, _∙_, subst}
+use mathlib.Core.Path.{_≡_, refl, sym, ap, _∙_, subst}
 use mathlib.Core.Logic.{_≢_, inl, inr}
-use Prim.Native.Nat.{ℕ, zero, suc, _+_, _≤_}
+use Prim.Native.Nat.{ℕ, suc, _+_}
 use native.Mathlib.Omega.{arith}
 use native.Mathlib.Decide.{ℕ-discrete}
 use mathlib.Core.Bool.{Bool, true, false, not}
 use mathlib.Core.Option.{some, Option·none-ne-some, Option·some-injective}
 use mathlib.Core.List.{List, [], _∷_, flatMap}
-use lib.Dec.{T, T-not, not-T}
-use Rattle.volume.specs.Bytes.{Bytes, same, if_then_else_}
+use lib.Dec.{T, T-not}
+use Rattle.volume.specs.Bytes.{Bytes, if_then_else_}
 use Rattle.volume.specs.Lists.{all, first}
-use Rattle.volume.proofs.Occ.{occ, Mem, Nodup, hit-refl, mem-head, mem-tail, mem-cons, nodup-head, nodup-tail}
-use Rattle.volume.proofs.Tests.{and-both, both-and, conditions-cons, cons-conditions, all-occ, occ-all, first-found, same-sym}
+use Rattle.volume.proofs.Occ.{occ, Mem, Nodup, mem-head, mem-tail, mem-cons, nodup-head, nodup-tail}
+use Rattle.volume.proofs.Tests.{and-both, both-and, no-conditions, conditions-cons, cons-conditions, all-occ, occ-all, first-found, same-sym}
 use Rattle.volume.proofs.Flat.{occ-flatMap-change}
 use Rattle.model.specs.Entry.{entries, Entry, vacant, aFile, aDirectory, entryAt}
 use Rattle.model.specs.Sound.{goodEntry, isNamed, sameName, namesApart, inDirectory, goodDirectory, owned}
 use Rattle.model.specs.Tree.{Row}
 use Rattle.model.specs.Image.{entryRow, rowOf, rowAt}
-use Rattle.laws.proofs.Facts.{none-left}
 use Rattle.laws.proofs.Entries.{nodup-entries}
 use Rattle.laws.proofs.Owns.{own, owned-entries}
 use Rattle.laws.proofs.Frame.{SameEntry, rows-same, same-row, same-own, same-good, same-below}
@@ -87,7 +86,7 @@ good-join d b p g =
     cons-conditions (all (λ at. goodEntry b (entryAt b at)) (entries p)) _ (occ-all (λ at. goodEntry b (entryAt b at)) (entries p) (g .each))
       (cons-conditions (namesApart b (entries p)) _ (apart-join b (entries p) (nodup-entries p) (g .apart))
         (cons-conditions (all (λ at. inDirectory true (goodDirectory d b) (entryAt b at)) (entries p)) []
-          (occ-all (λ at. inDirectory true (goodDirectory d b) (entryAt b at)) (entries p) (g .below)) none-left))
+          (occ-all (λ at. inDirectory true (goodDirectory d b) (entryAt b at)) (entries p) (g .below)) no-conditions))
 
 -- ---- one entry changes
 

@@ -1,9 +1,9 @@
 -- Lists of refusal lines: the first that holds is given, so what stands above a line decides whether it is reached.
-use mathlib.Core.Path.{_≡_, refl, sym, ap, _∙_, subst}
+use mathlib.Core.Path.{_≡_, refl, ap, subst}
 use mathlib.Core.Logic.{_↔_}
 use Prim.Native.Nat.{ℕ, suc}
 use mathlib.Core.Bool.{Bool, true, false, not, true≢false}
-use mathlib.Core.Option.{Option, none, some, Option·some-ne-none}
+use mathlib.Core.Option.{none, some, Option·some-ne-none}
 use mathlib.Core.List.{List, [], _∷_, _++_, map}
 use lib.Dec.{T, eqb, leb}
 use Rattle.volume.specs.Bytes.{if_then_else_}

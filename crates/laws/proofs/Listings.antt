@@ -1,6 +1,6 @@
 -- The listing of input that is no image: one line with the number, since the verdict gives nothing else.
-use mathlib.Core.Path.{_≡_, refl, ap, _∙_}
-use Prim.Native.Nat.{ℕ, _<_}
+use mathlib.Core.Path.{_≡_, ap}
+use Prim.Native.Nat.{_<_}
 use native.Mathlib.Omega.{arith}
 use mathlib.Core.Bool.{not}
 use lib.ListN.{length}
@@ -12,7 +12,7 @@ use Rattle.model.specs.Text.{text}
 use Rattle.model.specs.Call.{verdict, Verdict, refusal, Answer, refused}
 use Rattle.model.specs.Meaning.{lines, answer}
 use Rattle.model.specs.Listing.{digits, listingOf, listing}
-use Rattle.laws.proofs.Facts.{Sized, valid-sized}
+use Rattle.laws.proofs.Facts.{valid-sized}
 use Rattle.laws.proofs.Lines.{settle-holds}
 
 length-refused : (b : Bytes) → T (not (validLength (length b))) → answer verdict b ≡ refused (refusal 1)

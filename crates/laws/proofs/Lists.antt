@@ -1,33 +1,32 @@
 -- Lists of calls: each step keeps the image sound and the tree in step with the replay, so the list does; what a sound image says of its pages
 -- and counts then holds at the end.
-use mathlib.Core.Path.{_≡_, refl, sym, ap, ap₂, _∙_, subst}
-use mathlib.Core.Logic.{_↔_, _≢_, inl, inr}
-use Prim.Native.Nat.{ℕ, zero, suc, _+_, _-_, _*_, _/_, _≤_, _<_}
+use mathlib.Core.Path.{_≡_, refl, sym, ap, _∙_, subst}
+use mathlib.Core.Logic.{inl, inr}
+use Prim.Native.Nat.{ℕ, _≤_, _<_}
 use native.Mathlib.Omega.{arith}
 use mathlib.Core.Bool.{Bool, true, false, not}
-use mathlib.Core.Option.{none, some}
-use mathlib.Core.List.{List, [], _∷_, _++_, flatMap}
+use mathlib.Core.List.{List, [], _∷_, flatMap}
 use lib.ListN.{length}
-use lib.Dec.{T, leb·suc-zero, T-not, not-T}
+use lib.Dec.{T, leb·suc-zero}
 use Rattle.volume.specs.Bytes.{Bytes, if_then_else_}
 use Rattle.volume.specs.Lists.{keep, member}
 use Rattle.volume.proofs.Occ.{occ, occ-append, not-mem}
-use Rattle.volume.proofs.Tests.{member-occ, occ-member}
+use Rattle.volume.proofs.Tests.{not-not, member-occ, occ-member}
 use Rattle.volume.proofs.Marks.{bit-cases}
-use Rattle.model.specs.Layout.{version1, pageCount, validLength, validHeader, freeCount, pageBit, zeroBits}
-use Rattle.model.specs.Sound.{pagesAt, reachedEntries, ownedPages, sound, owners}
-use Rattle.model.specs.Tree.{Tree, needs, freeNumber}
+use Rattle.model.specs.Layout.{version1, pageCount, validLength}
+use Rattle.model.specs.Sound.{pagesAt, reachedEntries, sound, owners}
+use Rattle.model.specs.Tree.{Tree, freeNumber}
 use Rattle.model.specs.Image.{treeOf}
-use Rattle.model.specs.Call.{Call, format, verdict, find, list, read, makeFile, makeDirectory, write, remove, Verdict, Refusal, refusal, Answer, refused, granted}
-use Rattle.model.specs.Refusal.{Line, earlier, later, wanted, refusals, settle, Passes}
-use Rattle.model.specs.Meaning.{told, inParent, freshTree, changed, treeAnswer, treeBuffer, treeAfter, isFormat, brokenLine, lines, effect, answer, after, bufferAfter}
-use Rattle.model.specs.Demands.{Result, Results, Promised, Runs, replay, replayResults, WantOfPages, Owned, isFree, isOwned, Account, Demanded, AsTree}
-use Rattle.laws.proofs.Facts.{Facts, sound-facts, Sized, valid-sized, once}
+use Rattle.model.specs.Call.{Call, format, verdict, find, list, read, makeFile, makeDirectory, write, remove, Verdict, Answer, granted}
+use Rattle.model.specs.Refusal.{earlier, later, wanted, refusals, settle, Passes}
+use Rattle.model.specs.Meaning.{told, inParent, changed, treeAnswer, treeBuffer, treeAfter, isFormat, lines, effect, answer, after, bufferAfter}
+use Rattle.model.specs.Demands.{Results, Promised, Runs, replay, replayResults, Owned, isFree, isOwned, Account, Demanded, AsTree}
+use Rattle.laws.proofs.Facts.{Facts, sound-facts, valid-sized}
 use Rattle.laws.proofs.Counting.{free-sum, free-number}
 use Rattle.laws.proofs.Format.{formatted-length}
 use Rattle.laws.proofs.Grants.{granted-law}
 use Rattle.laws.proofs.Lines.{passed, settle-both}
-use Rattle.laws.proofs.Passed.{not-not, sound-passed}
+use Rattle.laws.proofs.Passed.{sound-passed}
 use Rattle.laws.proofs.Steps.{as-tree, want-of-pages}
 
 -- ---- the owners of a page

@@ -1,39 +1,39 @@
 -- A granted make: the lowest vacant entry of the parent becomes the new one, with the pages gained, so the tree gains it and nothing else changes.
-use mathlib.Core.Path.{_≡_, refl, sym, ap, ap₂, _∙_, subst}
-use mathlib.Core.Logic.{_≢_, inl, inr}
-use Prim.Native.Nat.{ℕ, zero, suc, _+_, _*_, _/_, _%_, _≤_, _<_}
+use mathlib.Core.Path.{_≡_, refl, sym, ap, _∙_, subst}
+use mathlib.Core.Logic.{_≢_}
+use Prim.Native.Nat.{ℕ, zero, suc, _+_, _*_, _/_, _≤_, _<_}
 use native.Mathlib.Omega.{arith}
 use native.Mathlib.Decide.{ℕ-discrete}
-use mathlib.Core.Bool.{Bool, true, false, not, _&&_}
+use mathlib.Core.Bool.{true, not}
 use mathlib.Core.Option.{Option, none, some, Option·getD, Option·map}
-use mathlib.Core.List.{List, [], _∷_, flatMap}
-use lib.ListN.{length, take}
-use lib.Dec.{T, eqb, eqb·suc-zero, T-not, not-T}
-use Rattle.volume.specs.Bytes.{Bytes, byteAt, put, same, if_then_else_}
+use mathlib.Core.List.{List, [], _∷_}
+use lib.ListN.{length}
+use lib.Dec.{T, eqb, eqb·suc-zero, T-not}
+use Rattle.volume.specs.Bytes.{Bytes, byteAt, put, if_then_else_}
 use Rattle.volume.specs.Lists.{first, countFrom}
 use Rattle.volume.specs.Chain.{chain, beyond}
-use Rattle.volume.specs.Field.{Field, byte, load}
+use Rattle.volume.specs.Field.{byte}
 use Rattle.volume.specs.Geometry as On
 use Rattle.volume.proofs.Occ.{occ, Mem, hit-refl, not-mem}
-use Rattle.volume.proofs.Tests.{both-and, first-found, first-none, same-sym, eq-eqb}
+use Rattle.volume.proofs.Tests.{both-and, first-found, first-none, eq-eqb}
 use Rattle.volume.proofs.Puts.{put-in}
 use Rattle.volume.proofs.Grow.{Gained, gained-is, Held}
 use Rattle.volume.proofs.Entries.{Made, made-is}
-use Rattle.model.specs.Layout.{version1, pageCount, pagesFor, freeCount, pageBit, zeroBits, link}
+use Rattle.model.specs.Layout.{version1, pageCount, pagesFor, zeroBits, link}
 use Rattle.model.specs.Name.{legalName}
 use Rattle.model.specs.Entry.{entries, startAt, Entry, vacant, aFile, aDirectory, entryAt, newEntry}
-use Rattle.model.specs.Sound.{pagesOf, goodEntry, isNamed, sameName, inDirectory, goodDirectory, owned, ownedPages, sound}
-use Rattle.model.specs.Tree.{Row, free, file, dir, emptyRow, width, held as heldIn, Node, lookup, fill}
+use Rattle.model.specs.Sound.{pagesOf, goodEntry, isNamed, sameName, inDirectory, goodDirectory, owned, sound}
+use Rattle.model.specs.Tree.{Row, file, dir, emptyRow, width, held as heldIn, Node, lookup, fill}
 use Rattle.model.specs.Path.{Name, below}
 use Rattle.model.specs.Image.{contentOf, entryRow, rowOf, rowAt, treeOf}
-use Rattle.model.specs.Walk.{Walked, arrived, walk, entryNamed, walkOn, arrivedOr, changeAt}
+use Rattle.model.specs.Walk.{Walked, arrived, walk, entryNamed, arrivedOr, changeAt}
 use Rattle.model.specs.Effect.{isVacant, lowestVacant, made, fileMade, directoryMade}
 use Rattle.model.specs.Refusal.{isMissing, isBlocked, isThere}
-use Rattle.laws.proofs.Facts.{Facts, Sized}
-use Rattle.laws.proofs.Entries.{Within, entry-within}
+use Rattle.laws.proofs.Facts.{Facts}
+use Rattle.laws.proofs.Entries.{entry-within}
 use Rattle.laws.proofs.Owns.{own, own-length}
-use Rattle.laws.proofs.Focus.{if-no, named-found, DirectoryAt, Leads, leads-depth}
-use Rattle.laws.proofs.Change.{Change, Balance, Works, changed}
+use Rattle.laws.proofs.Focus.{named-found, Leads, leads-depth}
+use Rattle.laws.proofs.Change.{changed}
 use Rattle.laws.proofs.Counting.{count-owned}
 use Rattle.laws.proofs.Walks.{nodeOf, lookup-named, Parent, parent}
 use Rattle.laws.proofs.Slots.{home, size, lawful, head-kept, rest-kept, header-marked, Slot, slot, held}

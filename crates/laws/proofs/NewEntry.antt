@@ -1,15 +1,14 @@
 -- The 32 bytes that a make writes, read back: each field is where an entry has it.
-use mathlib.Core.Path.{_≡_, refl, sym, ap, ap₂, _∙_, subst}
+use mathlib.Core.Path.{_≡_, sym, ap, _∙_}
 use mathlib.Core.Logic.{_≢_}
-use Prim.Native.Nat.{ℕ, zero, suc, _+_, _*_, _/_, _%_, _≤_, _<_}
+use Prim.Native.Nat.{ℕ, suc, _+_, _/_, _%_, _≤_, _<_}
 use native.Mathlib.Omega.{arith}
-use mathlib.Core.Bool.{Bool, true, false}
-use mathlib.Core.List.{List, [], _∷_, _++_}
+use mathlib.Core.List.{_∷_, _++_}
 use lib.ListN.{length, replicate, length-append, List·getD-append}
 use lib.Seq.{ext-getD, getD-append-add}
 use Rattle.volume.specs.Bytes.{Bytes, byteAt, part, le16}
 use Rattle.volume.proofs.Puts.{byte-part, part-length}
-use Rattle.model.specs.Entry.{nameAt, startAt, sizeAt, dateAt, Entry, aFile, aDirectory, entryAt, newEntry}
+use Rattle.model.specs.Entry.{nameAt, startAt, sizeAt, dateAt, aFile, aDirectory, entryAt, newEntry}
 
 -- a stretch is known by its bytes
 part-is : (s n : ℕ) (b v : Bytes) → s + n ≤ length b → length v ≡ n → ((i : ℕ) → i < n → byteAt b (s + i) ≡ byteAt v i) → part s n b ≡ v

@@ -1,13 +1,13 @@
 -- What a directory owns, entry by entry: its own entries' pages, and below each directory what that one owns.
 use mathlib.Core.Path.{_≡_, refl, sym, ap, _∙_, subst}
-use mathlib.Core.Logic.{_≢_, inl, inr}
-use Prim.Native.Nat.{ℕ, zero, suc, _+_, _≤_}
+use mathlib.Core.Logic.{_≢_}
+use Prim.Native.Nat.{ℕ, suc, _+_, _≤_}
 use native.Mathlib.Omega.{arith}
 use mathlib.Core.List.{List, [], _∷_, _++_, flatMap, append-nil}
-use lib.ListN.{length, length-append}
+use lib.ListN.{length}
 use Rattle.volume.specs.Bytes.{Bytes}
-use Rattle.volume.proofs.Occ.{occ, Mem, mem-cons}
-use Rattle.volume.proofs.Flat.{flatMap-flatMap, flatMap-same, occ-flatMap-le, occ-flatMap-two}
+use Rattle.volume.proofs.Occ.{occ, Mem}
+use Rattle.volume.proofs.Flat.{flatMap-flatMap, flatMap-same, flatMap-length-le, occ-flatMap-le, occ-flatMap-two}
 use Rattle.model.specs.Entry.{entries, Entry, vacant, aFile, aDirectory, entryAt}
 use Rattle.model.specs.Sound.{pagesOf, pagesAt, reachedBy, reached, owned}
 
@@ -39,13 +39,6 @@ pub own-two : (d : ℕ) (b : Bytes) (p x y q : ℕ) → x ≢ y → Mem x (entri
 own-two d b p x y q ne m k =
     subst (λ (l : List ℕ). occ q (own d b (entryAt b x)) + occ q (own d b (entryAt b y)) ≤ occ q l) (sym (owned-entries d b p))
       (occ-flatMap-two (λ x. own d b (entryAt b x)) (entries p) x y q ne m k)
-
-flatMap-length-le : (f : ℕ → List ℕ) (xs : List ℕ) (x : ℕ) → Mem x xs → length (f x) ≤ length (flatMap f xs)
-unfolding flatMap
-flatMap-length-le f [] x m = absurd (omega arith)
-flatMap-length-le f (y ∷ ys) x m = elim (mem-cons x y ys m) [
-    inl e ↦ omega (arith, length-append (f y) (flatMap f ys), ap (λ (z : ℕ). length (f z)) e)
-  | inr k ↦ omega (arith, length-append (f y) (flatMap f ys), flatMap-length-le f ys x k) ]
 
 pub own-length : (d : ℕ) (b : Bytes) (p at : ℕ) → Mem at (entries p) → length (own d b (entryAt b at)) ≤ length (owned (suc d) b p)
 own-length d b p at m =

@@ -8,6 +8,7 @@ use mathlib.Core.List.{List, [], _∷_, _++_}
 use lib.ListN.{length}
 use lib.Dec.{T, eqb, ltb, nltb→le}
 use Rattle.volume.specs.Bytes.{Bytes}
+use Rattle.volume.proofs.Tests.{not-not, if-no}
 use Rattle.model.specs.Layout.{pageCount, pagesFor, zeroBits}
 use Rattle.model.specs.Date.{goodDate}
 use Rattle.model.specs.Sound.{sound}
@@ -19,15 +20,10 @@ use Rattle.model.specs.Call.{Call, write, remove, Refusal}
 use Rattle.model.specs.Refusal.{isMissing, isBlocked, isThere, isDirectoryNode, rowIn, node, size, wanted, makeLines, earlier, later, refusals, Passes}
 use Rattle.model.specs.Meaning.{isFormat, brokenLine, lines}
 use Rattle.laws.proofs.Facts.{Facts}
-use Rattle.laws.proofs.Focus.{if-no}
 use Rattle.laws.proofs.Counting.{free-number}
 use Rattle.laws.proofs.Make.{Clear}
 use Rattle.laws.proofs.Lines.{passed, passes-left}
 use Rattle.laws.proofs.Names.{last-legal, date-length}
-
-pub not-not : (c : Bool) → T (not (not c)) → T c
-not-not true h = tt
-not-not false h = h
 
 pub sound-passed : (c : Call) (b : Bytes) → T (not (isFormat c)) → Passes (lines c b) → T (sound b) × Passes (refusals c (treeOf b))
 unfolding lines

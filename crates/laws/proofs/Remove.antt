@@ -1,31 +1,32 @@
 -- A granted remove: the entry becomes vacant and its pages are given back, so the tree loses it and nothing else changes.
 use mathlib.Core.Path.{_≡_, refl, sym, ap, _∙_, subst}
-use Prim.Native.Nat.{ℕ, zero, suc, _+_, _≤_, _<_}
+use Prim.Native.Nat.{ℕ, zero, suc, _≤_}
 use native.Mathlib.Omega.{arith}
-use mathlib.Core.Bool.{Bool, true, false, not}
+use mathlib.Core.Bool.{true, not}
 use mathlib.Core.Option.{some}
 use mathlib.Core.List.{List, [], _∷_, _++_, foldl, flatMap}
 use lib.ListN.{length, set}
 use lib.Dec.{T}
-use Rattle.volume.specs.Bytes.{Bytes, byteAt, same, if_then_else_}
+use Rattle.volume.specs.Bytes.{Bytes, same}
 use Rattle.volume.specs.Geometry as On
 use Rattle.volume.proofs.Occ.{occ, Mem}
+use Rattle.volume.proofs.Tests.{if-yes, if-no}
 use Rattle.volume.proofs.Entries.{Removed, removed-is}
 use Rattle.model.specs.Layout.{version1, pageCount}
 use Rattle.model.specs.Entry.{entries, Entry, vacant, aFile, aDirectory, entryAt}
 use Rattle.model.specs.Sound.{pagesOf, pagesAt, goodEntry, isNamed, sameName, inDirectory, goodDirectory, reached, owned, sound}
-use Rattle.model.specs.Tree.{Row, free, file, dir, held, Node, vacate}
+use Rattle.model.specs.Tree.{Row, free, held, Node, vacate}
 use Rattle.model.specs.Path.{Name, below}
 use Rattle.model.specs.Image.{entryRow, rowOf, rowAt, treeOf}
-use Rattle.model.specs.Walk.{Walked, arrived, walkTo, entryNamed, arrivedOr, changeAt}
+use Rattle.model.specs.Walk.{arrived, walkTo, entryNamed, changeAt}
 use Rattle.model.specs.Effect.{removed}
 use Rattle.model.specs.Refusal.{isMissing, isBlocked, rowIn}
-use Rattle.laws.proofs.Facts.{Facts, Sized}
+use Rattle.laws.proofs.Facts.{Facts}
 use Rattle.laws.proofs.Owns.{own, owned-entries}
 use Rattle.laws.proofs.Vacant.{zero-vacant}
-use Rattle.laws.proofs.Focus.{if-yes, if-no, named-found}
-use Rattle.laws.proofs.Change.{Change, Balance, Works, changed}
-use Rattle.laws.proofs.Walks.{nodeOf, Parent, Target, target}
+use Rattle.laws.proofs.Focus.{named-found}
+use Rattle.laws.proofs.Change.{Works, changed}
+use Rattle.laws.proofs.Walks.{nodeOf, Target, target}
 use Rattle.laws.proofs.Slots.{home, size, lawful, head-kept, rest-kept, Slot, slot, Owned, entry-owned}
 
 -- ---- a directory that holds nothing owns nothing

@@ -1,18 +1,17 @@
 -- Version 1 is a lawful geometry, and an entry of a reached directory lies in a marked page of the image, its pages marked and owned once.
-use mathlib.Core.Path.{_≡_, refl, sym, ap, _∙_, subst}
+use mathlib.Core.Path.{_≡_, ap, _∙_}
 use mathlib.Core.Logic.{inl, inr}
-use Prim.Native.Nat.{ℕ, zero, suc, _+_, _*_, _/_, _≤_, _<_}
+use Prim.Native.Nat.{ℕ, suc, _+_, _/_, _≤_, _<_}
 use native.Mathlib.Omega.{arith}
-use mathlib.Core.List.{List, [], _∷_}
+use mathlib.Core.List.{List, _∷_}
 use lib.ListN.{length}
-use lib.Dec.{T}
 use Rattle.volume.specs.Bytes.{Bytes}
 use Rattle.volume.proofs.Occ.{occ, Mem, Nodup, hit-refl, hit-ne, mem-cons, not-mem}
 use Rattle.volume.proofs.Lawful.{Kept, Lawful}
 use Rattle.volume.proofs.Grow.{Held}
 use Rattle.model.specs.Layout.{version1, pageCount, pageBit}
-use Rattle.model.specs.Entry.{entries, Entry, entryAt}
-use Rattle.model.specs.Sound.{owned, ownedPages}
+use Rattle.model.specs.Entry.{entries, entryAt}
+use Rattle.model.specs.Sound.{ownedPages}
 use Rattle.model.specs.Path.{Name}
 use Rattle.laws.proofs.Facts.{Facts, once, Sized, valid-sized}
 use Rattle.laws.proofs.Entries.{Within, entry-within, within-page}

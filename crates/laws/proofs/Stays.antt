@@ -1,7 +1,7 @@
 -- Every byte that a call does not name stays: format names page 0, make the count, the bitmap, the new entry and the pages gained, write the count,
 -- the bitmap, the start page and size of the file and its pages, and remove the count, the bitmap and the flags byte.
 use mathlib.Core.Path.{_≡_, refl, sym, ap, _∙_, subst}
-use Prim.Native.Nat.{ℕ, zero, suc, _+_, _-_, _/_, _≤_, _<_, max}
+use Prim.Native.Nat.{ℕ, _+_, _-_, _/_, _≤_, max}
 use native.Mathlib.Omega.{arith}
 use native.Mathlib.Decide.{decLt}
 use mathlib.Core.Bool.{Bool, true, false, not}
@@ -14,17 +14,18 @@ use Rattle.volume.specs.Chain.{chain}
 use Rattle.volume.specs.Geometry as On
 use Rattle.volume.proofs.Occ.{occ}
 use Rattle.volume.proofs.Lawful.{Kept}
+use Rattle.volume.proofs.Tests.{not-not}
 use Rattle.volume.proofs.Chains.{chain-length}
 use Rattle.model.specs.Layout.{version1, pageCount, pagesFor, validLength, zeroBits, link}
-use Rattle.model.specs.Entry.{startAt, sizeAt, Entry, entryAt, newEntry}
-use Rattle.model.specs.Sound.{pagesAt, sound}
-use Rattle.model.specs.Tree.{Row, held, Node}
-use Rattle.model.specs.Path.{Name, Path, below, pathOf}
+use Rattle.model.specs.Entry.{startAt, sizeAt, entryAt}
+use Rattle.model.specs.Sound.{pagesAt}
+use Rattle.model.specs.Tree.{Node}
+use Rattle.model.specs.Path.{Path, below, pathOf}
 use Rattle.model.specs.Image.{rowAt, treeOf}
 use Rattle.model.specs.Walk.{Walked, arrivedOr, parentPage, entryPosition}
 use Rattle.model.specs.Effect.{lowestVacant, made, rewritten, written, removed}
 use Rattle.model.specs.Call.{Call, format, verdict, find, list, read, makeFile, makeDirectory, write, remove, refusal}
-use Rattle.model.specs.Refusal.{isDirectoryNode, contentIn, rowIn, node, size, wanted, earlier, later, refusals, Passes}
+use Rattle.model.specs.Refusal.{isDirectoryNode, contentIn, node, size, wanted, earlier, later, refusals, Passes}
 use Rattle.model.specs.Meaning.{isFormat, lines, effect, after}
 use Rattle.laws.proofs.Facts.{Facts, sound-facts}
 use Rattle.laws.proofs.Focus.{named-found}
@@ -36,7 +37,7 @@ use Rattle.laws.proofs.Make.{Place, place-of, madeAt, made-bytes, made-
 use Rattle.laws.proofs.Write.{isFileEntry, node-file, file-pages, file-content, file-size, rewritten-is, write-bytes}
 use Rattle.laws.proofs.Remove.{removed-bytes}
 use Rattle.laws.proofs.Lines.{passed, settle-both}
-use Rattle.laws.proofs.Passed.{Makes, Writes, Removes, not-not, sound-passed, make-passed, write-passed, remove-passed}
+use Rattle.laws.proofs.Passed.{Makes, Writes, Removes, sound-passed, make-passed, write-passed, remove-passed}
 
 -- byte i is none of the header's bytes 3 to 35, none of the n bytes from position `at` on, and none of these pages'
 pub record Outside (at n : ℕ) (pages : List ℕ) (i : ℕ) : Type 0 where

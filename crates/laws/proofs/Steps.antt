@@ -2,15 +2,15 @@
 -- number of the table and changes nothing.
 use mathlib.Core.Path.{_≡_, refl, sym, ap, _∙_, subst}
 use mathlib.Core.Logic.{_↔_, _≢_}
-use Prim.Native.Nat.{ℕ, zero, suc, _+_, _≤_, _<_}
+use Prim.Native.Nat.{_<_}
 use native.Mathlib.Omega.{arith}
 use mathlib.Core.Bool.{Bool, true, false, not}
-use mathlib.Core.List.{List, [], _∷_, _++_, map}
+use mathlib.Core.List.{List, [], _∷_, _++_}
 use lib.ListN.{length}
 use lib.Dec.{T, ltb, leb·suc-zero, ltb→lt, lt→ltb}
 use Rattle.volume.specs.Bytes.{Bytes, same, if_then_else_}
 use Rattle.volume.specs.Lists.{all, any}
-use Rattle.volume.proofs.Tests.{same-true}
+use Rattle.volume.proofs.Tests.{not-not-of, same-true}
 use Rattle.model.specs.Layout.{pageCount, validLength, validHeader}
 use Rattle.model.specs.Sound.{sound}
 use Rattle.model.specs.Tree.{Tree, freeNumber}
@@ -20,17 +20,13 @@ use Rattle.model.specs.Call.{Call, format, verdict, find, list, read, makeFile,
 use Rattle.model.specs.Refusal.{Line, wanted, makeLines, earlier, later, refusals, settle, Passes, tableOrder}
 use Rattle.model.specs.Meaning.{freshTree, told, filled, changed, treeAnswer, treeBuffer, treeAfter, isFormat, isBroken, brokenLine, lines, effect, answer, after, bufferAfter}
 use Rattle.model.specs.Demands.{Untouched, Unsound, AsTree}
-use Rattle.laws.proofs.Facts.{Facts, sound-facts}
+use Rattle.laws.proofs.Facts.{sound-facts}
 use Rattle.laws.proofs.Broken.{never-broken}
 use Rattle.laws.proofs.Format.{fresh}
 use Rattle.laws.proofs.Grants.{granted-law}
 use Rattle.laws.proofs.Lines.{settle-skip, settle-append, settle-both, settle-refused, Numbered, refused-numbered, NoTen, ten-given, rankIn, rising, InOrder}
 
 -- ---- on a sound image only the plain tree's lines count
-
-not-not : (c : Bool) → T c → T (not (not c))
-not-not true h = tt
-not-not false h = h
 
 module _ {A : Type 0} (b : Bytes) (h : T (sound b)) (f : Refusal → A) (x : A) where
   broken-skip : (c : Call) → settle (brokenLine c b) f x ≡ x
@@ -51,8 +47,8 @@ module _ {A : Type 0} (b : Bytes) (h : T (sound b)) (f : Refusal → A) (x : A) 
 
   judged : (c : Call) → settle ((not (validHeader b), refusal 2) ∷ (not (sound b), refusal 3) ∷ (refusals c (treeOf b) ++ brokenLine c b)) f x ≡ settle (refusals c (treeOf b)) f x
   judged c =
-      settle-skip f (not (validHeader b)) (refusal 2) ((not (sound b), refusal 3) ∷ (refusals c (treeOf b) ++ brokenLine c b)) x (not-not (validHeader b) (sound-facts b h .headed))
-      ∙ settle-skip f (not (sound b)) (refusal 3) (refusals c (treeOf b) ++ brokenLine c b) x (not-not (sound b) h)
+      settle-skip f (not (validHeader b)) (refusal 2) ((not (sound b), refusal 3) ∷ (refusals c (treeOf b) ++ brokenLine c b)) x (not-not-of (validHeader b) (sound-facts b h .headed))
+      ∙ settle-skip f (not (sound b)) (refusal 3) (refusals c (treeOf b) ++ brokenLine c b) x (not-not-of (sound b) h)
       ∙ settle-append f (refusals c (treeOf b)) (brokenLine c b) x
       ∙ ap (settle (refusals c (treeOf b)) f) (broken-skip c)
 
@@ -70,7 +66,7 @@ module _ {A : Type 0} (b : Bytes) (h : T (sound b)) (f : Refusal → A) (x : A) 
 
   pub settled : (c : Call) → settle (lines c b) f x ≡ settle (refusals c (treeOf b)) f x
   unfolding lines
-  settled c = settle-skip f (not (validLength (length b))) (refusal 1) (rest c) x (not-not (validLength (length b)) (sound-facts b h .fits)) ∙ by-call c
+  settled c = settle-skip f (not (validLength (length b))) (refusal 1) (rest c) x (not-not-of (validLength (length b)) (sound-facts b h .fits)) ∙ by-call c
 
 -- ---- a call on a sound image
 
@@ -179,7 +175,7 @@ pub after-format : (b : Bytes) → T (validLength (length b)) → T (sound (afte
 unfolding after lines isFormat settle effect
 after-format b v =
     subst (λ (b′ : Bytes). T (sound b′) × (treeOf b′ ≡ freshTree (pageCount b)))
-      (sym (settle-skip (λ f. b) (not (validLength (length b))) (refusal 1) [] (effect format b) (not-not (validLength (length b)) v))) (fresh b v)
+      (sym (settle-skip (λ f. b) (not (validLength (length b))) (refusal 1) [] (effect format b) (not-not-of (validLength (length b)) v))) (fresh b v)
 
 pub names-apart : (n m : Bytes) → n ≢ m → same n m ≡ false
 names-apart n m h = go (same n m) (same-true n m)

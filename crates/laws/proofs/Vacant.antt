@@ -1,8 +1,7 @@
 -- A directory whose entries are all vacant: its row is empty, it owns nothing, and it is good.
 use mathlib.Core.Path.{_≡_, refl, sym, ap, _∙_, subst}
-use Prim.Native.Nat.{ℕ, zero, suc, _+_, _/_, _≤_}
-use native.Mathlib.Omega.{arith}
-use mathlib.Core.Bool.{Bool, true, not}
+use Prim.Native.Nat.{ℕ, suc}
+use mathlib.Core.Bool.{true, not}
 use mathlib.Core.List.{List, [], _∷_, _++_, flatMap}
 use lib.ListN.{length}
 use lib.Dec.{T}
@@ -10,10 +9,10 @@ use Rattle.volume.specs.Bytes.{Bytes, byteAt}
 use Rattle.volume.proofs.Occ.{Mem, mem-head, mem-tail}
 use Rattle.model.specs.Entry.{entries, Entry, vacant, entryAt}
 use Rattle.model.specs.Sound.{goodEntry, sameName, inDirectory, goodDirectory, owned}
-use Rattle.model.specs.Tree.{Row, end, free, emptyRow}
+use Rattle.model.specs.Tree.{Row, free, emptyRow}
 use Rattle.model.specs.Image.{entryRow, rowOf, rowAt}
 use Rattle.laws.proofs.Owns.{own, owned-entries}
-use Rattle.laws.proofs.Level.{Good, good-join}
+use Rattle.laws.proofs.Level.{good-join}
 
 -- an entry whose flags byte is 0
 pub zero-vacant : (b : Bytes) (at : ℕ) → byteAt b at ≡ 0 → entryAt b at ≡ vacant

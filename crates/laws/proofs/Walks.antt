@@ -1,16 +1,14 @@
 -- The walk on the bytes leads where the walk on the tree leads, or stops at the same name: in each directory the entry that has the name is
 -- the first of its row that has it.
-use mathlib.Core.Path.{_≡_, refl, sym, ap, ap₂, _∙_, subst}
-use Prim.Native.Nat.{ℕ, zero, suc, _+_, _≤_, _<_}
+use mathlib.Core.Path.{_≡_, refl, sym, ap, _∙_, subst}
+use Prim.Native.Nat.{ℕ, zero, suc}
 use native.Mathlib.Omega.{arith}
 use mathlib.Core.Bool.{Bool, true, false, not}
 use mathlib.Core.Option.{Option, none, some, Option·getD, Option·map}
 use mathlib.Core.List.{List, [], _∷_}
-use lib.ListN.{length}
 use lib.Dec.{T}
 use Rattle.volume.specs.Bytes.{Bytes, if_then_else_}
 use Rattle.volume.specs.Lists.{first}
-use Rattle.volume.proofs.Occ.{Mem}
 use Rattle.model.specs.Layout.{pageCount}
 use Rattle.model.specs.Entry.{entries, Entry, vacant, aFile, aDirectory, entryAt}
 use Rattle.model.specs.Sound.{pagesOf, isNamed, inDirectory, goodDirectory}
@@ -20,7 +18,7 @@ use Rattle.model.specs.Image.{contentOf, entryRow, rowOf, rowAt, treeOf}
 use Rattle.model.specs.Walk.{Walked, arrived, missing, blocked, enter, walk, nodeNamed, inWalked, walkTo, entryNamed, enterOn, walkOn, arrivedOr}
 use Rattle.model.specs.Refusal.{isMissing, isBlocked}
 use Rattle.laws.proofs.Facts.{Facts}
-use Rattle.laws.proofs.Frame.{SameDirectory, depth, good-below}
+use Rattle.laws.proofs.Frame.{depth, good-below}
 use Rattle.laws.proofs.Focus.{DirectoryAt, Leads, named-found, leads-depth}
 
 -- ---- a name in a row

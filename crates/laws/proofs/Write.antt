@@ -1,11 +1,10 @@
 -- A granted write: the file keeps its pages and gains those wanted, nobody else's change, and the content along them is the old with the new
 -- bytes put at their place; so the tree's file has these bytes and nothing else changes.
 use mathlib.Core.Path.{_≡_, refl, sym, ap, ap₂, _∙_, subst}
-use mathlib.Core.Logic.{_≢_, inl, inr}
-use Prim.Native.Nat.{ℕ, zero, suc, _+_, _-_, _*_, _/_, _%_, _≤_, _<_, max}
+use mathlib.Core.Logic.{inl, inr}
+use Prim.Native.Nat.{ℕ, suc, _+_, _-_, _*_, _/_, _%_, _≤_, _<_, max}
 use native.Mathlib.Omega.{arith}
-use mathlib.Core.Bool.{Bool, true, false, not, _&&_}
-use mathlib.Core.Option.{some}
+use mathlib.Core.Bool.{Bool, true, false, not}
 use mathlib.Core.List.{List, [], _∷_, _++_, flatMap}
 use lib.ListN.{length, length-append, take}
 use lib.Dec.{T, eqb, eqb→eq}
@@ -14,31 +13,31 @@ use Rattle.volume.specs.Chain.{chain, beyond}
 use Rattle.volume.specs.Field.{byte}
 use Rattle.volume.specs.Geometry as On
 use Rattle.volume.proofs.Occ.{occ, Mem, occ-append, mem-or-not, not-mem}
-use Rattle.volume.proofs.Tests.{and-both, both-and, eq-eqb}
+use Rattle.volume.proofs.Tests.{and-both, both-and, if-yes, if-no, eq-eqb}
 use Rattle.volume.proofs.Splice.{splice-nil}
 use Rattle.volume.proofs.Puts.{part-bytes}
 use Rattle.volume.proofs.Chains.{chain-length}
-use Rattle.volume.proofs.Grow.{Gained, gained-is, Held}
+use Rattle.volume.proofs.Grow.{Gained, gained-is}
 use Rattle.volume.proofs.Longer.{Chained}
 use Rattle.volume.proofs.Writes.{Beside, Written, written-is}
-use Rattle.model.specs.Layout.{version1, pageCount, pagesFor, freeCount, pageBit, zeroBits, link}
+use Rattle.model.specs.Layout.{version1, pageCount, pagesFor, zeroBits, link}
 use Rattle.model.specs.Name.{legalName}
-use Rattle.model.specs.Entry.{entries, flags, occupied, isDirectory, nameAt, startAt, sizeAt, dateAt, Entry, vacant, aFile, aDirectory, entryAt}
-use Rattle.model.specs.Sound.{pagesOf, pagesAt, goodEntry, isNamed, sameName, inDirectory, goodDirectory, owned, ownedPages, sound}
-use Rattle.model.specs.Tree.{Row, file, dir, Node, fileNode, directoryNode, rewrite}
+use Rattle.model.specs.Entry.{entries, occupied, isDirectory, nameAt, startAt, sizeAt, dateAt, Entry, vacant, aFile, aDirectory, entryAt}
+use Rattle.model.specs.Sound.{pagesOf, pagesAt, goodEntry, isNamed, sameName, inDirectory, goodDirectory, sound}
+use Rattle.model.specs.Tree.{Row, file, Node, rewrite}
 use Rattle.model.specs.Path.{Name, below}
 use Rattle.model.specs.Image.{contentOn, contentOf, entryRow, rowAt, treeOf}
-use Rattle.model.specs.Walk.{Walked, arrived, walkTo, entryNamed, changeAt, entryPosition}
+use Rattle.model.specs.Walk.{arrived, walkTo, entryNamed, changeAt, entryPosition}
 use Rattle.model.specs.Effect.{rewritten, written}
 use Rattle.model.specs.Refusal.{isMissing, isBlocked, isDirectoryNode, contentIn}
-use Rattle.laws.proofs.Facts.{Facts, Sized}
-use Rattle.laws.proofs.Entries.{Within, within-page}
+use Rattle.laws.proofs.Facts.{Facts}
+use Rattle.laws.proofs.Entries.{within-page}
 use Rattle.laws.proofs.Owns.{own}
-use Rattle.laws.proofs.Focus.{if-yes, if-no, named-found}
+use Rattle.laws.proofs.Focus.{named-found}
 use Rattle.laws.proofs.Level.{Good, good-split}
-use Rattle.laws.proofs.Change.{Change, Balance, Works, changed}
-use Rattle.laws.proofs.Counting.{fill-up, content-length, InImage}
-use Rattle.laws.proofs.Walks.{nodeOf, Parent, Target, target}
+use Rattle.laws.proofs.Change.{Works, changed}
+use Rattle.laws.proofs.Counting.{fill-up, content-length}
+use Rattle.laws.proofs.Walks.{nodeOf, Target, target}
 use Rattle.laws.proofs.Slots.{home, size, lawful, head-kept, rest-kept, header-marked, Slot, slot, held, Owned, entry-owned, entry-apart}
 
 -- ---- the entry of a file

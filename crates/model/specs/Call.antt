@@ -1,6 +1,6 @@
 -- Document 01, "What the delivery holds" and "The plain tree": the calls with their arguments, and what each answers.
 use Prim.Native.Nat.{ℕ}
-use mathlib.Core.List.{List, [], _∷_}
+use mathlib.Core.List.{[]}
 use Rattle.volume.specs.Bytes.{Bytes}
 
 -- A path, a date and what a write writes are bytes. A read's last argument is what the reader's buffer holds beforehand.

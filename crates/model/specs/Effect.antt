@@ -2,14 +2,14 @@
 use Prim.Native.Nat.{ℕ, _+_, _-_, _/_, max}
 use mathlib.Core.Bool.{Bool, true, false}
 use mathlib.Core.Option.{Option·getD}
-use mathlib.Core.List.{List, [], _∷_, foldl}
+use mathlib.Core.List.{_∷_, foldl}
 use lib.ListN.{length, set, replicate}
 use lib.Dec.{eqb}
 use Rattle.volume.specs.Bytes.{Bytes, put, le16, if_then_else_}
 use Rattle.volume.specs.Lists.{first}
 use Rattle.volume.specs.Field.{byte}
 use Rattle.volume.specs.Geometry as On
-use Rattle.model.specs.Layout.{version1, pageSize, pageCount, pagesFor}
+use Rattle.model.specs.Layout.{version1, pageCount, pagesFor}
 use Rattle.model.specs.Entry.{entries, Entry, vacant, aFile, aDirectory, entryAt, sizeAt, newEntry}
 use Rattle.model.specs.Sound.{pagesAt}
 use Rattle.model.specs.Path.{Path, lastName}

@@ -1,7 +1,7 @@
 -- Document 01, "A slot" (000, "Directory and entry structure"): directories and the fields of an entry.
 use Prim.Native.Nat.{ℕ, _+_, _*_}
-use mathlib.Core.Bool.{Bool, true, false}
-use mathlib.Core.List.{List, [], _∷_, _++_, map}
+use mathlib.Core.Bool.{Bool}
+use mathlib.Core.List.{List, _∷_, _++_, map}
 use lib.ListN.{replicate}
 use lib.Dec.{eqb}
 use Rattle.volume.specs.Bytes.{Bytes, byteAt, part, le16, bit, if_then_else_}

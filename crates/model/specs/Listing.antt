@@ -1,7 +1,6 @@
 -- Document 01, "At the bench": the listing. Entries go in order, a directory's contents directly after it; each line ends in one newline.
 use Prim.Native.Nat.{ℕ, zero, suc, _+_, _/_, _%_}
-use mathlib.Core.Bool.{Bool, true, false}
-use mathlib.Core.List.{List, [], _∷_, _++_}
+use mathlib.Core.List.{[], _∷_, _++_}
 use lib.ListN.{length}
 use lib.Dec.{ltb}
 use Rattle.volume.specs.Bytes.{Bytes, if_then_else_}

@@ -13,7 +13,7 @@ use Rattle.model.specs.Path.{Path, pathOf, parents, lastName}
 use Rattle.model.specs.Image.{treeOf}
 use Rattle.model.specs.Walk.{changeAt, entryPosition}
 use Rattle.model.specs.Effect.{formatted, fileMade, directoryMade, written, removed}
-use Rattle.model.specs.Call.{Call, format, verdict, find, list, read, makeFile, makeDirectory, write, remove, Kind, isFile, isDirectory, Verdict, Found, Listed, empty, holds, Told, bufferBefore, Refusal, refusal, Answer, refused, granted}
+use Rattle.model.specs.Call.{Call, format, verdict, find, list, read, makeFile, makeDirectory, write, remove, isFile, isDirectory, Found, Listed, empty, holds, Told, bufferBefore, refusal, Answer, refused, granted}
 use Rattle.model.specs.Refusal.{Line, refusals, settle, node, directoryRow, contentIn}
 
 -- ---- on the plain tree

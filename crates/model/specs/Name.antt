@@ -2,7 +2,7 @@
 -- Every byte counts, so case does, and every leading zero; "." and ".." are ordinary names.
 use Prim.Native.Nat.{ℕ, _-_}
 use mathlib.Core.Bool.{Bool, true, false, not, _&&_}
-use mathlib.Core.List.{List, [], _∷_, _++_}
+use mathlib.Core.List.{[], _∷_, _++_}
 use lib.ListN.{length, replicate}
 use lib.Dec.{eqb, leb}
 use Rattle.volume.specs.Bytes.{Bytes, if_then_else_}

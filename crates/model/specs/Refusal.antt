@@ -10,7 +10,7 @@ use lib.Dec.{eqb, leb, ltb}
 use Rattle.volume.specs.Bytes.{Bytes, if_then_else_}
 use Rattle.model.specs.Layout.{pagesFor}
 use Rattle.model.specs.Date.{goodDate}
-use Rattle.model.specs.Path.{Path, pathOf, isNoPath, isRoot, parents, names, lastName}
+use Rattle.model.specs.Path.{pathOf, isNoPath, isRoot, parents, names, lastName}
 use Rattle.model.specs.Tree.{Row, end, Tree, width, held, freeNumber, Node, fileNode, directoryNode, lookup}
 use Rattle.model.specs.Walk.{Walked, arrived, missing, blocked, walk, walkTo, arrivedOr}
 use Rattle.model.specs.Call.{Call, format, verdict, find, list, read, makeFile, makeDirectory, write, remove, Refusal, refusal, refusalAt}

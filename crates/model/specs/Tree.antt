@@ -1,6 +1,5 @@
 -- Document 01, "The plain tree". It knows no page numbers, but N stands beside it.
 use Prim.Native.Nat.{ℕ, zero, suc, _+_, _-_}
-use mathlib.Core.Bool.{Bool, true, false}
 use mathlib.Core.Option.{Option, none, some}
 use lib.ListN.{length}
 use Rattle.volume.specs.Bytes.{Bytes, same, if_then_else_}

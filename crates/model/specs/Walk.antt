@@ -1,7 +1,6 @@
 -- Document 01, "The plain tree": the path is walked with a state that takes one name and yields the next place. The walk on the tree, and
 -- the walk on the bytes, which says where make, write and remove work. Law `walk-bytes`: they lead to the same place or stop at the same name.
 use Prim.Native.Nat.{ℕ}
-use mathlib.Core.Bool.{Bool, true, false}
 use mathlib.Core.Option.{Option, none, some, Option·getD, Option·map}
 use mathlib.Core.List.{List, [], _∷_}
 use lib.ListN.{replicate}
@@ -9,7 +8,7 @@ use Rattle.volume.specs.Bytes.{Bytes}
 use Rattle.volume.specs.Lists.{first}
 use Rattle.model.specs.Entry.{entries, Entry, vacant, aFile, aDirectory, entryAt}
 use Rattle.model.specs.Sound.{isNamed}
-use Rattle.model.specs.Tree.{Row, end, Node, fileNode, directoryNode, lookup, inside}
+use Rattle.model.specs.Tree.{Row, Node, fileNode, directoryNode, lookup, inside}
 use Rattle.model.specs.Path.{Name, Path, noPath, root, below, parents, lastName}
 
 -- Where a walk leads: to a place, or to a name that isn't in its directory, or to a file's name where it needs a directory;

@@ -4,12 +4,12 @@ use mathlib.Core.Path.{_≡_, refl}
 use Prim.Native.Nat.{ℕ, _+_, _*_}
 use mathlib.Core.Bool.{Bool, true, false}
 use mathlib.Core.List.{List, [], _∷_, _++_, map}
-use lib.ListN.{replicate, length}
-use Rattle.volume.specs.Bytes.{Bytes, byteAt, part, bit, le16, same}
+use lib.ListN.{replicate}
+use Rattle.volume.specs.Bytes.{Bytes, byteAt, le16, same}
 use Rattle.volume.specs.Lists.{all, any, keep, lastOr, distinct, countFrom, first}
 use Rattle.volume.specs.Field.{byte, pair}
 use Rattle.volume.specs.Chain.{chain, beyond, spread}
-use Rattle.volume.specs.Geometry.{Geometry, contentOn, next, freeCount, pageBit, zeroBits, lowestFree, mark, unmark, taken, released, grown, gained, jointOf, written}
+use Rattle.volume.specs.Geometry.{Geometry, next, pageBit, zeroBits, lowestFree, mark, unmark, taken, released, grown, gained, jointOf, written}
 
 -- byte 1 is the count and byte 2 the bitmap; pages 0, 1 and 3 are taken, and page 1 is a chain of its own
 links-on-pages : Geometry

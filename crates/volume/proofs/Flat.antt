@@ -87,3 +87,11 @@ occ-flatMap-change f g (x ∷ xs) at q d m h = elim (mem-cons at x xs m) [
         occ-append q (g x) (flatMap g xs),
       )
 ]
+
+-- one element's list is no longer than all together
+pub flatMap-length-le : (f : ℕ → List ℕ) (xs : List ℕ) (x : ℕ) → 1 ≤ occ x xs → length (f x) ≤ length (flatMap f xs)
+unfolding flatMap
+flatMap-length-le f [] x m = absurd (omega arith)
+flatMap-length-le f (y ∷ ys) x m = elim (mem-cons x y ys m) [
+    inl e ↦ omega (arith, length-append (f y) (flatMap f ys), ap (λ (z : ℕ). length (f z)) e)
+  | inr k ↦ omega (arith, length-append (f y) (flatMap f ys), flatMap-length-le f ys x k) ]

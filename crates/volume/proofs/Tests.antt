@@ -21,6 +21,26 @@ pub both-and : (a b : Bool) → T a → T b → T (a && b)
 both-and true b h k = k
 both-and false b h k = absurd h
 
+pub not-not : (c : Bool) → T (not (not c)) → T c
+not-not true h = tt
+not-not false h = h
+
+pub not-not-of : (c : Bool) → T c → T (not (not c))
+not-not-of true h = tt
+not-not-of false h = h
+
+pub if-yes {ℓ} : {A : Type ℓ} (c : Bool) (x y : A) → T c → (if c then x else y) ≡ x
+if-yes true x y h = refl
+if-yes false x y h = absurd h
+
+pub if-no {ℓ} : {A : Type ℓ} (c : Bool) (x y : A) → T (not c) → (if c then x else y) ≡ y
+if-no true x y h = absurd h
+if-no false x y h = refl
+
+pub no-conditions : T (conditions [])
+unfolding all
+no-conditions = tt
+
 pub conditions-cons : (c : Bool) (cs : List Bool) → T (conditions (c ∷ cs)) → T c × T (conditions cs)
 unfolding all
 conditions-cons c cs h = and-both c (conditions cs) h

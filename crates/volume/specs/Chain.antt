@@ -1,8 +1,7 @@
 -- Chains of pages, over the link of a page and the room on it. Nothing here knows where an image keeps them.
 use Prim.Native.Nat.{ℕ, zero, suc, _+_, _-_}
-use mathlib.Core.Bool.{Bool, true, false}
 use mathlib.Core.List.{List, [], _∷_}
-use lib.ListN.{length, take, drop}
+use lib.ListN.{take, drop}
 use lib.Dec.{ltb}
 use Rattle.volume.specs.Bytes.{Bytes, put, if_then_else_}
 

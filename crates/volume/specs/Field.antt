@@ -1,5 +1,5 @@
 -- A number that stands in an image: in one byte, or in two with the low one first.
-use Prim.Native.Nat.{ℕ, _+_, _*_, _/_, _%_, _≤_}
+use Prim.Native.Nat.{ℕ, _+_, _*_, _/_, _%_}
 use lib.ListN.{set}
 use Rattle.volume.specs.Bytes.{Bytes, byteAt}
 
