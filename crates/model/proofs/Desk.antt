@@ -4,7 +4,7 @@ use mathlib.Core.List.{[], _∷_, _++_, map}
 use lib.ListN.{replicate}
 use Rattle.volume.specs.Bytes.{Bytes, part, put}
 use Rattle.volume.specs.Lists.{upTo}
-use Rattle.model.specs.Call.{Kind, Found, Listed, holds, no, noAt, Answer, refused, granted}
+use Rattle.model.specs.Call.{Kind, Found, Listed, holds, refusal as number, refusalAt as numberAt, Answer, refused, granted}
 use Rattle.model.specs.Text.{text}
 use Rattle.model.proofs.Table.{date}
 
@@ -26,10 +26,10 @@ content n = map (λ i. i % 251) (upTo n)
 -- ---- answers
 
 abbrev pub refusal : {A : Type 0} → ℕ → Answer A
-refusal n = refused (no n)
+refusal n = refused (number n)
 
 abbrev pub refusalAt : {A : Type 0} → (number byte : ℕ) → Answer A
-refusalAt n i = refused (noAt n i)
+refusalAt n i = refused (numberAt n i)
 
 abbrev pub found : Kind → ℕ → Bytes → Answer Found
 found kind size date = granted (record { kind = kind; size = size; date = date })

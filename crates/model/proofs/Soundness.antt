@@ -1,7 +1,7 @@
 -- The facts of a sound image one by one: an image that lacks just that fact, and what the judge finds first in it. And what does not count.
 use mathlib.Core.Path.{refl}
 use Prim.Native.Nat.{ℕ}
-use mathlib.Core.List.{List, [], _∷_, _++_, map}
+use mathlib.Core.List.{List, [], _∷_, _++_, map, foldl}
 use lib.ListN.{replicate, set}
 use Rattle.volume.specs.Bytes.{Bytes, part, put}
 use Rattle.volume.specs.Lists.{upTo}
@@ -20,9 +20,9 @@ judging = tt
 abbrev unsound : Bytes → Fault → Case
 unsound b f = shown b (verdict gives refusal 3 ∷ []) judge (fault f)
 
--- sound, with so many free pages; the judge meets these pages, the last one first
+-- sound, with so many free pages; the judge marks these pages of 8
 abbrev sound : Bytes → ℕ → List ℕ → Case
-sound b free pages = shown b (verdict gives sized 8 free ∷ []) judge (clean pages)
+sound b free pages = shown b (verdict gives sized 8 free ∷ []) judge (clean (foldl (λ marks p. set marks p 1) (replicate 8 0) pages))
 
 -- a directory on page 1, and an empty file
 box : Bytes
