@@ -218,8 +218,14 @@ makes =
         ∷ makeDirectory (text "/A/B") day1 gives refusal 8
         ∷ makeDirectory (text "/A/C") day1 gives refusal 10
         ∷ write (text "/D") 0 (1 ∷ []) gives refusal 10
+        -- what wants no page is not refused
+        ∷ find (text "/D") gives found isFile 0 day2
+        ∷ list (text "/") 4 gives entry isFile (text "E" ++ replicate 15 0) 0 day3
+        ∷ reads (text "/C") 509 (9 ∷ 9 ∷ []) 1 (1 ∷ 9 ∷ [])
+        ∷ write (text "/C") 509 (1 ∷ []) gives done
         ∷ [])
         whole full
+    ∷ answered full (remove (text "/D") gives done ∷ remove (text "/C") gives done ∷ verdict gives sized 8 2 ∷ [])
     -- an empty file wants no page; /A has 8 entries
     ∷ answered full (
         makeFile (text "/A/C") day1 gives done

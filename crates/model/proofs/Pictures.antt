@@ -12,7 +12,7 @@ use Rattle.model.specs.Text.{text}
 use Rattle.model.specs.Listing.{digits, line, rowLines, treeLines, listingOf, listing}
 use Rattle.model.proofs.Run.{computing, Step, calls, given, Case, _gives_, reads, done, sized, shown, Hold, computed, stated, hold}
 use Rattle.model.proofs.Table.{blank, newFile, newDirectory}
-use Rattle.model.proofs.Desk.{day1, day2, day3, content, refusal, refusalAt, fresh, desk}
+use Rattle.model.proofs.Desk.{day1, day2, day3, content, refusal, refusalAt, fresh, desk, full}
 
 unfoldable pub replaying : Unit {0}
 unfolding fill rewrite vacate inside changeAt inParent changed treeAnswer treeBuffer treeAfter replay replayResults
@@ -62,11 +62,11 @@ trees =
     ∷ shown fresh deskSteps treeOf deskTree
     ∷ shown fresh [] (λ b. replay (calls deskSteps) (treeOf b)) deskTree
     ∷ shown fresh [] (λ b. replayResults (calls deskSteps) (treeOf b)) (given deskSteps)
-    ∷ shown desk [] (λ b. replay (format ∷ []) (treeOf b)) (record { pages = 8; root = free (free (free (free (free (free end))))) })
+    ∷ shown full [] (λ b. replay (format ∷ []) (treeOf b)) (record { pages = 8; root = free (free (free (free (free (free end))))) })
     ∷ []
 
 pub trees-hold : Hold trees
-unfolding computing replaying computed stated trees deskSteps deskTree desk fresh
+unfolding computing replaying computed stated trees deskSteps deskTree desk full fresh
 trees-hold = hold trees refl
 
 -- ---- listings

@@ -1,19 +1,22 @@
 -- The facts of a sound image one by one: an image that lacks just that fact, and what the judge finds first in it. And what does not count.
 use mathlib.Core.Path.{refl}
 use Prim.Native.Nat.{ℕ}
+use mathlib.Core.Bool.{true, false}
 use mathlib.Core.List.{List, [], _∷_, _++_, map, foldl}
 use lib.ListN.{replicate, set}
 use Rattle.volume.specs.Bytes.{Bytes, part, put}
 use Rattle.volume.specs.Lists.{upTo}
-use Rattle.model.specs.Sound.{owners}
+use Rattle.volume.specs.Geometry as On
+use Rattle.model.specs.Layout.{version1}
+use Rattle.model.specs.Sound.{sound, ownedPages, owners}
 use Rattle.model.specs.Call.{verdict, find, list, makeFile, makeDirectory, write, remove, isFile, isDirectory, empty, granted}
 use Rattle.model.specs.Text.{text}
-use Rattle.model.specs.Judge.{Fault, badEntry, badChain, ownedTwice, markedFree, lostPage, badCount, fault, clean, thenJudge, judgePage, judgeChain, freshName, judgeEntry, judgeEntries, judgeDirectory, lostOr, judgeRest, judge}
+use Rattle.model.specs.Judge.{Fault, badEntry, badChain, ownedTwice, markedFree, lostPage, badCount, fault, clean, thenJudge, judgePage, judgeChain, freshName, judgeEntry, judgeEntries, judgeDirectory, lostOr, judgeRest, judge, isClean}
 use Rattle.model.proofs.Run.{computing, Case, _gives_, done, sized, shown, Hold, computed, stated, hold}
 use Rattle.model.proofs.Desk.{day1, refusal, found, entry, whole, header, stored, fresh, one, two, desk, shelf}
 
 unfoldable pub judging : Unit {0}
-unfolding thenJudge judgePage judgeChain freshName judgeEntry judgeEntries judgeDirectory lostOr judgeRest judge
+unfolding thenJudge judgePage judgeChain freshName judgeEntry judgeEntries judgeDirectory lostOr judgeRest judge isClean
 judging = tt
 
 -- refused by 3, and this is the first fault
@@ -21,8 +24,8 @@ abbrev unsound : Bytes → Fault → Case
 unsound b f = shown b (verdict gives refusal 3 ∷ []) judge (fault f)
 
 -- sound, with so many free pages; the judge marks these pages of 8
-abbrev sound : Bytes → ℕ → List ℕ → Case
-sound b free pages = shown b (verdict gives sized 8 free ∷ []) judge (clean (foldl (λ marks p. set marks p 1) (replicate 8 0) pages))
+abbrev clear : Bytes → ℕ → List ℕ → Case
+clear b free pages = shown b (verdict gives sized 8 free ∷ []) judge (clean (foldl (λ marks p. set marks p 1) (replicate 8 0) pages))
 
 -- a directory on page 1, and an empty file
 box : Bytes
@@ -33,44 +36,49 @@ note = header 7 0b1 ++ stored 0x80 (text "A" ++ replicate 15 0) 0 0x00 0x00 day1
 
 pub sounds : List Case
 sounds =
-    sound fresh 7 []
-    ∷ sound note 7 []
-    ∷ sound one 6 (1 ∷ [])
-    ∷ sound two 5 (2 ∷ 1 ∷ [])
-    ∷ sound box 6 (1 ∷ [])
-    ∷ sound desk 3 (2 ∷ 1 ∷ 4 ∷ 3 ∷ [])
-    ∷ sound shelf 3 (4 ∷ 3 ∷ 2 ∷ 1 ∷ [])
+    clear fresh 7 []
+    ∷ clear note 7 []
+    ∷ clear one 6 (1 ∷ [])
+    ∷ clear two 5 (2 ∷ 1 ∷ [])
+    ∷ clear box 6 (1 ∷ [])
+    ∷ clear desk 3 (2 ∷ 1 ∷ 4 ∷ 3 ∷ [])
+    ∷ clear shelf 3 (4 ∷ 3 ∷ 2 ∷ 1 ∷ [])
     ∷ []
 
 pub facts : List Case
 facts =
+    -- length and header (which the calls ask before the rest)
+    shown (one ++ 0 ∷ []) [] sound false
+    ∷ shown (set one 0 0x5B) [] sound false
+    ∷ shown (set one 1 2) [] sound false
+    ∷ shown (set one 2 2) [] sound false
     -- bit 0 of the bitmap, with the count that then is right; byte 3 off by one
-    unsound (put 3 (7 ∷ 0b10 ∷ []) one) badCount
+    ∷ unsound (put 3 (7 ∷ 0b10 ∷ []) one) badCount
     ∷ unsound (set one 3 5) badCount
     ∷ unsound (set one 3 7) badCount
     -- legal names: the bytes 1F, 20, 2F, 7E and 7F, first and later
     ∷ unsound (set one 65 0x1F) (badEntry 0 0)
-    ∷ sound (set one 65 0x20) 6 (1 ∷ [])
+    ∷ clear (set one 65 0x20) 6 (1 ∷ [])
     ∷ unsound (set one 65 0x2F) (badEntry 0 0)
-    ∷ sound (set one 65 0x7E) 6 (1 ∷ [])
+    ∷ clear (set one 65 0x7E) 6 (1 ∷ [])
     ∷ unsound (set one 65 0x7F) (badEntry 0 0)
     ∷ unsound (set one 66 0x1F) (badEntry 0 0)
-    ∷ sound (set one 66 0x20) 6 (1 ∷ [])
+    ∷ clear (set one 66 0x20) 6 (1 ∷ [])
     ∷ unsound (set one 66 0x2F) (badEntry 0 0)
-    ∷ sound (set one 66 0x7E) 6 (1 ∷ [])
+    ∷ clear (set one 66 0x7E) 6 (1 ∷ [])
     ∷ unsound (set one 66 0x7F) (badEntry 0 0)
     -- no byte at all, a byte behind the padding, and 16 bytes without padding
     ∷ unsound (set one 65 0) (badEntry 0 0)
     ∷ unsound (set one 67 0x41) (badEntry 0 0)
     ∷ unsound (set one 80 0x41) (badEntry 0 0)
-    ∷ sound (put 65 (replicate 16 0x41) one) 6 (1 ∷ [])
+    ∷ clear (put 65 (replicate 16 0x41) one) 6 (1 ∷ [])
     ∷ unsound (set box 65 0x7F) (badEntry 0 0)
     ∷ unsound (set desk 257 0x7F) (badEntry 1 0)
     ∷ unsound (set desk 289 0x7F) (badEntry 1 1)
     -- equal names in one directory, told at the later entry; in two directories they are apart
     ∷ unsound (set two 97 0x41) (badEntry 0 1)
     ∷ unsound (set desk 289 0x37) (badEntry 1 1)
-    ∷ sound (set desk 257 0x41) 3 (2 ∷ 1 ∷ 4 ∷ 3 ∷ [])
+    ∷ clear (set desk 257 0x41) 3 (2 ∷ 1 ∷ 4 ∷ 3 ∷ [])
     -- a directory's size
     ∷ unsound (set box 82 0x01) (badEntry 0 0)
     ∷ unsound (set box 83 0x00) (badEntry 0 0)
@@ -110,6 +118,7 @@ facts =
     ∷ unsound (put 3 (7 ∷ 0b1 ∷ []) box) (markedFree 1)
     ∷ unsound (put 3 (4 ∷ 0b11011 ∷ []) desk) (markedFree 2)
     -- a page that is marked and nobody owns; the lowest is told
+    ∷ unsound (put 3 (6 ∷ 0b11 ∷ []) fresh) (lostPage 1)
     ∷ unsound (put 3 (5 ∷ 0b100011 ∷ []) one) (lostPage 5)
     ∷ unsound (put 3 (5 ∷ 0b10000011 ∷ []) one) (lostPage 7)
     ∷ unsound (put 3 (4 ∷ 0b1010011 ∷ []) one) (lostPage 4)
@@ -121,7 +130,7 @@ loose = put 5 (replicate 59 0xFF) (put 64 (0xFE ∷ []) (put 84 (replicate 12 0x
 
 pub kept : List Case
 kept =
-    sound loose 6 (1 ∷ [])
+    clear loose 6 (1 ∷ [])
     ∷ shown loose (
         find (text "/A") gives found isFile 255 (replicate 8 0xFF)
         ∷ list (text "/") 0 gives entry isFile (text "A" ++ replicate 15 0) 255 (replicate 8 0xFF)
@@ -137,11 +146,16 @@ kept =
         (part 64 1) (0xFF ∷ [])
     ∷ []
 
--- the entries that own each of pages 0 to 7, by position
+-- the pages owned, and the entries that own each of pages 0 to 7, by position
 pub owning : List Case
 owning =
-    shown desk [] (λ b. map (owners b) (upTo 8)) ([] ∷ (96 ∷ []) ∷ (288 ∷ []) ∷ (64 ∷ []) ∷ (64 ∷ []) ∷ [] ∷ [] ∷ [] ∷ [])
+    shown desk [] ownedPages (3 ∷ 4 ∷ 1 ∷ 2 ∷ [])
+    ∷ shown desk [] (λ b. map (owners b) (upTo 8)) ([] ∷ (96 ∷ []) ∷ (288 ∷ []) ∷ (64 ∷ []) ∷ (64 ∷ []) ∷ [] ∷ [] ∷ [] ∷ [])
     ∷ shown (put 3 (6 ∷ 0b11 ∷ []) (set two 113 1)) [] (λ b. map (owners b) (upTo 3)) ([] ∷ (64 ∷ 96 ∷ []) ∷ [] ∷ [])
+    -- a page marked twice, or cleared twice; clean or not
+    ∷ shown one [] (λ b. On.mark version1 1 b) one
+    ∷ shown one [] (λ b. On.unmark version1 5 b) one
+    ∷ shown one [] (λ b. map isClean (judge b ∷ judge (set b 3 9) ∷ [])) (true ∷ false ∷ [])
     ∷ []
 
 pub sounds-hold : Hold sounds
@@ -149,7 +163,7 @@ unfolding computing judging computed stated sounds fresh note one two box desk s
 sounds-hold = hold sounds refl
 
 pub facts-hold : Hold facts
-unfolding computing judging computed stated facts note one two box desk shelf
+unfolding computing judging computed stated facts fresh note one two box desk shelf
 facts-hold = hold facts refl
 
 pub kept-hold : Hold kept
@@ -157,5 +171,5 @@ unfolding computing judging computed stated kept loose one box
 kept-hold = hold kept refl
 
 pub owning-hold : Hold owning
-unfolding computing computed stated owning two desk
+unfolding computing judging computed stated owning one two desk
 owning-hold = hold owning refl

@@ -1,0 +1,17 @@
+-- Rounding a quotient up adds one exactly if something is left.
+use Rattle.model.specs.Layout.{pagesFor}
+use native.Mathlib.Omega.{arith}
+use borrow.Author.Needs.{needs}
+use Rattle.fields.proofs.pages_for.Statement.{statement}
+use Rattle.fields.proofs.pages_for.Tie as tie
+
+returns : tie.Need-returns
+unfolding pagesFor
+returns c = omega arith
+
+returns-2 : tie.Need-returns-2
+unfolding pagesFor
+returns-2 c = omega arith
+
+pub pages-for-spec : {M : Type 1} → statement M
+pages-for-spec = tie.close (tie.spec (λ c. search needs) returns returns-2)

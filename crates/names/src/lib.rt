@@ -1,0 +1,185 @@
+// Names and paths, byte by byte: which bytes are legal, whether two names are the same, and where the texts of a path end.
+// Every function answers what the model says of the bytes, changes none, and asks only that what it reads lies in the image or the path.
+ghost use mathlib.Core.Path.{_≡_};
+ghost use mathlib.Core.Bool.{not};
+ghost use Prim.Native.Nat.{_+_, _≤_};
+ghost use lib.ListN.{length, drop};
+ghost use lib.Dec.{eqb};
+ghost use Rattle.volume.specs.Bytes.{same};
+ghost use Rattle.volume.specs.Lists.{all};
+ghost use Rattle.model.specs.Entry.{nameAt};
+ghost use Rattle.model.specs.Name.{legalByte, legalRest, legalName, legalText, padded};
+ghost use Rattle.model.specs.Path.{texts, pathOf, isNoPath};
+ghost use Rattle.laws.proofs.Names.{textLength};
+
+pub fn legal_byte(c: u8) -> bool
+    ensures { λ r. ⌜ r ≡ legalByte c ⌝ }
+{
+    if c < 0x20 {
+        return false;
+    }
+    if 0x7E < c {
+        return false;
+    }
+    c != b'/'
+}
+
+// Two names are the same if all their bytes are: 0042 is not 42.
+pub fn same_bytes(a: &[u8], b: &[u8]) -> bool
+    ensures { λ r. ⌜ r ≡ same (now (a .entry)) (now (b .entry)) ⌝ }
+{
+    let mut k = 0;
+    while k < a.len() {
+        if b.len() <= k {
+            return false;
+        }
+        if a[k] != b[k] {
+            return false;
+        }
+        k += 1;
+    }
+    k == b.len()
+}
+
+// ---- the name of the entry at position `at`, which is not copied
+
+pub fn has_name(image: &[u8], at: usize, name: &[u8]) -> bool
+    requires { ⌜ at + 32 ≤ length (now image) ⌝ }
+    ensures { λ r. ⌜ r ≡ same (nameAt (now (image .entry)) at) (now (name .entry)) ⌝ }
+{
+    let from = at + 1;
+    let to = at + 17;
+    same_bytes(&image[from..to], name)
+}
+
+pub fn same_name(image: &[u8], a: usize, b: usize) -> bool
+    requires { ⌜ (a + 32 ≤ length (now image)) × (b + 32 ≤ length (now image)) ⌝ }
+    ensures { λ r. ⌜ r ≡ same (nameAt (now (image .entry)) a) (nameAt (now (image .entry)) b) ⌝ }
+{
+    let from = b + 1;
+    let to = b + 17;
+    has_name(image, a, &image[from..to])
+}
+
+fn only_zeros(bytes: &[u8], from: usize) -> bool
+    ensures { λ r. ⌜ r ≡ all (eqb 0) (drop from (now (bytes .entry))) ⌝ }
+{
+    let mut k = from;
+    while k < bytes.len() {
+        if bytes[k] != 0 {
+            return false;
+        }
+        k += 1;
+    }
+    true
+}
+
+// Legal bytes, and from the first zero on only zeros.
+fn legal_rest(name: &[u8], from: usize) -> bool
+    ensures { λ r. ⌜ r ≡ legalRest (drop from (now (name .entry))) ⌝ }
+{
+    let mut k = from;
+    while k < name.len() {
+        if name[k] == 0 {
+            return only_zeros(name, k + 1);
+        }
+        if !legal_byte(name[k]) {
+            return false;
+        }
+        k += 1;
+    }
+    true
+}
+
+pub fn name_is_legal(image: &[u8], at: usize) -> bool
+    requires { ⌜ at + 32 ≤ length (now image) ⌝ }
+    ensures { λ r. ⌜ r ≡ legalName (nameAt (now (image .entry)) at) ⌝ }
+{
+    let from = at + 1;
+    let to = at + 17;
+    let name = &image[from..to];
+    if !legal_byte(name[0]) {
+        return false;
+    }
+    legal_rest(name, 1)
+}
+
+// ---- names without padding, as they stand in a path
+
+pub fn legal_text(text: &[u8]) -> bool
+    ensures { λ r. ⌜ r ≡ legalText (now (text .entry)) ⌝ }
+{
+    if text.len() < 1 {
+        return false;
+    }
+    if 16 < text.len() {
+        return false;
+    }
+    let mut k = 0;
+    while k < text.len() {
+        if !legal_byte(text[k]) {
+            return false;
+        }
+        k += 1;
+    }
+    true
+}
+
+pub fn pad(text: &[u8]) -> [u8; 16]
+    requires { ⌜ length (now text) ≤ 16 ⌝ }
+    ensures { λ r. ⌜ r ≡ padded (now (text .entry)) ⌝ }
+{
+    let mut name = [0u8; 16];
+    bytes::copy(text, &mut name);
+    name
+}
+
+// ---- paths
+
+// Where the text that begins at `from` ends: at the next slash, or with the path.
+pub fn text_end(path: &[u8], from: usize) -> usize
+    requires { ⌜ from ≤ length (now path) ⌝ }
+    ensures { λ r. ⌜ (r ≡ from + textLength (drop from (now (path .entry)))) × (r ≤ length (now (path .entry))) ⌝ }
+{
+    let mut k = from;
+    while k < path.len() {
+        if path[k] == b'/' {
+            return k;
+        }
+        k += 1;
+    }
+    k
+}
+
+// The texts from `from` on, also an empty one behind a slash at the end, are legal.
+fn texts_are_legal(path: &[u8], from: usize) -> bool
+    requires { ⌜ from ≤ length (now path) ⌝ }
+    ensures { λ r. ⌜ r ≡ all legalText (texts (drop from (now (path .entry)))) ⌝ }
+{
+    let mut begin = from;
+    loop {
+        let end = text_end(path, begin);
+        if !legal_text(&path[begin..end]) {
+            return false;
+        }
+        if end == path.len() {
+            return true;
+        }
+        begin = end + 1;
+    }
+}
+
+pub fn is_path(path: &[u8]) -> bool
+    ensures { λ r. ⌜ r ≡ not (isNoPath (pathOf (now (path .entry)))) ⌝ }
+{
+    if path.len() < 1 {
+        return false;
+    }
+    if path[0] != b'/' {
+        return false;
+    }
+    if path.len() == 1 {
+        return true;
+    }
+    texts_are_legal(path, 1)
+}
