@@ -10,13 +10,16 @@ use Rattle.refusals.specs.declared.Refusal.{Refusal}
 use Rattle.refusals.specs.declared.Refusal.the-variants.{BadLength, BadHeader, Unsound, NoPath, BadDate, IsRoot, NoSuchName, NotADirectory, NameTaken, IsADirectory, PastEnd, DirectoryFull, NoFreePages, NotEmpty}
 
 -- the case of a number and a place
-abbrev case : ℕ → ℕ → Refusal
-case n byte =
+abbrev numbered : ℕ → ℕ → Refusal
+numbered n byte =
     if eqb n 1 then BadLength else if eqb n 2 then BadHeader else if eqb n 3 then Unsound else if eqb n 4 then NoPath else if eqb n 5 then NoSuchName byte
     else if eqb n 6 then NotADirectory byte else if eqb n 7 then IsADirectory else if eqb n 8 then NameTaken else if eqb n 9 then DirectoryFull
     else if eqb n 10 then NoFreePages else if eqb n 11 then BadDate else if eqb n 12 then PastEnd else if eqb n 13 then NotEmpty else IsRoot
 
-case-told : (r : Refusal) → case (told r .number) (told r .place .0) ≡ r
+abbrev pub case : Model → Refusal
+case m = numbered (m .number) (m .place .0)
+
+pub case-told : (r : Refusal) → case (told r) ≡ r
 case-told BadLength = refl
 case-told BadHeader = refl
 case-told Unsound = refl
@@ -33,4 +36,4 @@ case-told NoFreePages = refl
 case-told NotEmpty = refl
 
 pub told-injective : (r s : Refusal) → told r ≡ told s → r ≡ s
-told-injective r s e = sym (case-told r) ∙ ap (λ (m : Model). case (m .number) (m .place .0)) e ∙ case-told s
+told-injective r s e = sym (case-told r) ∙ ap case e ∙ case-told s
