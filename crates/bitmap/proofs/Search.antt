@@ -1,12 +1,11 @@
 -- The loops over the bits, a turn at a time: the count goes by its own recursion, and the search by what is left of the numbers to look at.
-use mathlib.Core.Path.{_≡_, refl, sym, ap, _∙_}
+use mathlib.Core.Path.{_≡_, refl, ap}
 use mathlib.Core.Logic.{_≢_}
-use Prim.Native.Nat.{ℕ, zero, suc, _+_, _-_, _≤_, _<_}
+use Prim.Native.Nat.{ℕ, suc, _+_, _-_, _≤_, _<_}
 use native.Mathlib.Nat.{sub-zero}
 use native.Mathlib.Numerals.{add-one}
 use native.Mathlib.Omega.{arith}
-use mathlib.Core.Option.{Option, none, some, Option·getD}
-use mathlib.Core.List.{List, [], _∷_}
+use mathlib.Core.Option.{Option·getD}
 use borrow.Author.Tests.{eq-eqb, ne-eqb}
 use Rattle.volume.specs.Bytes.{Bytes}
 use Rattle.volume.specs.Lists.{first, countFrom}

@@ -1,7 +1,7 @@
 -- What `mark` and `unmark` store: a bit that is 0 set in a byte leaves a byte, and a bit that is 1 is there to be cleared.
 use mathlib.Core.Path.{_≡_, sym, ap}
 use mathlib.Core.Logic.{_≢_}
-use Prim.Native.Nat.{ℕ, _+_, _-_, _*_, _/_, _%_, _^_, _≤_, _<_}
+use Prim.Native.Nat.{ℕ, _+_, _-_, _*_, _%_, _^_, _≤_, _<_}
 use native.Mathlib.Omega.{arith}
 use lib.ListN.{set}
 use Rattle.volume.specs.Bytes.{Bytes, byteAt}

@@ -18,10 +18,6 @@ module _ (l : Bytes) (k : ℕ) (h : k < length l) where
   pub byte-next : drop k l ≡ getD l k 0 ∷ drop (k + 1) l
   byte-next = rw (add-one, drop-cons l k 0)
 
-  pub all-next : (f : ℕ → Bool) → all f (drop k l) ≡ (f (getD l k 0) && all f (drop (k + 1) l))
-  unfolding all
-  all-next f = rw byte-next
-
   pub rest-zero : getD l k 0 ≡ 0 → legalRest (drop k l) ≡ all (eqb 0) (drop (k + 1) l)
   unfolding legalRest
   rest-zero e = rw (byte-next, eq-eqb _ _ e)
@@ -39,10 +35,6 @@ module _ (l : Bytes) (k : ℕ) (h : k < length l) where
   text-next e = rw (byte-next, ne-eqb _ _ e)
 
 module _ (l : Bytes) (k : ℕ) (h : length l ≤ k) where
-  pub all-end : (f : ℕ → Bool) → all f (drop k l) ≡ true
-  unfolding all
-  all-end f = rw (drop-of-length-le l h)
-
   pub rest-end : legalRest (drop k l) ≡ true
   unfolding legalRest
   rest-end = rw (drop-of-length-le l h)

@@ -9,7 +9,7 @@ use lib.Seq.{paste, paste-suc}
 use borrow.Author.Fill.{fill-none, fill-more}
 use Rattle.volume.specs.Bytes.{Bytes, put}
 use Rattle.volume.proofs.Splice.{paste-splice}
-use Rattle.pages.specs.Page.{zeros}
+use Rattle.pages.specs.Zeros.{zeros}
 
 pub length-zeros : (n : ℕ) → length (zeros n) ≡ n
 unfolding zeros

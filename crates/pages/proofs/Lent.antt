@@ -8,7 +8,7 @@ use lib.Seq.{drop-drop, length-take-le}
 use borrow.Rule.Slice.PartMut.{midOf, putMid}
 use Rattle.volume.specs.Bytes.{Bytes, put}
 use Rattle.volume.proofs.Splice.{splice-left, splice-right}
-use Rattle.pages.specs.Page.{zeros}
+use Rattle.pages.specs.Zeros.{zeros}
 use Rattle.pages.proofs.Fills.{length-zeros}
 
 -- the n bytes from a on were lent, and ys came back

@@ -11,7 +11,7 @@ use Rattle.volume.specs.Geometry as On
 use Rattle.volume.specs.Geometry.{Geometry}
 use Rattle.volume.proofs.Marks.{mark-out, unmark-out}
 use Rattle.model.specs.Layout.{version1, pageSize, freeCount}
-use Rattle.pages.specs.Page.{zeros}
+use Rattle.pages.specs.Zeros.{zeros}
 use Rattle.pages.proofs.Fills.{length-zeros}
 
 -- the definition with its zeros under their name

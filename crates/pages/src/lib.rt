@@ -5,8 +5,8 @@ ghost use Prim.Native.Nat.{_+_, _<_, _≤_};
 ghost use lib.ListN.{length};
 ghost use Rattle.volume.specs.Bytes.{put};
 ghost use Rattle.volume.specs.Geometry as On;
-ghost use Rattle.model.specs.Layout.{version1, pageSize, freeCount};
-ghost use Rattle.pages.specs.Page.{Inside, zeros};
+ghost use Rattle.model.specs.Layout.{version1, pageSize, pageCount, freeCount};
+ghost use Rattle.pages.specs.Zeros.{zeros};
 use fields::Page;
 
 // Zeroes a part of whatever length.
@@ -20,7 +20,7 @@ pub fn zero(part: &mut [u8])
 
 // The routine that zeroes is lent the page alone, and cannot reach past it.
 pub fn zero_page(image: &mut [u8], page: Page)
-    requires { ⌜ Inside (now image) (page .0) ⌝ }
+    requires { ⌜ page .0 < pageCount (now image) ⌝ }
     ensures { λ _. ⌜ now (image .exit) ≡ put (On.start version1 (page .0)) (zeros pageSize) (now (image .entry)) ⌝ }
 {
     let first = fields::first_byte(page);
@@ -40,7 +40,7 @@ pub fn copy_in(part: &mut [u8], offset: usize, source: &[u8])
 
 // The same for a routine that fills: the offset counts from the page's first byte, which is its link.
 pub fn fill_page(image: &mut [u8], page: Page, offset: usize, source: &[u8])
-    requires { ⌜ Inside (now image) (page .0) × (offset + length (now source) ≤ pageSize) ⌝ }
+    requires { ⌜ (page .0 < pageCount (now image)) × (offset + length (now source) ≤ pageSize) ⌝ }
     ensures { λ _. ⌜ now (image .exit) ≡ put (On.start version1 (page .0) + offset) (now (source .entry)) (now (image .entry)) ⌝ }
 {
     let first = fields::first_byte(page);
@@ -50,7 +50,7 @@ pub fn fill_page(image: &mut [u8], page: Page, offset: usize, source: &[u8])
 
 // Takes a page. Its link needs no store of its own: it is the first byte of the page, which is zeroed.
 pub fn take_page(image: &mut [u8], page: Page)
-    requires { ⌜ Inside (now image) (page .0) × (0 < freeCount (now image)) ⌝ }
+    requires { ⌜ (page .0 < pageCount (now image)) × (0 < freeCount (now image)) ⌝ }
     ensures { λ _. ⌜ now (image .exit) ≡ On.taken version1 (page .0) (now (image .entry)) ⌝ }
 {
     bitmap::mark(image, page);
@@ -60,7 +60,7 @@ pub fn take_page(image: &mut [u8], page: Page)
 
 // Gives a page back. Its bytes stay.
 pub fn release_page(image: &mut [u8], page: Page)
-    requires { ⌜ Inside (now image) (page .0) × (freeCount (now image) < 255) ⌝ }
+    requires { ⌜ (page .0 < pageCount (now image)) × (freeCount (now image) < 255) ⌝ }
     ensures { λ _. ⌜ now (image .exit) ≡ On.released version1 (now (image .entry)) (page .0) ⌝ }
 {
     bitmap::unmark(image, page);

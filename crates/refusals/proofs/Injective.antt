@@ -1,7 +1,6 @@
 -- Number and place tell the case: nothing is lost between the enum and the paper's table.
 use mathlib.Core.Path.{_≡_, refl, sym, ap, _∙_}
 use Prim.Native.Nat.{ℕ}
-use mathlib.Core.Bool.{Bool, true, false}
 use lib.Dec.{eqb}
 use Rattle.volume.specs.Bytes.{if_then_else_}
 use Rattle.model.specs.Call.{Refusal as Model}

@@ -2,11 +2,14 @@
 use mathlib.Core.Path.{_≡_, refl, sym, ap, ap₂, _∙_, subst}
 use mathlib.Core.Logic.{inl, inr}
 use Prim.Native.Nat.{ℕ, zero, suc, _+_, _≤_, _<_}
+use native.Mathlib.Numerals.{add-one}
 use native.Mathlib.Omega.{arith}
 use native.Mathlib.Decide.{ℕ-discrete}
 use mathlib.Core.Bool.{Bool, true, false, not, _&&_, _||_}
 use mathlib.Core.Option.{Option, none, some}
 use mathlib.Core.List.{List, [], _∷_}
+use lib.ListN.{length, getD, drop, drop-of-length-le}
+use lib.Seq.{drop-cons}
 use lib.Dec.{T, eqb, eqb→eq, eqb-refl, T-not, not-T}
 use borrow.Author.Tests as Of
 use Rattle.volume.specs.Bytes.{Bytes, same, if_then_else_}
@@ -48,6 +51,16 @@ conditions-cons c cs h = and-both c (conditions cs) h
 pub cons-conditions : (c : Bool) (cs : List Bool) → T c → T (conditions cs) → T (conditions (c ∷ cs))
 unfolding all
 cons-conditions c cs h k = both-and c (conditions cs) h k
+
+-- ---- a test that runs along a list, at index k
+
+pub all-next : (l : Bytes) (k : ℕ) → k < length l → (f : ℕ → Bool) → all f (drop k l) ≡ (f (getD l k 0) && all f (drop (k + 1) l))
+unfolding all
+all-next l k h f = rw (add-one, drop-cons l k 0)
+
+pub all-end : (l : Bytes) (k : ℕ) → length l ≤ k → (f : ℕ → Bool) → all f (drop k l) ≡ true
+unfolding all
+all-end l k h f = rw (drop-of-length-le l h)
 
 -- ---- membership is a count
 

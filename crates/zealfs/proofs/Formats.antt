@@ -1,19 +1,19 @@
 -- Format: page 0 zeroed and then its first five bytes put is the header page, and the call's one line is the length's.
 use mathlib.Core.Path.{_≡_, refl, sym, ap, _∙_}
-use mathlib.Core.Bool.{Bool, true, false, not, true≢false}
-use mathlib.Core.List.{List, [], _∷_, _++_}
-use Prim.Native.Nat.{ℕ, _+_, _-_, _*_, _/_, _%_, _≤_, _<_}
+use mathlib.Core.Bool.{Bool, true, false, true≢false}
+use mathlib.Core.List.{[], _∷_}
+use Prim.Native.Nat.{ℕ, _-_, _/_, _%_, _<_}
 use native.Mathlib.Omega.{arith}
 use lib.ListN.{length, replicate}
 use lib.Dec.{T}
-use Rattle.volume.specs.Bytes.{Bytes, put, if_then_else_}
+use Rattle.volume.specs.Bytes.{Bytes, put}
 use Rattle.model.specs.Layout.{pageCount, validLength}
-use Rattle.model.specs.Call.{format, refusal, Answer, refused, granted}
+use Rattle.model.specs.Call.{format, refusal, refused, granted}
 use Rattle.model.specs.Refusal.{settle}
 use Rattle.model.specs.Effect.{formatted}
 use Rattle.model.specs.Meaning.{told, isFormat, lines, effect, answer, after}
 use Rattle.laws.proofs.Facts.{Sized, valid-sized}
-use Rattle.pages.specs.Page.{Inside, zeros}
+use Rattle.pages.specs.Zeros.{zeros}
 
 true-T : (c : Bool) → c ≡ true → T c
 true-T true e = tt
@@ -22,11 +22,11 @@ true-T false e = let bad : _≡_ {A = Bool} true false = sym e in true≢false b
 pub allowed : (b : Bytes) → validLength (length b) ≡ true → Sized b
 allowed b e = valid-sized b (true-T (validLength (length b)) e)
 
-pub inside : (b : Bytes) → validLength (length b) ≡ true → Inside b 0
-inside b e = let s = allowed b e in record { few = omega (arith, s .high, s .whole); page = omega (arith, s .low) }
+pub inside : (b : Bytes) → validLength (length b) ≡ true → 0 < pageCount b
+inside b e = let s = allowed b e in omega (arith, s .low)
 
-pub still-inside : (b b′ : Bytes) → length b′ ≡ length b → Inside b 0 → Inside b′ 0
-still-inside b b′ e h = record { few = omega (arith, h .few); page = omega (arith, h .page) }
+pub still-inside : (b b′ : Bytes) → length b′ ≡ length b → 0 < pageCount b → 0 < pageCount b′
+still-inside b b′ e h = omega (arith, e, h)
 
 pub format-refused : (b : Bytes) → validLength (length b) ≡ false → (refused (refusal 1) ≡ answer format b) × (b ≡ after format b)
 unfolding answer after lines isFormat settle

@@ -13,7 +13,6 @@ use Rattle.model.specs.Call.{verdict, Verdict, refusal, Answer, refused, grante
 use Rattle.model.specs.Refusal.{settle}
 use Rattle.model.specs.Meaning.{isFormat, lines, answer}
 use Rattle.model.specs.Judge.{Judged, fault, clean, judge, isClean}
-use Rattle.model.specs.Demands.{Account}
 use denote.Enum.Declared.{tagOf}
 use Rattle.judge.specs.Answers as found
 use Rattle.judge.specs.Answers.{Finding, findingOf, judgedAs, concluded}

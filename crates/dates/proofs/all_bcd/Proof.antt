@@ -1,15 +1,12 @@
 -- Of the bytes from k on all are digits exactly if byte k is and those behind it are.
-use Rattle.volume.specs.Bytes.{Bytes}
 use Rattle.volume.specs.Lists.{all}
+use Rattle.volume.proofs.Tests.{all-next, all-end}
 use Rattle.model.specs.Date.{isBcd}
-use native.Mathlib.Numerals.{add-one}
-use lib.Seq.{drop-cons}
 use borrow.Author.Needs.{needs}
 use mathlib.Core.Path.{_≡_, refl, sym, _∙_}
-use mathlib.Core.Bool.{_&&_}
 use borrow.Author.Tests.{not-true, not-false}
-use Prim.Native.Nat.{ℕ, _+_, _-_, _<_}
-use lib.ListN.{length, getD, drop, drop-of-length-le}
+use Prim.Native.Nat.{_-_}
+use lib.ListN.{length, drop}
 use Rattle.dates.proofs.all_bcd.Statement.{statement}
 use Rattle.dates.proofs.all_bcd.Tie as tie
 
@@ -22,23 +19,18 @@ abbrev μ-loop : tie.MeasureT-loop
 loop-holds : tie.Need-loop-holds Inv-loop μ-loop
 loop-holds c = refl
 
-all-next : (d : Bytes) (k : ℕ) → k < length d → all isBcd (drop k d) ≡ (isBcd (getD d k 0) && all isBcd (drop (k + 1) d))
-unfolding all
-all-next d k h = rw (add-one, drop-cons d k 0)
-
 returns : tie.Need-returns Inv-loop μ-loop
 returns c =
     let turn = c .before .before .before in
-    sym (turn .before .loop .inv ∙ all-next _ _ (turn .loop-test .taken) ∙ rw (sym (c .before .is-bcd .ensures) ∙ not-true _ (c .if1 .taken)))
+    sym (turn .before .loop .inv ∙ all-next _ _ (turn .loop-test .taken) isBcd ∙ rw (sym (c .before .is-bcd .ensures) ∙ not-true _ (c .if1 .taken)))
 
 loop-again : tie.Need-loop-again Inv-loop μ-loop
 loop-again c =
     let turn = c .before .before .before in
-    turn .before .loop .inv ∙ all-next _ _ (turn .loop-test .taken) ∙ rw (sym (c .before .is-bcd .ensures) ∙ not-false _ (c .if1 .left))
+    turn .before .loop .inv ∙ all-next _ _ (turn .loop-test .taken) isBcd ∙ rw (sym (c .before .is-bcd .ensures) ∙ not-false _ (c .if1 .left))
 
 returns-2 : tie.Need-returns-2 Inv-loop μ-loop
-unfolding all
-returns-2 c = sym (c .before .loop .inv ∙ rw (drop-of-length-le _ (c .loop-test .left)))
+returns-2 c = sym (c .before .loop .inv ∙ all-end _ _ (c .loop-test .left) isBcd)
 
 pub all-bcd-spec : {M : Type 1} → statement M
 all-bcd-spec =

@@ -1,7 +1,7 @@
 -- The bytes from k on are zeros exactly if byte k is and those behind it are.
 use Rattle.volume.specs.Lists.{all}
 use lib.Dec.{eqb}
-use Rattle.names.proofs.Steps.{all-next, all-end}
+use Rattle.volume.proofs.Tests.{all-next, all-end}
 use borrow.Author.Needs.{needs}
 use mathlib.Core.Path.{_≡_, refl, sym, _∙_}
 use borrow.Author.Tests.{eq-eqb, ne-eqb}

@@ -11,9 +11,7 @@ sub-image : tie.Need-sub-image
 sub-image c = omega (arith, count-marked _ _ _ (c .before .before .before .mark .ensures))
 
 zero-page-requires : tie.Need-zero-page-requires
-zero-page-requires c κs =
-    let size = c .before .before .before .before .mark .kept .0 in
-    record { few = simp length-set (omega arith); page = simp length-set (omega arith) }
+zero-page-requires c κs = let size = c .before .before .before .before .mark .kept .0 in simp length-set (omega arith)
 
 same-length : tie.Need-same-length
 same-length c = c .before .before .zero-page .kept .0 ∙ simp length-set (c .before .before .before .before .before .before .before .mark .kept .0)

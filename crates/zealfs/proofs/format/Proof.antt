@@ -16,7 +16,7 @@ zero-page-requires : tie.Need-zero-page-requires
 zero-page-requires c κs = inside (c .before .before .before .before .before .args .image .now) (sym (c .before .before .before .length-is-allowed .ensures) ∙ not-false _ (c .before .before .if1 .left))
 
 fill-page-requires : tie.Need-fill-page-requires
-fill-page-requires c κs = (still-inside (c .before .before .before .before .before .before .before .before .before .before .args .image .now) _ (c .before .before .before .before .zero-page .kept .0) (inside (c .before .before .before .before .before .before .before .before .before .before .args .image .now) (sym (c .before .before .before .before .before .before .before .before .length-is-allowed .ensures) ∙ not-false _ (c .before .before .before .before .before .before .before .if1 .left))), omega arith)
+fill-page-requires c κs = (still-inside (c .before .before .before .before .before .before .before .before .before .before .args .image .now) (c .before .before .before .before .zero-page .last .0) (c .before .before .before .before .zero-page .kept .0) (inside (c .before .before .before .before .before .before .before .before .before .before .args .image .now) (sym (c .before .before .before .before .before .before .before .before .length-is-allowed .ensures) ∙ not-false _ (c .before .before .before .before .before .before .before .if1 .left))), omega arith)
 
 returns-2 : tie.Need-returns-2
 returns-2 c = format-done (c .before .before .before .before .before .before .before .before .before .before .before .before .before .args .image .now) _ _ (c .before .before .before .before .before .before .before .before .before .page-count .result) (sym (c .before .before .before .before .before .before .before .before .before .before .before .length-is-allowed .ensures) ∙ not-false _ (c .before .before .before .before .before .before .before .before .before .before .if1 .left)) (c .before .before .before .before .before .before .before .before .before .page-count .ensures) (c .before .before .before .before .before .before .before .zero-page .ensures) (c .before .before .fill-page .ensures)
