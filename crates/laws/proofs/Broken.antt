@@ -36,9 +36,11 @@ walked-page b f ns = go (walkOn b ns 0) (walk-mirrors b ns (pageCount b) 0 (f .f
     at-root : (d : ℕ) → pageCount b ≡ d → T (goodDirectory d b 0) → (ms : List Name) × (e : ℕ) × Leads b (pageCount b) 0 ms (suc e) 0
     at-root zero q g = absurd g
     at-root (suc e) q g = ([], e, (q, refl))
+
     deep : (t d : ℕ) → Leads b (pageCount b) 0 ns d t → T (goodDirectory d b t) → (ms : List Name) × (e : ℕ) × Leads b (pageCount b) 0 ms (suc e) t
     deep t zero l g = absurd g
     deep t (suc e) l g = (ns, e, l)
+
     go : (v : Walked ℕ) → Mirrors b (pageCount b) 0 ns v (walk ns (rowAt (pageCount b) b 0)) → (ms : List Name) × (e : ℕ) × Leads b (pageCount b) 0 ms (suc e) (arrivedOr 0 v)
     go (arrived t) m = deep t (m .0) (m .1) (m .3)
     go (missing i) m = at-root (pageCount b) refl (f .formed)

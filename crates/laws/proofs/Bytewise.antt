@@ -93,9 +93,9 @@ small-formatted b v s =
     let zeros : Bytes = replicate 251 0 in
     let count : Bytes = (pageCount b - 1) ∷ 1 ∷ zeros in
     small-put 0 (0x5A ∷ 1 ∷ pageCount b / 8 ∷ count) b
-      (small-cons 0x5A (1 ∷ pageCount b / 8 ∷ count) (omega arith) (small-cons 1 (pageCount b / 8 ∷ count) (omega arith) (small-cons (pageCount b / 8) count (omega (arith, z .high))
-        (small-cons (pageCount b - 1) (1 ∷ zeros) (omega (arith, z .high, z .low)) (small-cons 1 zeros (omega arith) (small-zeros 251))))))
-      s
+    (small-cons 0x5A (1 ∷ pageCount b / 8 ∷ count) (omega arith) (small-cons 1 (pageCount b / 8 ∷ count) (omega arith) (small-cons (pageCount b / 8) count (omega (arith, z .high))
+    (small-cons (pageCount b - 1) (1 ∷ zeros) (omega (arith, z .high, z .low)) (small-cons 1 zeros (omega arith) (small-zeros 251))))))
+    s
 
 -- ---- the pages of an entry are owned, and so there are not many
 
@@ -127,9 +127,9 @@ small-removed b f path r s =
     let tg = target b f (r .ns) (r .n) (r .reached) (r .entered) in
     let freed : ℕ → Bytes = λ at. set (foldl (On.released version1) b (pagesAt b at)) at 0 in
     subst (λ (p : Path). Small (freed (entryPosition b p))) (sym (r .is)) (subst (λ (at : ℕ). Small (freed at)) (sym (tg .position))
-      (small-set (foldl (On.released version1) b (pagesAt b (tg .at))) (tg .at) 0 (omega arith)
-        (small-freed version1 home (pageCount b) (lawful b f) (pagesAt b (tg .at)) b (sized b f .whole)
-          (λ q m. f .inside q (omega (arith, pages-owned b f (r .ns) (r .n) tg q)) .1) (omega (arith, pages-count b f (r .ns) (r .n) tg, sized b f .high)) s)))
+    (small-set (foldl (On.released version1) b (pagesAt b (tg .at))) (tg .at) 0 (omega arith)
+    (small-freed version1 home (pageCount b) (lawful b f) (pagesAt b (tg .at)) b (sized b f .whole)
+    (λ q m. f .inside q (omega (arith, pages-owned b f (r .ns) (r .n) tg q)) .1) (omega (arith, pages-count b f (r .ns) (r .n) tg, sized b f .high)) s)))
 
 -- ---- write
 
@@ -151,7 +151,7 @@ module _ (b : Bytes) (f : Facts b) (path : Bytes) (from : ℕ) (v : Bytes) (w : 
   pages-fit : pagesFor (max (size path (treeOf b)) (from + length v)) < pageCount b
   pages-fit =
       let many : pagesFor (size path (treeOf b)) ≡ length (pagesAt b (tg .at)) =
-            ap pagesFor same-size ∙ sym (ap length (file-pages b f (w .ns) (w .n) tg isFile) ∙ chain-length (link b) (pagesFor (sizeAt b (tg .at))) (startAt b (tg .at))) in
+      ap pagesFor same-size ∙ sym (ap length (file-pages b f (w .ns) (w .n) tg isFile) ∙ chain-length (link b) (pagesFor (sizeAt b (tg .at))) (startAt b (tg .at))) in
       omega (arith, w .space, many, pages-count b f (w .ns) (w .n) tg, f .counted)
 
   size-fits : max (size path (treeOf b)) (from + length v) ≤ 65025
@@ -162,11 +162,11 @@ module _ (b : Bytes) (f : Facts b) (path : Bytes) (from : ℕ) (v : Bytes) (w : 
       let s₀ : ℕ = sizeAt b (tg .at) in
       let hf : from ≤ s₀ = omega (arith, w .begins, same-size) in
       let space : pagesFor (max s₀ (from + length v)) - pagesFor s₀ ≤ zeroBits b (pageCount b) =
-            subst (λ (m : ℕ). pagesFor (max m (from + length v)) - pagesFor m ≤ zeroBits b (pageCount b)) same-size (w .space) in
+      subst (λ (m : ℕ). pagesFor (max m (from + length v)) - pagesFor m ≤ zeroBits b (pageCount b)) same-size (w .space) in
       subst Small (sym (rewritten-is b f (w .ns) (w .n) tg isFile from v hf space))
-        (small-written version1 home (pageCount b) (lawful b f) b (byte (tg .at + 17)) (tg .above .t) (pagesFor s₀) (pagesFor (max s₀ (from + length v)) - pagesFor s₀)
-          (tg .at + 18) (le16 (max s₀ (from + length v))) from v (file-chained b f (w .ns) (w .n) tg isFile) space (numbers-fit b f (tg .at + 17)) (λ q. numbers-fit b f (256 * q))
-          (small-size (max s₀ (from + length v)) (omega (arith, size-fits, same-size))) hv hb)
+      (small-written version1 home (pageCount b) (lawful b f) b (byte (tg .at + 17)) (tg .above .t) (pagesFor s₀) (pagesFor (max s₀ (from + length v)) - pagesFor s₀)
+      (tg .at + 18) (le16 (max s₀ (from + length v))) from v (file-chained b f (w .ns) (w .n) tg isFile) space (numbers-fit b f (tg .at + 17)) (λ q. numbers-fit b f (256 * q))
+      (small-size (max s₀ (from + length v)) (omega (arith, size-fits, same-size))) hv hb)
 
   small-write : Small v → Small b → Small (written (pathOf path) from v b)
   unfolding written
@@ -199,8 +199,8 @@ module _ (b : Bytes) (f : Facts b) (path date : Bytes) (fl z k : ℕ) (m : Makes
   small-entry hf hz =
       let end : Bytes = date ++ replicate 4 0 in
       small-cons fl (m .n .bytes ++ (0 ∷ (le16 z ++ end))) hf
-        (small-append (m .n .bytes) (0 ∷ (le16 z ++ end)) (small-name (m .n .bytes) (m .clear .legal))
-          (small-cons 0 (le16 z ++ end) (omega arith) (small-append (le16 z) end (small-size z hz) (small-append date (replicate 4 0) (small-date date (m .good)) (small-zeros 4)))))
+      (small-append (m .n .bytes) (0 ∷ (le16 z ++ end)) (small-name (m .n .bytes) (m .clear .legal))
+      (small-cons 0 (le16 z ++ end) (omega arith) (small-append (le16 z) end (small-size z hz) (small-append date (replicate 4 0) (small-date date (m .good)) (small-zeros 4)))))
 
   small-at : fl < 256 → z < 65536 → Small b → Small (madeAt fl z k (m .n .bytes) date (place .at) b)
   small-at hf hz hb =
@@ -209,16 +209,16 @@ module _ (b : Bytes) (f : Facts b) (path date : Bytes) (fl z k : ℕ) (m : Makes
       let l : length w ≡ 32 = new-length fl (m .n .bytes) z date (m .clear .long) (m .clear .dated) in
       let held = place-held b f (m .ns) (m .n .bytes) date fl z k place in
       small-grown version1 home (pageCount b) (lawful b f) k (byte (at + 17)) (place .above .t) (put at w b)
-        (made-room version1 home (pageCount b) (lawful b f) b at (place .above .t) w (byte (at + 17)) k (sized b f .whole) (header-marked b f) (omega (arith, sized b f .low))
-          held (omega arith) (omega arith)
-          (put-in at w b (held .inside) 17 (omega arith) ∙ new-start fl (m .n .bytes) z date (m .clear .long) (m .clear .dated)) (m .clear .space))
-        (numbers-fit b f (at + 17)) (λ q. numbers-fit b f (256 * q)) (small-put at w b (small-entry hf hz) hb)
+      (made-room version1 home (pageCount b) (lawful b f) b at (place .above .t) w (byte (at + 17)) k (sized b f .whole) (header-marked b f) (omega (arith, sized b f .low))
+      held (omega arith) (omega arith)
+      (put-in at w b (held .inside) 17 (omega arith) ∙ new-start fl (m .n .bytes) z date (m .clear .long) (m .clear .dated)) (m .clear .space))
+      (numbers-fit b f (at + 17)) (λ q. numbers-fit b f (256 * q)) (small-put at w b (small-entry hf hz) hb)
 
   small-made : fl < 256 → z < 65536 → Small b → Small (made fl z k (pathOf path) date b)
   unfolding made
   small-made hf hz hb =
       subst (λ (p : Path). Small (made fl z k p date b)) (sym (m .is))
-        (subst (λ (at : ℕ). Small (madeAt fl z k (m .n .bytes) date at b)) (sym position) (small-at hf hz hb))
+      (subst (λ (at : ℕ). Small (madeAt fl z k (m .n .bytes) date at b)) (sym position) (small-at hf hz hb))
 
 -- ---- every call
 

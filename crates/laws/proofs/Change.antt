@@ -52,24 +52,27 @@ sound-after b b′ gone fresh f len head good own gone-in bal =
       fits = subst (λ (m : ℕ). T (validLength m)) (sym len) (f .fits);
       headed = header-same b b′ len head (f .headed);
       bit-zero =
-        let g : occ 0 gone ≡ 0 = not-mem 0 gone (λ c. omega (arith, gone-in 0 c .0)) in
-        let h : occ 0 fresh ≡ 0 = not-mem 0 fresh (λ c. omega (arith, bal .fresh-in 0 c .0)) in
-        omega (arith, f .bit-zero, bal .bits 0 (omega (arith, valid-sized b (f .fits) .low)));
+          let g : occ 0 gone ≡ 0 = not-mem 0 gone (λ c. omega (arith, gone-in 0 c .0)) in
+          let h : occ 0 fresh ≡ 0 = not-mem 0 fresh (λ c. omega (arith, bal .fresh-in 0 c .0)) in
+          omega (arith, f .bit-zero, bal .bits 0 (omega (arith, valid-sized b (f .fits) .low)));
       counted =
-        let z = zero-balance version1 b b′ (pageCount b) gone fresh
-            (under-of-mem (pageCount b) gone (λ q c. gone-in q c .1)) (under-of-mem (pageCount b) fresh (λ q c. bal .fresh-in q c .1)) (bal .bits) in
-        let c : freeCount b′ ≡ zeroBits b′ (pageCount b) = omega (arith, z, f .counted, bal .count) in
-        c ∙ ap (zeroBits b′) (sym pages);
+          let z = zero-balance version1 b b′ (pageCount b) gone fresh
+          (under-of-mem (pageCount b) gone (λ q c. gone-in q c .1)) (under-of-mem (pageCount b) fresh (λ q c. bal .fresh-in q c .1)) (bal .bits) in
+          let c : freeCount b′ ≡ zeroBits b′ (pageCount b) = omega (arith, z, f .counted, bal .count) in
+          c ∙ ap (zeroBits b′) (sym pages);
       formed = good;
       inside = λ q m. let r = in-range q m in (r .0, omega (arith, r .1, pages));
-      exact = λ q l u. let k : q < pageCount b = omega (arith, u, pages) in omega (arith, own q, bal .bits q k, f .exact q l k) }))
+      exact = λ q l u. let k : q < pageCount b = omega (arith, u, pages) in omega (arith, own q, bal .bits q k, f .exact q l k);
+    }))
   where
     pages : pageCount b′ ≡ pageCount b
     pages = ap (λ (m : ℕ). m / 256) len
+
     in-range : (q : ℕ) → Mem q (owned (pageCount b) b′ 0) → (1 ≤ q) × (q < pageCount b)
     in-range q m = elim (mem-or-not q fresh) [
-        inl c ↦ bal .fresh-in q c
-      | inr z ↦ f .inside q (omega (arith, own q)) ]
+      | inl c ↦ bal .fresh-in q c
+      | inr z ↦ f .inside q (omega (arith, own q))
+    ]
 
 -- ---- the change of an entry
 
@@ -92,16 +95,16 @@ pub record Works (b b′ : Bytes) (e t at : ℕ) (op : Row → Row) (test : Entr
 module _ (b b′ : Bytes) (f : Facts b) (names : List Name) (e t at : ℕ) (touched : List ℕ)
     (leads : Leads b (pageCount b) 0 names (suc e) t) (entry : Mem at (entries t)) (c : Change b b′ at touched)
     (mine : (q : ℕ) → Mem q touched → (1 ≤ q) × (Mem q (ownedPages b) → Mem q (own e b (entryAt b at)))) where
-
   -- the root and the owned pages, each once
   root-once : (q : ℕ) → occ q (0 ∷ ownedPages b) ≤ 1
   root-once q =
       let one = once (pageCount b) b f q in
       elim (hit-cases q 0) [
-          inl w ↦
+        | inl w ↦
             let z : occ 0 (ownedPages b) ≡ 0 = not-mem 0 (ownedPages b) (λ k. omega (arith, f .inside 0 k .0)) in
             omega (arith, w .1, z, ap (λ (x : ℕ). occ x (ownedPages b)) (w .0))
-        | inr w ↦ omega (arith, w .1, one) ]
+        | inr w ↦ omega (arith, w .1, one)
+      ]
 
   sub : (q : ℕ) → occ q (t ∷ owned (suc e) b t) ≤ occ q (0 ∷ ownedPages b)
   sub q = leads-sub b names (pageCount b) 0 (suc e) t q leads
@@ -127,31 +130,31 @@ module _ (b b′ : Bytes) (f : Facts b) (names : List Name) (e t at : ℕ) (touc
   outside q ne z i d l =
       let r = entry-within t at entry in
       c .rest i l (λ u. elim (decLt i (at + 32)) [ yes v ↦ absurd (ne (sym d ∙ within-page t at r i u v)) | no v ↦ omega arith ])
-        (subst (λ (x : ℕ). occ x touched ≡ 0) (sym d) z)
+      (subst (λ (x : ℕ). occ x touched ≡ 0) (sym d) z)
 
   -- the other entries of the directory keep their bytes and their pages
   others : (x : ℕ) → Mem x (entries t) → x ≢ at → SameEntry b b′ e e x
   others x m ne = entry-frame b b′ (c .len) e x
       (entry-same b b′ x (c .len) (λ i l u.
-        let r = entry-within t x m in
-        c .rest i (omega (arith, l, r .far)) (entries-apart t x at m entry ne i l u) (subst (λ (y : ℕ). occ y touched ≡ 0) (sym (within-page t x r i l u)) t-kept)))
+      let r = entry-within t x m in
+      c .rest i (omega (arith, l, r .far)) (entries-apart t x at m entry ne i l u) (subst (λ (y : ℕ). occ y touched ≡ 0) (sym (within-page t x r i l u)) t-kept)))
       (λ q k.
-        let two = own-two e b t x at q ne m entry in
-        let s = sub q in
-        let one = root-once q in
-        let own1 : occ q (owned (suc e) b t) ≡ 1 = omega (arith, two, k, s, one) in
-        let nt : q ≢ t = λ w. omega (arith, own1, s, one, hit-refl q, ap (hit q) w) in
-        let oq : Mem q (ownedPages b) = omega (arith, own1, leads-owned b names (pageCount b) 0 (suc e) t q leads) in
-        let z : occ q touched ≡ 0 = not-mem q touched (λ w. omega (arith, mine q w .1 oq, two, k, own1)) in
-        (f .inside q oq .0, outside q nt z))
+      let two = own-two e b t x at q ne m entry in
+      let s = sub q in
+      let one = root-once q in
+      let own1 : occ q (owned (suc e) b t) ≡ 1 = omega (arith, two, k, s, one) in
+      let nt : q ≢ t = λ w. omega (arith, own1, s, one, hit-refl q, ap (hit q) w) in
+      let oq : Mem q (ownedPages b) = omega (arith, own1, leads-owned b names (pageCount b) 0 (suc e) t q leads) in
+      let z : occ q touched ≡ 0 = not-mem q touched (λ w. omega (arith, mine q w .1 oq, two, k, own1)) in
+      (f .inside q oq .0, outside q nt z))
 
   frame : (q : ℕ) → Mem q (0 ∷ ownedPages b) → occ q (t ∷ owned (suc e) b t) ≡ 0 → SamePage b b′ q
   frame q k z =
       outside q (λ w. omega (arith, z, hit-refl q, ap (hit q) w))
-        (not-mem q touched (λ w.
-          let r = mine q w in
-          let o = r .1 (omega (arith, k, hit-ne q 0 (λ u. omega (arith, r .0, u)))) in
-          omega (arith, o, entry-sub q, z)))
+      (not-mem q touched (λ w.
+      let r = mine q w in
+      let o = r .1 (omega (arith, k, hit-ne q 0 (λ u. omega (arith, r .0, u)))) in
+      omega (arith, o, entry-sub q, z)))
 
   pub changed : (op : Row → Row) (test : Entry → Bool) → T (goodDirectory (suc e) b t) → Works b b′ e t at op test
       → Balance b b′ (own e b (entryAt b at)) (own e b′ (entryAt b′ at))
@@ -161,10 +164,11 @@ module _ (b b′ : Bytes) (f : Facts b) (names : List Name) (e t at : ℕ) (touc
       let row = level-row e b b′ t at others op test (w .skip) (w .work) (w .found) in
       let good′ = level-good e b b′ t at others good (w .good) (w .below) (w .name) in
       let whole = focus b b′ (c .len) op (suc e) t row good′ names (pageCount b) 0 (f .formed) root-once (λ q k. f .inside q k .0) leads frame in
-      let pages : pageCount b′ ≡ pageCount b = ap (λ (m : ℕ). m / 256) (c .len) in
-      (sound-after b b′ (own e b (entryAt b at)) (own e b′ (entryAt b′ at)) f (c .len) (c .head) (whole .isGood)
-         (λ q. omega (arith, whole .owns q, level-owned e b b′ t at others entry q))
-         (λ q k. f .inside q (omega (arith, k, entry-sub q, leads-owned b names (pageCount b) 0 (suc e) t q leads)))
-         bal,
-       ap₂ {C = Tree} (λ (n : ℕ) (r : Row). record { pages = n; root = r }) pages
-         (ap (λ (n : ℕ). rowAt n b′ 0) pages ∙ sym (whole .means)))
+      let pages : pageCount b′ ≡ pageCount b = ap (λ (m : ℕ). m / 256) (c .len) in (
+        sound-after b b′ (own e b (entryAt b at)) (own e b′ (entryAt b′ at)) f (c .len) (c .head) (whole .isGood)
+            (λ q. omega (arith, whole .owns q, level-owned e b b′ t at others entry q))
+            (λ q k. f .inside q (omega (arith, k, entry-sub q, leads-owned b names (pageCount b) 0 (suc e) t q leads)))
+            bal,
+        ap₂ {C = Tree} (λ (n : ℕ) (r : Row). record { pages = n; root = r }) pages
+            (ap (λ (n : ℕ). rowAt n b′ 0) pages ∙ sym (whole .means)),
+      )

@@ -35,12 +35,13 @@ count-to : (d : ℕ) (b : Bytes) → FactsTo d b → zeroBits b (pageCount b) + 
 count-to d b f =
     let pages : List ℕ = owned d b 0 in
     let z = zeros-marked b (0 ∷ pages) (pageCount b) (λ q l. elim (hit-cases q 0) [
-            inl e ↦
-              let none : occ 0 pages ≡ 0 = not-mem 0 pages (λ m. omega (arith, f .inside 0 m .0)) in
-              omega (arith, e .1, ap (λ (x : ℕ). occ x pages) (e .0), ap (pageBit b) (e .0), f .bit-zero, none)
-          | inr ne ↦ omega (arith, ne .1, f .exact q (omega (arith, ne .0)) l) ]) in
+      | inl e ↦
+          let none : occ 0 pages ≡ 0 = not-mem 0 pages (λ m. omega (arith, f .inside 0 m .0)) in
+          omega (arith, e .1, ap (λ (x : ℕ). occ x pages) (e .0), ap (pageBit b) (e .0), f .bit-zero, none)
+      | inr ne ↦ omega (arith, ne .1, f .exact q (omega (arith, ne .0)) l)
+    ]) in
     let s = sum-occ (0 ∷ pages) (pageCount b)
-          (under-cons (pageCount b) 0 pages (omega (arith, valid-sized b (f .fits) .low)) (under-of-mem (pageCount b) pages (λ q m. f .inside q m .1))) in
+    (under-cons (pageCount b) 0 pages (omega (arith, valid-sized b (f .fits) .low)) (under-of-mem (pageCount b) pages (λ q m. f .inside q m .1))) in
     omega (arith, z, s)
 
 pub count-owned : (b : Bytes) → Facts b → zeroBits b (pageCount b) + 1 + length (ownedPages b) ≡ pageCount b
@@ -52,10 +53,14 @@ depth-enough d b h =
     let f = soundTo-facts d b h in
     let s = depth-count d (pageCount b) b 0 (f .formed) (omega (arith, count-to d b f)) in
     facts-sound b (record {
-      fits = f .fits; headed = f .headed; bit-zero = f .bit-zero; counted = f .counted;
+      fits = f .fits;
+      headed = f .headed;
+      bit-zero = f .bit-zero;
+      counted = f .counted;
       formed = subst (λ (c : Bool). T c) (sym (s .good)) (f .formed);
       inside = λ q m. f .inside q (subst (Mem q) (s .owns) m);
-      exact = λ q l u. ap (occ q) (s .owns) ∙ f .exact q l u })
+      exact = λ q l u. ap (occ q) (s .owns) ∙ f .exact q l u;
+    })
 
 -- ---- the pages that a row needs
 

@@ -19,8 +19,9 @@ mem-steps : (s i n x : ℕ) → Mem x (map (λ j. s + 32 * j) (countFrom i n)) �
 unfolding countFrom
 mem-steps s i zero x m = absurd (omega arith)
 mem-steps s i (suc n) x m = elim (mem-cons x (s + 32 * i) (map (λ j. s + 32 * j) (countFrom (suc i) n)) m) [
-    inl e ↦ (i, omega arith, omega arith, e)
-  | inr k ↦ let r = mem-steps s (suc i) n x k in (r .0, omega (arith, r .1), omega (arith, r .2), r .3) ]
+  | inl e ↦ (i, omega arith, omega arith, e)
+  | inr k ↦ let r = mem-steps s (suc i) n x k in (r .0, omega (arith, r .1), omega (arith, r .2), r .3)
+]
 
 nodup-steps : (s i n : ℕ) → Nodup (map (λ j. s + 32 * j) (countFrom i n))
 unfolding countFrom

@@ -72,12 +72,13 @@ beq-both false false f g = tt
 
 agrees-exact : (b : Bytes) (pages : List ℕ) (q : ℕ) → Nodup pages → T (agrees b pages q) → occ q pages ≡ pageBit b q
 agrees-exact b pages q once h = elim (mem-or-not q pages) [
-    inl m ↦
+  | inl m ↦
       let e = eqb→eq (pageBit b q) 1 (beq-right (eqb (pageBit b q) 1) (member q pages) h (occ-member q pages m)) in
       omega (arith, once q)
   | inr z ↦
       let ne : pageBit b q ≢ 1 = λ e. let m = member-occ q pages (beq-left (eqb (pageBit b q) 1) (member q pages) h (eq-eqb e)) in omega arith in
-      omega (arith, bit-low version1 b q) ]
+      omega (arith, bit-low version1 b q)
+]
 
 exact-agrees : (b : Bytes) (pages : List ℕ) (q : ℕ) → occ q pages ≡ pageBit b q → T (agrees b pages q)
 exact-agrees b pages q e = beq-both (eqb (pageBit b q) 1) (member q pages)
@@ -87,8 +88,9 @@ exact-agrees b pages q e = beq-both (eqb (pageBit b q) 1) (member q pages)
 -- each page is owned at most once
 pub once : (d : ℕ) (b : Bytes) → FactsTo d b → (q : ℕ) → occ q (owned d b 0) ≤ 1
 once d b f q = elim (mem-or-not q (owned d b 0)) [
-    inl m ↦ let r = f .inside q m in omega (arith, f .exact q (r .0) (r .1), bit-low version1 b q)
-  | inr z ↦ omega arith ]
+  | inl m ↦ let r = f .inside q m in omega (arith, f .exact q (r .0) (r .1), bit-low version1 b q)
+  | inr z ↦ omega arith
+]
 
 module _ (depth : ℕ) (b : Bytes) where
   to-facts : T (soundTo depth b) → FactsTo depth b
@@ -109,24 +111,25 @@ module _ (depth : ℕ) (b : Bytes) where
         counted = eqb→eq (freeCount b) (zeroBits b (pageCount b)) (t4 .0);
         formed = t5 .0;
         inside = λ q m.
-          let r = and-both (leb 1 q) (ltb q (pageCount b)) (all-occ (inRange (pageCount b)) (owned depth b 0) (t6 .0) q m) in
-          (leb→le 1 q (r .0), ltb→lt q (pageCount b) (r .1));
+            let r = and-both (leb 1 q) (ltb q (pageCount b)) (all-occ (inRange (pageCount b)) (owned depth b 0) (t6 .0) q m) in
+            (leb→le 1 q (r .0), ltb→lt q (pageCount b) (r .1));
         exact = λ q l u. agrees-exact b (owned depth b 0) q (distinct-occ (owned depth b 0) (t7 .0))
-          (all-occ (agrees b (owned depth b 0)) (countFrom 1 (pageCount b - 1)) (t8 .0) q (occ-countFrom 1 (pageCount b - 1) q l (omega arith))) }
+            (all-occ (agrees b (owned depth b 0)) (countFrom 1 (pageCount b - 1)) (t8 .0) q (occ-countFrom 1 (pageCount b - 1) q l (omega arith)));
+      }
 
   from-facts : FactsTo depth b → T (soundTo depth b)
   unfolding soundTo
   from-facts f =
       cons-conditions _ _ (f .fits) (cons-conditions _ _ (f .headed)
-        (cons-conditions _ _ (eq-eqb (f .bit-zero)) (cons-conditions _ _ (eq-eqb (f .counted)) (cons-conditions _ _ (f .formed)
-          (cons-conditions _ _
-            (occ-all (inRange (pageCount b)) (owned depth b 0) (λ q m.
-              let r = f .inside q m in both-and (leb 1 q) (ltb q (pageCount b)) (le→leb 1 q (r .0)) (lt→ltb q (pageCount b) (r .1))))
-            (cons-conditions _ _ (occ-distinct (owned depth b 0) (once depth b f))
-              (cons-conditions _ []
-                (occ-all (agrees b (owned depth b 0)) (countFrom 1 (pageCount b - 1)) (λ q m.
-                  let r = countFrom-occ 1 (pageCount b - 1) q m in exact-agrees b (owned depth b 0) q (f .exact q (r .0) (omega (arith, r .0, r .1)))))
-                no-conditions)))))))
+      (cons-conditions _ _ (eq-eqb (f .bit-zero)) (cons-conditions _ _ (eq-eqb (f .counted)) (cons-conditions _ _ (f .formed)
+      (cons-conditions _ _
+      (occ-all (inRange (pageCount b)) (owned depth b 0) (λ q m.
+      let r = f .inside q m in both-and (leb 1 q) (ltb q (pageCount b)) (le→leb 1 q (r .0)) (lt→ltb q (pageCount b) (r .1))))
+      (cons-conditions _ _ (occ-distinct (owned depth b 0) (once depth b f))
+      (cons-conditions _ []
+      (occ-all (agrees b (owned depth b 0)) (countFrom 1 (pageCount b - 1)) (λ q m.
+      let r = countFrom-occ 1 (pageCount b - 1) q m in exact-agrees b (owned depth b 0) q (f .exact q (r .0) (omega (arith, r .0, r .1)))))
+      no-conditions)))))))
 
 pub sound-facts : (b : Bytes) → T (sound b) → Facts b
 unfolding sound

@@ -89,7 +89,7 @@ inside-work : (b b′ : Bytes) (g g′ : ℕ → Row) (n : Bytes) (f : Row → R
 unfolding inside entryRow isNamed
 inside-work b b′ g g′ n f x name date s size is h e rest =
     subst (λ (y : Entry). T (isNamed n y) → inside n f (entryRow b g y rest) ≡ entryRow b′ g′ y rest) (sym is)
-      (λ k. if-yes (same name n) (dir name date (f (g s)) rest) (dir name date (g s) (inside n f rest)) k ∙ ap (λ (r : Row). dir name date r rest) e) h
+    (λ k. if-yes (same name n) (dir name date (f (g s)) rest) (dir name date (g s) (inside n f rest)) k ∙ ap (λ (r : Row). dir name date r rest) e) h
 
 -- a directory's entry is good by its fields alone
 good-directory : (b b′ : Bytes) (x : Entry) (name date : Bytes) (s size : ℕ) → x ≡ aDirectory name date s size → goodEntry b′ x ≡ goodEntry b x
@@ -99,7 +99,6 @@ good-directory b b′ x name date s size is = subst (λ (y : Entry). goodEntry b
 -- ---- the focus law
 
 module _ (b b′ : Bytes) (len : length b′ ≡ length b) (op : Row → Row) (e t : ℕ) (row : op (rowAt e b t) ≡ rowAt e b′ t) (good : T (goodDirectory e b′ t)) where
-
   pub record Focused (names : List Name) (d p : ℕ) : Type 0 where
     pub means : changeAt names op (rowAt d b p) ≡ rowAt d b′ p
     pub isGood : T (goodDirectory d b′ p)
@@ -112,12 +111,13 @@ module _ (b b′ : Bytes) (len : length b′ ≡ length b) (op : Row → Row) (e
       → Focused names d p
   unfolding changeAt
   focus [] d p h once pos l frame = record {
-      means = ap₂ (λ (k r : ℕ). op (rowAt k b r)) (l .0) (l .1) ∙ row ∙ ap₂ (λ (k r : ℕ). rowAt k b′ r) (sym (l .0)) (sym (l .1));
-      isGood = subst (λ (k : ℕ). T (goodDirectory k b′ p)) (sym (l .0)) (subst (λ (r : ℕ). T (goodDirectory e b′ r)) (sym (l .1)) good);
-      owns = λ q.
+    means = ap₂ (λ (k r : ℕ). op (rowAt k b r)) (l .0) (l .1) ∙ row ∙ ap₂ (λ (k r : ℕ). rowAt k b′ r) (sym (l .0)) (sym (l .1));
+    isGood = subst (λ (k : ℕ). T (goodDirectory k b′ p)) (sym (l .0)) (subst (λ (r : ℕ). T (goodDirectory e b′ r)) (sym (l .1)) good);
+    owns = λ q.
         let x : occ q (owned d b p) ≡ occ q (owned e b t) = ap₂ (λ (k r : ℕ). occ q (owned k b r)) (l .0) (l .1) in
         let y : occ q (owned d b′ p) ≡ occ q (owned e b′ t) = ap₂ (λ (k r : ℕ). occ q (owned k b′ r)) (l .0) (l .1) in
-        omega (arith, x, y) }
+        omega (arith, x, y);
+  }
   focus (n ∷ ns) zero p h once pos l frame = absurd l
   focus (n ∷ ns) (suc d) p h once pos l frame =
       let at : ℕ = l .0 in
@@ -130,38 +130,39 @@ module _ (b b′ : Bytes) (len : length b′ ≡ length b) (op : Row → Row) (e
       let target : (q : ℕ) → occ q (t ∷ owned e b t) ≤ occ q (s ∷ owned d b s) = λ q. leads-sub b ns d s e t q (l .4) in
       let here : SamePage b b′ p = frame p (omega (arith, hit-refl p)) (omega (arith, hit-refl p, once p, le p, target p)) in
       let fields : (x : ℕ) → Mem x (entries p) → entryAt b′ x ≡ entryAt b x = λ x m.
-            let w = entry-within p x m in
-            entry-same b b′ x len (λ i u v. here i (within-page p x w i u v) (omega (arith, w .far))) in
+      let w = entry-within p x m in
+      entry-same b b′ x len (λ i u v. here i (within-page p x w i u v) (omega (arith, w .far))) in
       let others : (x : ℕ) → Mem x (entries p) → x ≢ at → SameEntry b b′ d d x = λ x m ne.
-            entry-frame b b′ len d x (fields x m) (λ q k.
-              let two = own-two d b p x at q ne m (found .0) in
-              let ea : occ q (own d b (entryAt b at)) ≡ occ q (s ∷ owned d b s) = ap (occ q) mine in
-              let one = once q in
-              let tg = target q in
-              (pos q (omega (arith, two, k)), frame q (omega (arith, two, k)) (omega (arith, two, ea, k, one, tg)))) in
+      entry-frame b b′ len d x (fields x m) (λ q k.
+      let two = own-two d b p x at q ne m (found .0) in
+      let ea : occ q (own d b (entryAt b at)) ≡ occ q (s ∷ owned d b s) = ap (occ q) mine in
+      let one = once q in
+      let tg = target q in
+      (pos q (omega (arith, two, k)), frame q (omega (arith, two, k)) (omega (arith, two, ea, k, one, tg)))) in
       let isD : inDirectory true (goodDirectory d b) (entryAt b at) ≡ goodDirectory d b s = ap (inDirectory true (goodDirectory d b)) (dirAt .is) in
       let isD′ : inDirectory true (goodDirectory d b′) (entryAt b′ at) ≡ goodDirectory d b′ s = ap (inDirectory true (goodDirectory d b′)) (fields at (found .0) ∙ dirAt .is) in
       let down = focus ns d s (subst (λ (c : Bool). T c) isD (g .below at (found .0)))
-            (λ q. omega (arith, le q, once q))
-            (λ q k. pos q (omega (arith, le q, k)))
-            (l .4)
-            (λ q k z. frame q (omega (arith, le q, k)) z) in
+      (λ q. omega (arith, le q, once q))
+      (λ q k. pos q (omega (arith, le q, k)))
+      (l .4)
+      (λ q k z. frame q (omega (arith, le q, k)) z) in
       let mine′ : own d b′ (entryAt b′ at) ≡ s ∷ owned d b′ s =
-            own-directory d b′ at s (record { name = dirAt .name; date = dirAt .date; size = dirAt .size; is = fields at (found .0) ∙ dirAt .is }) in
+      own-directory d b′ at s (record { name = dirAt .name; date = dirAt .date; size = dirAt .size; is = fields at (found .0) ∙ dirAt .is }) in
       record {
         means = level-row d b b′ p at others (inside (n .bytes) (changeAt ns op)) (isNamed (n .bytes))
-          (inside-skip b (rowAt d b) (n .bytes) (changeAt ns op))
-          (λ rest. inside-work b b′ (rowAt d b) (rowAt d b′) (n .bytes) (changeAt ns op) (entryAt b at) (dirAt .name) (dirAt .date) s (dirAt .size) (dirAt .is) (found .1) (down .means) rest
+            (inside-skip b (rowAt d b) (n .bytes) (changeAt ns op))
+            (λ rest. inside-work b b′ (rowAt d b) (rowAt d b′) (n .bytes) (changeAt ns op) (entryAt b at) (dirAt .name) (dirAt .date) s (dirAt .size) (dirAt .is) (found .1) (down .means) rest
             ∙ ap (λ (x : Entry). entryRow b′ (rowAt d b′) x rest) (sym (fields at (found .0))))
-          (unfold entryNamed in (l .2));
+            (unfold entryNamed in (l .2));
         isGood = level-good d b b′ p at others h
-          (subst (λ (c : Bool). T c)
+            (subst (λ (c : Bool). T c)
             (sym (ap (goodEntry b′) (fields at (found .0)) ∙ good-directory b b′ (entryAt b at) (dirAt .name) (dirAt .date) s (dirAt .size) (dirAt .is))) (g .each at (found .0)))
-          (subst (λ (c : Bool). T c) (sym isD′) (down .isGood))
-          (λ x m ne. subst (λ (y : Entry). T (not (sameName y (entryAt b x)))) (sym (fields at (found .0))) (g .apart at x (found .0) m (λ q. ne (sym q))));
+            (subst (λ (c : Bool). T c) (sym isD′) (down .isGood))
+            (λ x m ne. subst (λ (y : Entry). T (not (sameName y (entryAt b x)))) (sym (fields at (found .0))) (g .apart at x (found .0) m (λ q. ne (sym q))));
         owns = λ q.
-          let lo = level-owned d b b′ p at others (found .0) q in
-          let d2 = down .owns q in
-          let m1 : occ q (own d b (entryAt b at)) ≡ occ q (s ∷ owned d b s) = ap (occ q) mine in
-          let m2 : occ q (own d b′ (entryAt b′ at)) ≡ occ q (s ∷ owned d b′ s) = ap (occ q) mine′ in
-          omega (arith, lo, d2, m1, m2) }
+            let lo = level-owned d b b′ p at others (found .0) q in
+            let d2 = down .owns q in
+            let m1 : occ q (own d b (entryAt b at)) ≡ occ q (s ∷ owned d b s) = ap (occ q) mine in
+            let m2 : occ q (own d b′ (entryAt b′ at)) ≡ occ q (s ∷ owned d b′ s) = ap (occ q) mine′ in
+            omega (arith, lo, d2, m1, m2);
+      }

@@ -67,11 +67,12 @@ module _ (b : Bytes) (v : T (validLength (length b))) where
   bits : (q : ℕ) → q < 256 → pageBit (formatted b) q ≡ hit q 0
   unfolding On.pageBit
   bits q u = elim (decLt q 8) [
-      yes l ↦
+    | yes l ↦
         let at : 4 + q / 8 ≡ 4 = omega arith in
         let low : q % 8 ≡ q = omega arith in
         ap₂ bit low (ap (byteAt (formatted b)) at ∙ on-header 4 (omega arith)) ∙ bit-set 0 0 q refl ∙ ap (λ (n : ℕ). n + hit q 0) (bit-of-zero q) ∙ zero-add (hit q 0)
-    | no l ↦ ap (bit (q % 8)) (zero-from (4 + q / 8) (omega arith) (omega arith)) ∙ bit-of-zero (q % 8) ∙ sym (hit-ne q 0 (omega arith)) ]
+    | no l ↦ ap (bit (q % 8)) (zero-from (4 + q / 8) (omega arith) (omega arith)) ∙ bit-of-zero (q % 8) ∙ sym (hit-ne q 0 (omega arith))
+  ]
 
   headed : T (validHeader (formatted b))
   unfolding validHeader
@@ -86,14 +87,16 @@ module _ (b : Bytes) (v : T (validLength (length b))) where
       let d : ℕ = pageCount b - 1 in
       let deep : pageCount b′ ≡ suc d = omega (arith, pages, s .low) in
       let empty : (x : ℕ) → Mem x (entries 0) → entryAt b′ x ≡ vacant = λ x m.
-            let w = entry-within 0 x m in zero-vacant b′ x (zero-from x (omega (arith, w .far)) (omega (arith, w .high))) in
-      let none-owned : (q : ℕ) → occ q (owned (suc d) b′ 0) ≡ 0 = λ q. ap (occ q) (vacant-owns b′ d 0 empty) in
-      (facts-sound b′ (subst (λ (n : ℕ). FactsTo n b′) (sym deep) (record {
-         fits = subst (λ (n : ℕ). T (validLength n)) (sym formatted-length) v;
-         headed = headed;
-         bit-zero = bits 0 (omega arith) ∙ hit-refl 0;
-         counted = on-header 3 (omega arith) ∙ sym (ap (zeroBits b′) deep ∙ zeros-but-one b′ d (λ q l. bits q (omega (arith, s .low, s .high))));
-         formed = vacant-good b′ d 0 empty;
-         inside = λ q m. absurd (omega (arith, none-owned q));
-         exact = λ q l u. none-owned q ∙ sym (bits q (omega (arith, s .high, deep)) ∙ hit-ne q 0 (omega arith)) })),
-       ap₂ {C = Tree} (λ (n : ℕ) (r : Row). record { pages = n; root = r }) pages (ap (λ (n : ℕ). rowAt n b′ 0) deep ∙ vacant-row b′ d 0 empty))
+      let w = entry-within 0 x m in zero-vacant b′ x (zero-from x (omega (arith, w .far)) (omega (arith, w .high))) in
+      let none-owned : (q : ℕ) → occ q (owned (suc d) b′ 0) ≡ 0 = λ q. ap (occ q) (vacant-owns b′ d 0 empty) in (
+        facts-sound b′ (subst (λ (n : ℕ). FactsTo n b′) (sym deep) (record {
+          fits = subst (λ (n : ℕ). T (validLength n)) (sym formatted-length) v;
+          headed = headed;
+          bit-zero = bits 0 (omega arith) ∙ hit-refl 0;
+          counted = on-header 3 (omega arith) ∙ sym (ap (zeroBits b′) deep ∙ zeros-but-one b′ d (λ q l. bits q (omega (arith, s .low, s .high))));
+          formed = vacant-good b′ d 0 empty;
+          inside = λ q m. absurd (omega (arith, none-owned q));
+          exact = λ q l u. none-owned q ∙ sym (bits q (omega (arith, s .high, deep)) ∙ hit-ne q 0 (omega arith));
+        })),
+        ap₂ {C = Tree} (λ (n : ℕ) (r : Row). record { pages = n; root = r }) pages (ap (λ (n : ℕ). rowAt n b′ 0) deep ∙ vacant-row b′ d 0 empty),
+      )

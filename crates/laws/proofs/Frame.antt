@@ -40,9 +40,9 @@ unfolding namesApart
 apart-same b b′ [] h = refl
 apart-same b b′ (at ∷ ats) h =
     ap₂ (λ (c d : Bool). c && d)
-      (all-same (λ x. not (sameName (entryAt b′ at) (entryAt b′ x))) (λ x. not (sameName (entryAt b at) (entryAt b x))) ats
-        (λ x m. ap₂ (λ (y z : Entry). not (sameName y z)) (h at (mem-head at ats)) (h x (mem-tail x at ats m))))
-      (apart-same b b′ ats (λ x m. h x (mem-tail x at ats m)))
+    (all-same (λ x. not (sameName (entryAt b′ at) (entryAt b′ x))) (λ x. not (sameName (entryAt b at) (entryAt b x))) ats
+    (λ x m. ap₂ (λ (y z : Entry). not (sameName y z)) (h at (mem-head at ats)) (h x (mem-tail x at ats m))))
+    (apart-same b b′ ats (λ x m. h x (mem-tail x at ats m)))
 
 pub rows-same : (b b′ : Bytes) (g g′ : ℕ → Row) (ats : List ℕ)
     → ((x : ℕ) → Mem x ats → (rest : Row) → entryRow b′ g′ (entryAt b′ x) rest ≡ entryRow b g (entryAt b x) rest) → rowOf b′ g′ ats ≡ rowOf b g ats
@@ -112,18 +112,19 @@ module _ (b b′ : Bytes) (d e : ℕ) where
   pub same-directory : (p : ℕ) → ((x : ℕ) → Mem x (entries p) → SameEntry b b′ d e x) → SameDirectory b b′ (suc d) (suc e) p
   unfolding rowAt reached goodDirectory all
   same-directory p h = record {
-      row = rows-same b b′ (rowAt d b) (rowAt e b′) (entries p) (λ x m. same-row x (h x m));
-      reach = flatMap-same (λ x. reachedBy x (reached e b′) (entryAt b′ x)) (λ x. reachedBy x (reached d b) (entryAt b x)) (entries p) (λ x m.
+    row = rows-same b b′ (rowAt d b) (rowAt e b′) (entries p) (λ x m. same-row x (h x m));
+    reach = flatMap-same (λ x. reachedBy x (reached e b′) (entryAt b′ x)) (λ x. reachedBy x (reached d b) (entryAt b x)) (entries p) (λ x m.
         ap (reachedBy x (reached e b′)) (h x m .fields) ∙ entry-reach x (entryAt b x) (h x m .below));
-      owns = owned-entries e b′ p
+    owns = owned-entries e b′ p
         ∙ flatMap-same (λ x. own e b′ (entryAt b′ x)) (λ x. own d b (entryAt b x)) (entries p) (λ x m. same-own x (h x m))
         ∙ sym (owned-entries d b p);
-      good =
+    good =
         ap₂ (λ (c f : Bool). c && (namesApart b′ (entries p) && (f && true)))
-          (all-same (λ x. goodEntry b′ (entryAt b′ x)) (λ x. goodEntry b (entryAt b x)) (entries p) (λ x m. same-good x (h x m)))
-          (all-same (λ x. inDirectory true (goodDirectory e b′) (entryAt b′ x)) (λ x. inDirectory true (goodDirectory d b) (entryAt b x)) (entries p) (λ x m. same-below x (h x m)))
+        (all-same (λ x. goodEntry b′ (entryAt b′ x)) (λ x. goodEntry b (entryAt b x)) (entries p) (λ x m. same-good x (h x m)))
+        (all-same (λ x. inDirectory true (goodDirectory e b′) (entryAt b′ x)) (λ x. inDirectory true (goodDirectory d b) (entryAt b x)) (entries p) (λ x m. same-below x (h x m)))
         ∙ ap (λ (c : Bool). all (λ x. goodEntry b (entryAt b x)) (entries p) && (c && (all (λ x. inDirectory true (goodDirectory d b) (entryAt b x)) (entries p) && true)))
-            (apart-same b b′ (entries p) (λ x m. h x m .fields)) }
+        (apart-same b b′ (entries p) (λ x m. h x m .fields));
+  }
 
 -- ---- two images
 
@@ -145,9 +146,10 @@ module _ (b b′ : Bytes) (len : length b′ ≡ length b) where
   unfolding goodEntry pagesOf
   kept-pages vacant h = record { pages = refl; content = content-same [] h; good = refl }
   kept-pages (aFile name date start size) h = record {
-      pages = chain-same (pagesFor size) start h .0;
-      content = content-same (chain (link b) (pagesFor size) start) h;
-      good = ap (λ (n : ℕ). legalName name && eqb n 0) (chain-same (pagesFor size) start h .1) }
+    pages = chain-same (pagesFor size) start h .0;
+    content = content-same (chain (link b) (pagesFor size) start) h;
+    good = ap (λ (n : ℕ). legalName name && eqb n 0) (chain-same (pagesFor size) start h .1);
+  }
   kept-pages (aDirectory name date start size) h = record { pages = refl; content = content-same (start ∷ []) h; good = refl }
 
   -- an entry whose pages, with those below it, are kept
@@ -163,7 +165,10 @@ module _ (b b′ : Bytes) (len : length b′ ≡ length b) where
   entry-kept : (d x : ℕ) → ((p : ℕ) → SamePage b b′ p → Kept b b′ (owned d b p) → SameDirectory b b′ d d p)
       → entryAt b′ x ≡ entryAt b x → Kept b b′ (own d b (entryAt b x)) → SameEntry b b′ d d x
   entry-kept d x frame f h = record {
-      fields = f; pages = kept-pages (entryAt b x) (λ q c. h q (omega (arith, pages-own d b (entryAt b x) q))); below = kept-below d (entryAt b x) frame h }
+    fields = f;
+    pages = kept-pages (entryAt b x) (λ q c. h q (omega (arith, pages-own d b (entryAt b x) q)));
+    below = kept-below d (entryAt b x) frame h;
+  }
 
   pub directory-frame : (d p : ℕ) → SamePage b b′ p → Kept b b′ (owned d b p) → SameDirectory b b′ d d p
   unfolding rowAt reached goodDirectory flatMap
@@ -171,8 +176,8 @@ module _ (b b′ : Bytes) (len : length b′ ≡ length b) where
   directory-frame (suc d) p h k = same-directory b b′ d d p (λ x m.
       let w = entry-within p x m in
       entry-kept d x (directory-frame d)
-        (entry-same b b′ x len (λ i l u. h i (within-page p x w i l u) (omega (arith, w .far))))
-        (λ q c. k q (omega (arith, own-le d b p x q m))))
+      (entry-same b b′ x len (λ i l u. h i (within-page p x w i l u) (omega (arith, w .far))))
+      (λ q c. k q (omega (arith, own-le d b p x q m))))
 
   pub entry-frame : (d x : ℕ) → entryAt b′ x ≡ entryAt b x → Kept b b′ (own d b (entryAt b x)) → SameEntry b b′ d d x
   entry-frame d x = entry-kept d x (directory-frame d)

@@ -39,8 +39,8 @@ granted-law (makeDirectory path date) b h e =
 granted-law (write path from v) b h e =
     let w = write-passed b (sound-facts b h) path from v e in
     subst (λ (p : Path). Says b p (rewrite (lastName p) (put from v (contentIn (node path (treeOf b))))) (written p from v b)) (sym (w .is))
-      (written-tree b (sound-facts b h) (w .ns) (w .n) from v (w .reached) (w .entered) (node path (treeOf b)) (w .leads) (w .isFile) (w .begins) (w .space))
+    (written-tree b (sound-facts b h) (w .ns) (w .n) from v (w .reached) (w .entered) (node path (treeOf b)) (w .leads) (w .isFile) (w .begins) (w .space))
 granted-law (remove path) b h e =
     let r = remove-passed b (sound-facts b h) path e in
     subst (λ (p : Path). Says b p (vacate (lastName p)) (removed p b)) (sym (r .is))
-      (removed-tree b (sound-facts b h) (r .ns) (r .n) (r .reached) (r .entered) (r .empty))
+    (removed-tree b (sound-facts b h) (r .ns) (r .n) (r .reached) (r .entered) (r .empty))

@@ -68,15 +68,16 @@ module _ (b : Bytes) where
       → Tells good ps seen j → ((s : List ℕ) → good → Adds ps seen s → Tells more qs s (on s)) → Tells (good × more) (ps ++ qs) seen (thenJudge j on)
   unfolding thenJudge
   tells-then {ps = ps} {qs = qs} (refuted n) u = refuted (λ g o. n (g .0) (λ q m.
-    let r = o q (omega (arith, occ-append q ps qs)) in omega (arith, occ-append q ps qs)))
+      let r = o q (omega (arith, occ-append q ps qs)) in omega (arith, occ-append q ps qs)))
   tells-then {good} {more} {ps} {qs} {seen} (proved s g o c) u = go (u s g c)
     where
       go : {j : Judged} → Tells more qs s j → Tells (good × more) (ps ++ qs) seen j
       go (refuted n) = refuted (λ g o. n (g .1) (λ q m. let r = o q (omega (arith, occ-append q ps qs)) in omega (arith, occ-append q ps qs, c .each q (r .1))))
       go (proved s′ g′ o′ c′) = proved s′ (g, g′)
           (λ q m. elim (mem-or-not q qs) [
-              inl k ↦ let r = o′ q k in omega (arith, occ-append q ps qs, c .each q (r .1))
-            | inr z ↦ let r = o q (omega (arith, occ-append q ps qs)) in omega (arith, occ-append q ps qs) ])
+            | inl k ↦ let r = o′ q k in omega (arith, occ-append q ps qs, c .each q (r .1))
+            | inr z ↦ let r = o q (omega (arith, occ-append q ps qs)) in omega (arith, occ-append q ps qs)
+          ])
           (record { long = c′ .long ∙ c .long; each = λ q l. omega (arith, occ-append q ps qs, c .each q l, c′ .each q l) })
 
   -- ---- pages
@@ -93,18 +94,22 @@ module _ (b : Bytes) where
       (λ i. let r = and-both (leb 1 p) (ltb p (pageCount b)) i in (leb→le 1 p (r .0), ltb→lt p (pageCount b) (r .1)))
       (eqb→eq (getD seen p 0) 0) (eqb→eq (pageBit b p) 1)
       (λ o. let r = o p (mem-head p []) in
-        let unseen : getD seen p 0 ≡ 0 = omega (arith, r .3, hit-refl p) in
-        (both-and (leb 1 p) (ltb p (pageCount b)) (le→leb 1 p (r .0)) (lt→ltb p (pageCount b) (r .1)), eq-eqb unseen, eq-eqb (r .2)))
+      let unseen : getD seen p 0 ≡ 0 = omega (arith, r .3, hit-refl p) in
+      (both-and (leb 1 p) (ltb p (pageCount b)) (le→leb 1 p (r .0)) (lt→ltb p (pageCount b) (r .1)), eq-eqb unseen, eq-eqb (r .2)))
     where
       go : (r m k : Bool) → (T r → (1 ≤ p) × (p < pageCount b)) → (T m → getD seen p 0 ≡ 0) → (T k → pageBit b p ≡ 1) → (Ownable (p ∷ []) seen → T r × T m × T k)
           → Tells (Unit {0}) (p ∷ []) seen (if r then (if m then (if k then clean (set seen p 1) else fault (markedFree p)) else fault (ownedTwice p)) else fault range)
       go true true true i u k from =
           let z = u tt in
           proved (set seen p 1) tt
-            (λ q m. elim (mem-cons q p [] m) [ inl e ↦ rw e (i tt .0, i tt .1, k tt, omega (arith, hit-refl p)) | inr n ↦ absurd (omega arith) ])
-            (record { long = length-set seen p 1; each = λ q l. elim (hit-cases q p) [
-                inl e ↦ ap (λ (x : ℕ). getD (set seen p 1) x 0) (e .0) ∙ getD-set-same seen p 1 0 (omega (arith, i tt .1)) ∙ omega (arith, e .1, ap (λ (x : ℕ). getD seen x 0) (e .0))
-              | inr ne ↦ getD-set-other seen p q 1 0 (ne .0) ∙ omega (arith, ne .1) ] })
+          (λ q m. elim (mem-cons q p [] m) [ inl e ↦ rw e (i tt .0, i tt .1, k tt, omega (arith, hit-refl p)) | inr n ↦ absurd (omega arith) ])
+          (record {
+            long = length-set seen p 1;
+            each = λ q l. elim (hit-cases q p) [
+              | inl e ↦ ap (λ (x : ℕ). getD (set seen p 1) x 0) (e .0) ∙ getD-set-same seen p 1 0 (omega (arith, i tt .1)) ∙ omega (arith, e .1, ap (λ (x : ℕ). getD seen x 0) (e .0))
+              | inr ne ↦ getD-set-other seen p q 1 0 (ne .0) ∙ omega (arith, ne .1)
+            ];
+          })
       go true true false i u k from = refuted (λ g o. from o .2)
       go true false k i u w from = refuted (λ g o. from o .1)
       go false m k i u w from = refuted (λ g o. from o .0)
@@ -136,14 +141,14 @@ module _ (b : Bytes) where
       let new = fresh earlier (aFile name date start size) in
       let ends = eqb (beyond (link b) (pagesFor size) start) 0 in
       tells-iff (λ g. let r = swap-and (legalName name) new ends g in ((r .0, tt), r .1)) (λ g. swap-and (legalName name) ends new (g .0 .0, g .1))
-        (tells-if (freshName b earlier name) (badEntry p i) (chain-told p i (pagesFor size) 0 start seen long))
+      (tells-if (freshName b earlier name) (badEntry p i) (chain-told p i (pagesFor size) 0 start seen long))
   entry-told d ih p i earlier (aDirectory name date start size) seen long =
       let new = fresh earlier (aDirectory name date start size) in
       let sized = eqb size 0x0100 in
       tells-iff
-        (λ g. let r = swap-and (legalName name) new sized (and-both (freshName b earlier name) sized (g .0)) in ((r .0, g .1 .1), r .1))
-        (λ g. let r = swap-and (legalName name) sized new (g .0 .0, g .1) in (both-and (freshName b earlier name) sized (r .0) (r .1), (tt, g .0 .1)))
-        (tells-if (freshName b earlier name && sized) (badEntry p i) (tells-then (page-told (badChain p i 0) start seen long) (λ s g c. ih start s (c .long ∙ long))))
+      (λ g. let r = swap-and (legalName name) new sized (and-both (freshName b earlier name) sized (g .0)) in ((r .0, g .1 .1), r .1))
+      (λ g. let r = swap-and (legalName name) sized new (g .0 .0, g .1) in (both-and (freshName b earlier name) sized (r .0) (r .1), (tt, g .0 .1)))
+      (tells-if (freshName b earlier name && sized) (badEntry p i) (tells-then (page-told (badChain p i 0) start seen long) (λ s g c. ih start s (c .long ∙ long))))
 
   -- Each name is tested against the earlier ones, and so the names are apart in the order from last to first.
   apart-earlier : (ats earlier : List ℕ) → T (namesApart b (reverseAux ats earlier)) → T (namesApart b earlier)
@@ -153,29 +158,35 @@ module _ (b : Bytes) where
 
   entries-told : (d : ℕ) → Below d → (p i : ℕ) (earlier ats seen : List ℕ) → length seen ≡ pageCount b → T (namesApart b earlier)
       → Tells (((at : ℕ) → Mem at ats → GoodEntry d (entryAt b at)) × T (namesApart b (reverseAux ats earlier)))
-          (flatMap (λ at. own d b (entryAt b at)) ats) seen (judgeEntries (judgeDirectory d b) b p i earlier ats seen)
+      (flatMap (λ at. own d b (entryAt b at)) ats) seen (judgeEntries (judgeDirectory d b) b p i earlier ats seen)
   unfolding judgeEntries flatMap namesApart
   entries-told d ih p i earlier [] seen long a = tells-iff (λ (g : Unit {0}). (λ at m. absurd (omega arith), a)) (λ g. tt) (none-told seen)
   entries-told d ih p i earlier (at ∷ ats) seen long a =
       tells-iff
-        (λ g. (λ x m. elim (mem-cons x at ats m) [ inl e ↦ rw e (g .0 .0) | inr k ↦ g .1 .0 x k ], g .1 .1))
-        (λ g. ((g .0 at (mem-head at ats), and-both (fresh earlier (entryAt b at)) (namesApart b earlier) (apart-earlier ats (at ∷ earlier) (g .1)) .0),
-          (λ x m. g .0 x (mem-tail x at ats m), g .1)))
-        (tells-then (entry-told d ih p i earlier (entryAt b at) seen long)
-          (λ s g c. entries-told d ih p (suc i) (at ∷ earlier) ats s (c .long ∙ long) (both-and (fresh earlier (entryAt b at)) (namesApart b earlier) (g .1) a)))
+      (λ g. (λ x m. elim (mem-cons x at ats m) [ inl e ↦ rw e (g .0 .0) | inr k ↦ g .1 .0 x k ], g .1 .1))
+      (λ g. (
+        (g .0 at (mem-head at ats), and-both (fresh earlier (entryAt b at)) (namesApart b earlier) (apart-earlier ats (at ∷ earlier) (g .1)) .0),
+        (λ x m. g .0 x (mem-tail x at ats m), g .1),
+      ))
+      (tells-then (entry-told d ih p i earlier (entryAt b at) seen long)
+      (λ s g c. entries-told d ih p (suc i) (at ∷ earlier) ats s (c .long ∙ long) (both-and (fresh earlier (entryAt b at)) (namesApart b earlier) (g .1) a)))
 
   directory-told : (d : ℕ) → Below d
   unfolding judgeDirectory goodDirectory namesApart
   directory-told zero p seen long = refuted (λ g o. g)
   directory-told (suc d) p seen long =
       subst (λ (ps : List ℕ). Tells (T (goodDirectory (suc d) b p)) ps seen (judgeDirectory (suc d) b p seen)) (sym (owned-entries d b p)) (tells-iff
-        (λ g. good-join d b p record { each = λ x m. g .0 x m .0; below = λ x m. g .0 x m .1;
-          apart = λ x y m k. apart-split b (reverse (entries p)) (g .1) x y (omega (arith, occ-reverse x (entries p) [])) (omega (arith, occ-reverse y (entries p) [])) })
-        (λ h. let r = good-split d b p h in
-          (λ x m. (r .each x m, r .below x m),
-           apart-join b (reverse (entries p)) (λ q. omega (arith, occ-reverse q (entries p) [], nodup-entries p q))
-             (λ x y m k. r .apart x y (omega (arith, occ-reverse x (entries p) [])) (omega (arith, occ-reverse y (entries p) [])))))
-        (entries-told d (directory-told d) p 0 [] (entries p) seen long tt))
+      (λ g. good-join d b p record {
+        each = λ x m. g .0 x m .0;
+        below = λ x m. g .0 x m .1;
+        apart = λ x y m k. apart-split b (reverse (entries p)) (g .1) x y (omega (arith, occ-reverse x (entries p) [])) (omega (arith, occ-reverse y (entries p) []));
+      })
+      (λ h. let r = good-split d b p h in (
+        λ x m. (r .each x m, r .below x m),
+        apart-join b (reverse (entries p)) (λ q. omega (arith, occ-reverse q (entries p) [], nodup-entries p q))
+            (λ x y m k. r .apart x y (omega (arith, occ-reverse x (entries p) [])) (omega (arith, occ-reverse y (entries p) []))),
+      ))
+      (entries-told d (directory-told d) p 0 [] (entries p) seen long tt))
 
   -- ---- the image
 
@@ -196,17 +207,24 @@ module _ (b : Bytes) where
     where
       pages : List ℕ
       pages = countFrom 1 (pageCount b - 1)
+
       lost : ℕ → Bool
       lost q = eqb (getD s q 0) 0 && eqb (pageBit b q) 1
+
       marks : (q : ℕ) → q < pageCount b → getD s q 0 ≡ occ q (ownedPages b)
       marks q l = omega (arith, c .each q l, getD-replicate {A = ℕ} (pageCount b) q 0 0 l)
+
       go : {good : Type 0} {j : Judged} → Tells good [] s j → (l : Option ℕ) → first lost pages ≡ l → Tells (good × NoneLost) [] s (lostOr j l)
       go t none e = tells-iff
-          (λ g. (g, λ q l u k. elim (mem-or-not q (ownedPages b)) [
-              inl m ↦ m
-            | inr z ↦
-              let w : getD s q 0 ≡ 0 = marks q u ∙ z in
-              absurd (T-not (lost q) (first-none lost pages e q (occ-countFrom 1 (pageCount b - 1) q l (omega arith))) (both-and (eqb (getD s q 0) 0) (eqb (pageBit b q) 1) (eq-eqb w) (eq-eqb k))) ]))
+          (λ g. (
+            g,
+            λ q l u k. elim (mem-or-not q (ownedPages b)) [
+              | inl m ↦ m
+              | inr z ↦
+                  let w : getD s q 0 ≡ 0 = marks q u ∙ z in
+                  absurd (T-not (lost q) (first-none lost pages e q (occ-countFrom 1 (pageCount b - 1) q l (omega arith))) (both-and (eqb (getD s q 0) 0) (eqb (pageBit b q) 1) (eq-eqb w) (eq-eqb k)))
+            ],
+          ))
           (λ g. g .0) t
       go t (some q) e = refuted (λ g o.
           let r = first-found lost pages q e in
@@ -227,16 +245,23 @@ module _ (b : Bytes) where
   right-facts v w g o =
       let r = and-both (eqb (pageBit b 0) 1) counted (g .1 .0) in
       record {
-        fits = v; headed = w; bit-zero = eqb→eq (pageBit b 0) 1 (r .0); counted = eqb→eq (freeCount b) (zeroBits b (pageCount b)) (r .1); formed = g .0;
+        fits = v;
+        headed = w;
+        bit-zero = eqb→eq (pageBit b 0) 1 (r .0);
+        counted = eqb→eq (freeCount b) (zeroBits b (pageCount b)) (r .1);
+        formed = g .0;
         inside = λ q m. (o q m .0, o q m .1);
         exact = λ q l u. elim (mem-or-not q (ownedPages b)) [
-            inl m ↦ let r = o q m in omega arith
-          | inr z ↦ let n : pageBit b q ≢ 1 = λ e. omega (arith, g .1 .1 q l u e) in omega (arith, bit-low version1 b q) ] }
+          | inl m ↦ let r = o q m in omega arith
+          | inr z ↦ let n : pageBit b q ≢ 1 = λ e. omega (arith, g .1 .1 q l u e) in omega (arith, bit-low version1 b q)
+        ];
+      }
 
   facts-right : Facts b → Right × Ownable (ownedPages b) unmarked
-  facts-right f =
-      ((f .formed, (both-and (eqb (pageBit b 0) 1) counted (eq-eqb (f .bit-zero)) (eq-eqb (f .counted)), λ q l u k. omega (arith, f .exact q l u))),
-       λ q m. let i = f .inside q m in omega (arith, f .exact q (i .0) (i .1), bit-low version1 b q, getD-replicate {A = ℕ} (pageCount b) q 0 0 (i .1)))
+  facts-right f = (
+    (f .formed, (both-and (eqb (pageBit b 0) 1) counted (eq-eqb (f .bit-zero)) (eq-eqb (f .counted)), λ q l u k. omega (arith, f .exact q l u))),
+    λ q m. let i = f .inside q m in omega (arith, f .exact q (i .0) (i .1), bit-low version1 b q, getD-replicate {A = ℕ} (pageCount b) q 0 0 (i .1)),
+  )
 
   told-sound : {j : Judged} → Tells Right (ownedPages b) unmarked j → T (validLength (length b)) → T (validHeader b) → isClean j ≡ sound b
   unfolding isClean

@@ -45,22 +45,25 @@ apart-split b (z ∷ zs) h x y m k ne =
     let r = and-both (all (λ w. not (sameName (entryAt b z) (entryAt b w))) zs) (namesApart b zs) h in
     let head : (w : ℕ) → Mem w zs → T (not (sameName (entryAt b z) (entryAt b w))) = all-occ (λ w. not (sameName (entryAt b z) (entryAt b w))) zs (r .0) in
     elim (mem-cons x z zs m) [
-        inl e ↦ elim (mem-cons y z zs k) [
-            inl f ↦ absurd (ne (e ∙ sym f))
-          | inr l ↦ subst (λ (w : ℕ). T (not (sameName (entryAt b w) (entryAt b y)))) (sym e) (head y l) ]
+      | inl e ↦ elim (mem-cons y z zs k) [
+        | inl f ↦ absurd (ne (e ∙ sym f))
+        | inr l ↦ subst (λ (w : ℕ). T (not (sameName (entryAt b w) (entryAt b y)))) (sym e) (head y l)
+      ]
       | inr j ↦ elim (mem-cons y z zs k) [
-            inl f ↦ subst (λ (w : ℕ). T (not (sameName (entryAt b x) (entryAt b w)))) (sym f)
-              (subst (λ (c : Bool). T (not c)) (sameName-sym (entryAt b z) (entryAt b x)) (head x j))
-          | inr l ↦ apart-split b zs (r .1) x y j l ne ] ]
+        | inl f ↦ subst (λ (w : ℕ). T (not (sameName (entryAt b x) (entryAt b w)))) (sym f)
+            (subst (λ (c : Bool). T (not c)) (sameName-sym (entryAt b z) (entryAt b x)) (head x j))
+        | inr l ↦ apart-split b zs (r .1) x y j l ne
+      ]
+    ]
 
 pub apart-join : (b : Bytes) (ats : List ℕ) → Nodup ats → Apart b ats → T (namesApart b ats)
 unfolding namesApart
 apart-join b [] u h = tt
 apart-join b (z ∷ zs) u h =
     both-and (all (λ w. not (sameName (entryAt b z) (entryAt b w))) zs) (namesApart b zs)
-      (occ-all (λ w. not (sameName (entryAt b z) (entryAt b w))) zs (λ w m. h z w (mem-head z zs) (mem-tail w z zs m)
-        (λ e. let o = ap (λ (v : ℕ). occ v zs) e in omega (arith, nodup-head z zs u))))
-      (apart-join b zs (nodup-tail z zs u) (λ x y m k ne. h x y (mem-tail x z zs m) (mem-tail y z zs k) ne))
+    (occ-all (λ w. not (sameName (entryAt b z) (entryAt b w))) zs (λ w m. h z w (mem-head z zs) (mem-tail w z zs m)
+    (λ e. let o = ap (λ (v : ℕ). occ v zs) e in omega (arith, nodup-head z zs u))))
+    (apart-join b zs (nodup-tail z zs u) (λ x y m k ne. h x y (mem-tail x z zs m) (mem-tail y z zs k) ne))
 
 -- ---- a good directory by its entries
 
@@ -78,15 +81,16 @@ good-split d b p h =
     record {
       each = all-occ (λ at. goodEntry b (entryAt b at)) (entries p) (r .0);
       apart = apart-split b (entries p) (s .0);
-      below = all-occ (λ at. inDirectory true (goodDirectory d b) (entryAt b at)) (entries p) (t .0) }
+      below = all-occ (λ at. inDirectory true (goodDirectory d b) (entryAt b at)) (entries p) (t .0);
+    }
 
 pub good-join : (d : ℕ) (b : Bytes) (p : ℕ) → Good d b p → T (goodDirectory (suc d) b p)
 unfolding goodDirectory
 good-join d b p g =
     cons-conditions (all (λ at. goodEntry b (entryAt b at)) (entries p)) _ (occ-all (λ at. goodEntry b (entryAt b at)) (entries p) (g .each))
-      (cons-conditions (namesApart b (entries p)) _ (apart-join b (entries p) (nodup-entries p) (g .apart))
-        (cons-conditions (all (λ at. inDirectory true (goodDirectory d b) (entryAt b at)) (entries p)) []
-          (occ-all (λ at. inDirectory true (goodDirectory d b) (entryAt b at)) (entries p) (g .below)) no-conditions))
+    (cons-conditions (namesApart b (entries p)) _ (apart-join b (entries p) (nodup-entries p) (g .apart))
+    (cons-conditions (all (λ at. inDirectory true (goodDirectory d b) (entryAt b at)) (entries p)) []
+    (occ-all (λ at. inDirectory true (goodDirectory d b) (entryAt b at)) (entries p) (g .below)) no-conditions))
 
 -- ---- one entry changes
 
@@ -101,7 +105,7 @@ unfolding rowOf first
 change-row b b′ g g′ at op test skip work [] e u h = absurd (Option·none-ne-some at e)
 change-row b b′ g g′ at op test skip work (x ∷ xs) e u h =
     go (test (entryAt b x)) refl e
-      (λ k. change-row b b′ g g′ at op test skip work xs k (nodup-tail x xs u) (λ y m ne. h y (mem-tail y x xs m) ne))
+    (λ k. change-row b b′ g g′ at op test skip work xs k (nodup-tail x xs u) (λ y m ne. h y (mem-tail y x xs m) ne))
   where
     go : (c : Bool) → test (entryAt b x) ≡ c → (if c then some x else first (λ y. test (entryAt b y)) xs) ≡ some at
         → (first (λ y. test (entryAt b y)) xs ≡ some at → op (rowOf b g xs) ≡ rowOf b′ g′ xs)
@@ -109,10 +113,10 @@ change-row b b′ g g′ at op test skip work (x ∷ xs) e u h =
     go true q k next =
         let s : at ≡ x = sym (Option·some-injective x at k) in
         subst (λ (y : ℕ). op (entryRow b g (entryAt b y) (rowOf b g xs)) ≡ entryRow b′ g′ (entryAt b′ y) (rowOf b′ g′ xs)) s
-          (work (rowOf b g xs)
-          ∙ ap (entryRow b′ g′ (entryAt b′ at))
-              (sym (rows-same b b′ g g′ xs (λ y m. h y (mem-tail y x xs m)
-                (λ w. let o = ap (λ (v : ℕ). occ v xs) (w ∙ s) in omega (arith, nodup-head x xs u))))))
+        (work (rowOf b g xs)
+        ∙ ap (entryRow b′ g′ (entryAt b′ at))
+        (sym (rows-same b b′ g g′ xs (λ y m. h y (mem-tail y x xs m)
+        (λ w. let o = ap (λ (v : ℕ). occ v xs) (w ∙ s) in omega (arith, nodup-head x xs u))))))
     go false q k next =
         let no-test : T (not (test (entryAt b x))) = subst (λ (c : Bool). T (not c)) (sym q) tt in
         let ne : x ≢ at = λ w. T-not (test (entryAt b x)) no-test (subst (λ (z : ℕ). T (test (entryAt b z))) (sym w) (first-found (λ y. test (entryAt b y)) xs at k .1)) in
@@ -136,7 +140,7 @@ module _ (d : ℕ) (b b′ : Bytes) (p at : ℕ) (others : (x : ℕ) → Mem x (
       let x : occ q (owned (suc d) b p) ≡ occ q (flatMap (λ y. own d b (entryAt b y)) (entries p)) = ap (occ q) (owned-entries d b p) in
       let x′ : occ q (owned (suc d) b′ p) ≡ occ q (flatMap (λ y. own d b′ (entryAt b′ y)) (entries p)) = ap (occ q) (owned-entries d b′ p) in
       let c = occ-flatMap-change (λ y. own d b (entryAt b y)) (λ y. own d b′ (entryAt b′ y)) (entries p) at q (nodup-entries p) m
-            (λ y k ne. sym (same-own b b′ d d y (others y k ne))) in
+      (λ y k ne. sym (same-own b b′ d d y (others y k ne))) in
       omega (arith, x, x′, c)
 
   pub level-good : T (goodDirectory (suc d) b p)
@@ -146,19 +150,24 @@ module _ (d : ℕ) (b b′ : Bytes) (p at : ℕ) (others : (x : ℕ) → Mem x (
   level-good h good below name =
       let g = good-split d b p h in
       let new : (x : ℕ) → Mem x (entries p) → x ≢ at → T (not (sameName (entryAt b′ at) (entryAt b′ x))) = λ x m ne.
-            subst (λ (e : Entry). T (not (sameName (entryAt b′ at) e))) (sym (others x m ne .fields)) (name x m ne) in
+      subst (λ (e : Entry). T (not (sameName (entryAt b′ at) e))) (sym (others x m ne .fields)) (name x m ne) in
       good-join d b′ p (record {
         each = λ x m. elim (ℕ-discrete x at) [
-            yes e ↦ subst (λ (y : ℕ). T (goodEntry b′ (entryAt b′ y))) (sym e) good
-          | no ne ↦ subst (λ (c : Bool). T c) (sym (same-good b b′ d d x (others x m ne))) (g .each x m) ];
+          | yes e ↦ subst (λ (y : ℕ). T (goodEntry b′ (entryAt b′ y))) (sym e) good
+          | no ne ↦ subst (λ (c : Bool). T c) (sym (same-good b b′ d d x (others x m ne))) (g .each x m)
+        ];
         apart = λ x y m k ne. elim (ℕ-discrete x at) [
-            yes e ↦ subst (λ (z : ℕ). T (not (sameName (entryAt b′ z) (entryAt b′ y)))) (sym e) (new y k (λ f. ne (e ∙ sym f)))
+          | yes e ↦ subst (λ (z : ℕ). T (not (sameName (entryAt b′ z) (entryAt b′ y)))) (sym e) (new y k (λ f. ne (e ∙ sym f)))
           | no xat ↦ elim (ℕ-discrete y at) [
-                yes e ↦ subst (λ (z : ℕ). T (not (sameName (entryAt b′ x) (entryAt b′ z)))) (sym e)
-                  (subst (λ (c : Bool). T (not c)) (sameName-sym (entryAt b′ at) (entryAt b′ x)) (new x m xat))
-              | no yat ↦
-                  subst (λ (e : Entry). T (not (sameName e (entryAt b′ y)))) (sym (others x m xat .fields))
-                    (subst (λ (e : Entry). T (not (sameName (entryAt b x) e))) (sym (others y k yat .fields)) (g .apart x y m k ne)) ] ];
+            | yes e ↦ subst (λ (z : ℕ). T (not (sameName (entryAt b′ x) (entryAt b′ z)))) (sym e)
+                (subst (λ (c : Bool). T (not c)) (sameName-sym (entryAt b′ at) (entryAt b′ x)) (new x m xat))
+            | no yat ↦
+                subst (λ (e : Entry). T (not (sameName e (entryAt b′ y)))) (sym (others x m xat .fields))
+                (subst (λ (e : Entry). T (not (sameName (entryAt b x) e))) (sym (others y k yat .fields)) (g .apart x y m k ne))
+          ]
+        ];
         below = λ x m. elim (ℕ-discrete x at) [
-            yes e ↦ subst (λ (y : ℕ). T (inDirectory true (goodDirectory d b′) (entryAt b′ y))) (sym e) below
-          | no ne ↦ subst (λ (c : Bool). T c) (sym (same-below b b′ d d x (others x m ne))) (g .below x m) ] })
+          | yes e ↦ subst (λ (y : ℕ). T (inDirectory true (goodDirectory d b′) (entryAt b′ y))) (sym e) below
+          | no ne ↦ subst (λ (c : Bool). T c) (sym (same-below b b′ d d x (others x m ne))) (g .below x m)
+        ];
+      })

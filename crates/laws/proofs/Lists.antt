@@ -57,8 +57,9 @@ keep-one f p (x ∷ xs) h = go (member p (f x)) (member-occ p (f x)) refl (keep-
 pub page-owned : (b : Bytes) → Facts b → (p : ℕ) → 1 ≤ p → p < pageCount b → Owned b p
 unfolding owners
 page-owned b f p l u = elim (bit-cases version1 b p) [
-    inl z ↦ isFree z (keep-none (pagesAt b) p (reachedEntries b) (f .exact p l u ∙ z))
-  | inr o ↦ let r = keep-one (pagesAt b) p (reachedEntries b) (f .exact p l u ∙ o) in isOwned (r .0) o (r .1) ]
+  | inl z ↦ isFree z (keep-none (pagesAt b) p (reachedEntries b) (f .exact p l u ∙ z))
+  | inr o ↦ let r = keep-one (pagesAt b) p (reachedEntries b) (f .exact p l u ∙ o) in isOwned (r .0) o (r .1)
+]
 
 -- ---- a sound image
 
@@ -74,13 +75,15 @@ pub account : (b : Bytes) → T (sound b) → Account b (treeOf b)
 account b h =
     let f = sound-facts b h in
     record {
-      isSound = h; means = refl;
+      isSound = h;
+      means = refl;
       counted = free-sum b f ∙ sym (tree-pages b);
       zeros = sym (f .counted);
       told = as-tree verdict b h .answered ∙ verdict-told (treeOf b)
-        ∙ ap {B = Answer Verdict} (λ n. granted (record { pages = treeOf b .pages; free = n })) (free-number b f);
+          ∙ ap {B = Answer Verdict} (λ n. granted (record { pages = treeOf b .pages; free = n })) (free-number b f);
       number = free-number b f;
-      pages = page-owned b f }
+      pages = page-owned b f;
+    }
 
 -- ---- the length is kept
 
@@ -110,6 +113,7 @@ length-kept c b = settle-both (λ (x y : Bytes). length x ≡ length b) (lines c
         let p = sound-passed d b n e in
         let g = granted-law d b (p .0) (p .1) in
         sound-length b (effect d b) (p .0) (g .0) (ap (λ (t : Tree). t .pages) (g .1) ∙ changed-pages d (treeOf b))
+
     go : (d : Call) → Passes (lines d b) → length (effect d b) ≡ length b
     go format e = formatted-length b (not-not (validLength (length b)) (passed _ _ e .0))
     go verdict e = refl
@@ -126,7 +130,11 @@ length-kept c b = settle-both (λ (x y : Bytes). length x ≡ length b) (lines c
 pub demanded : (cs : List Call) (b : Bytes) (t : Tree) → T (sound b) → treeOf b ≡ t → (rs : Results cs) (b′ : Bytes) → Runs b cs rs b′ → Demanded b t cs rs b′
 unfolding replay replayResults
 demanded [] b t h e rs b′ q = record {
-    account = subst (λ (x : Bytes). Account x t) (sym q) (subst (Account b) e (account b h)); long = ap length q; answered = refl; wantOfPages = tt }
+  account = subst (λ (x : Bytes). Account x t) (sym q) (subst (Account b) e (account b h));
+  long = ap length q;
+  answered = refl;
+  wantOfPages = tt;
+}
 demanded (c ∷ cs) b t h e rs b′ run =
     let mid : Bytes = run .0 in
     let p : Promised c b (rs .0) mid = run .1 in
@@ -140,7 +148,8 @@ demanded (c ∷ cs) b t h e rs b′ run =
       account = r .account;
       long = r .long ∙ ap length (p .image) ∙ length-kept c b;
       answered = λ i. (record { answered = told-c i; lent = lent-c i }, r .answered i);
-      wantOfPages = ((λ u. w .0 (sym told-c ∙ u), λ v. told-c ∙ w .1 v), r .wantOfPages) }
+      wantOfPages = ((λ u. w .0 (sym told-c ∙ u), λ v. told-c ∙ w .1 v), r .wantOfPages);
+    }
 
 -- every list of calls has a run: what the contracts promise is there
 pub runs : (cs : List Call) (b : Bytes) → (rs : Results cs) × (b′ : Bytes) × Runs b cs rs b′

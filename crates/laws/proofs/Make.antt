@@ -128,9 +128,9 @@ module _ (b : Bytes) (f : Facts b) (ns : List Name) (name date : Bytes) (fl z k 
   made-bytes =
       let l = new-length fl name z date (w .long) (w .dated) in
       made-is version1 home (pageCount b) (lawful b f) b (w .at) (w .above .t) (newEntry fl name 0 z date) (byte (w .at + 17)) k (size b f .whole) (header-marked b f)
-        (omega (arith, size b f .low)) place-held (omega arith) (omega arith)
-        (put-in (w .at) (newEntry fl name 0 z date) b (place-held .inside) 17 (omega arith) ∙ new-start fl name z date (w .long) (w .dated))
-        (w .space)
+      (omega (arith, size b f .low)) place-held (omega arith) (omega arith)
+      (put-in (w .at) (newEntry fl name 0 z date) b (place-held .inside) 17 (omega arith) ∙ new-start fl name z date (w .long) (w .dated))
+      (w .space)
 
   pub made-gained : Gained version1 (pageCount b) k b
   made-gained = gained-is version1 home (pageCount b) (lawful b f) k b (size b f .whole) (header-marked b f) (w .space)
@@ -158,25 +158,28 @@ module _ (b : Bytes) (f : Facts b) (ns : List Name) (name date : Bytes) (fl z k 
       let l = new-length fl name z date (w .long) (w .dated) in
       let zero-out : occ 0 qs ≡ 0 = not-mem 0 qs (λ c. omega (arith, new 0 c .0)) in
       changed b b′ f ns (w .above .e) (w .above .t) (w .at) qs (w .above .leads) (spot .0)
-        (record {
-          len = m .size;
-          head = λ i u. let z : i / 256 ≡ 0 = omega arith in
+      (record {
+        len = m .size;
+        head = λ i u. let z : i / 256 ≡ 0 = omega arith in
             m .rest i (head-kept b f i u) (λ v. omega (arith, place-slot .within .far)) (subst (λ (y : ℕ). occ y qs ≡ 0) (sym z) zero-out);
-          rest = λ i u v c. m .rest i (rest-kept b f i u) (λ y. omega (arith, v y)) c })
-        (λ q c. let r = new q c in (r .0, λ o. absurd (omega (arith, r .2, f .exact q (r .0) (r .1)))))
-        (fill h) isVacant (w .above .good)
-        (record {
-          skip = fill-skip b (rowAt (w .above .e) b) h;
-          work = λ rest. fill-work b (rowAt (w .above .e) b) h (entryAt b (w .at)) (spot .1) rest ∙ means rest
+        rest = λ i u v c. m .rest i (rest-kept b f i u) (λ y. omega (arith, v y)) c;
+      })
+      (λ q c. let r = new q c in (r .0, λ o. absurd (omega (arith, r .2, f .exact q (r .0) (r .1)))))
+      (fill h) isVacant (w .above .good)
+      (record {
+        skip = fill-skip b (rowAt (w .above .e) b) h;
+        work = λ rest. fill-work b (rowAt (w .above .e) b) h (entryAt b (w .at)) (spot .1) rest ∙ means rest
             ∙ ap (λ (y : Entry). entryRow b′ (rowAt (w .above .e) b′) y rest) (sym is);
-          found = w .found;
-          good = subst (λ (y : Entry). T (goodEntry b′ y)) (sym is) good;
-          below = subst (λ (y : Entry). T (inDirectory true (goodDirectory (w .above .e) b′) y)) (sym is) sub;
-          name = λ y c ne. subst (λ (v : Entry). T (not (sameName v (entryAt b y)))) (sym is) (apart (entryAt b y) (w .apart y c)) })
-        (record {
-          bits = λ q u. omega (arith, ap (occ q) before, ap (occ q) after, m .bits q u);
-          count = omega (arith, ap length before, ap length after, made-gained .many, m .count, f .counted, w .space);
-          fresh-in = λ q c. let r = new q (subst (λ (ps : List ℕ). Mem q ps) after c) in (r .0, r .1) })
+        found = w .found;
+        good = subst (λ (y : Entry). T (goodEntry b′ y)) (sym is) good;
+        below = subst (λ (y : Entry). T (inDirectory true (goodDirectory (w .above .e) b′) y)) (sym is) sub;
+        name = λ y c ne. subst (λ (v : Entry). T (not (sameName v (entryAt b y)))) (sym is) (apart (entryAt b y) (w .apart y c));
+      })
+      (record {
+        bits = λ q u. omega (arith, ap (occ q) before, ap (occ q) after, m .bits q u);
+        count = omega (arith, ap length before, ap length after, made-gained .many, m .count, f .counted, w .space);
+        fresh-in = λ q c. let r = new q (subst (λ (ps : List ℕ). Mem q ps) after c) in (r .0, r .1);
+      })
 
 -- ---- a file: its pages are those that size 0 wants, whatever their number
 
@@ -189,9 +192,9 @@ module _ (b : Bytes) (f : Facts b) (ns : List Name) (name date : Bytes) (w : Pla
       let m = made-bytes b f ns name date 0x80 0 (pagesFor 0) w in
       let is = is-file 0x80 name 0 date (w .long) (w .dated) b′ (w .at) (made-inside b f ns name date 0x80 0 (pagesFor 0) w) (made-there b f ns name date 0x80 0 (pagesFor 0) w) refl in
       made-sound b f ns name date 0x80 0 (pagesFor 0) w (file name date []) (aFile name date (startAt b′ (w .at)) 0) is
-        (m .pages)
-        (both-and (legalName name) (eqb (beyond (link b′) (pagesFor 0) (startAt b′ (w .at))) 0) (w .legal) (eq-eqb (m .ends)))
-        tt (λ y h. h) (λ rest. refl)
+      (m .pages)
+      (both-and (legalName name) (eqb (beyond (link b′) (pagesFor 0) (startAt b′ (w .at))) 0) (w .legal) (eq-eqb (m .ends)))
+      tt (λ y h. h) (λ rest. refl)
 
 -- ---- a directory: its page is all zero, so it is one of 8 vacant entries
 
@@ -217,34 +220,48 @@ module _ (b : Bytes) (f : Facts b) (ns : List Name) (name date : Bytes) (w : Pla
     where
       b′ : Bytes
       b′ = madeAt 0x81 0x0100 1 name date (w .at) b
+
       m : Made version1 home (pageCount b) b (madeAt 0x81 0x0100 1 name date (w .at) b) (w .at) (newEntry 0x81 name 0 0x0100 date) (byte (w .at + 17)) 1 (On.gained version1 (pageCount b) 1 b)
       m = made-bytes b f ns name date 0x81 0x0100 1 w
+
       s : ℕ
       s = startAt (madeAt 0x81 0x0100 1 name date (w .at) b) (w .at)
+
       mem : Mem s (On.gained version1 (pageCount b) 1 b)
       mem = subst (λ (ps : List ℕ). Mem s ps) (m .pages) (omega (arith, hit-refl s))
+
       low : 1 ≤ s
       low = made-gained b f ns name date 0x81 0x0100 1 w .new s mem .0
+
       zeros : (i : ℕ) → i / 256 ≡ s → byteAt b′ i ≡ 0
       zeros i h = elim (ℕ-discrete i (256 * s)) [
-          yes u ↦ ap (byteAt b′) u ∙ m .ends
-        | no u ↦ m .zeroed s i mem (omega arith) (omega arith) (λ v. omega (arith, u)) ]
+        | yes u ↦ ap (byteAt b′) u ∙ m .ends
+        | no u ↦ m .zeroed s i mem (omega arith) (omega arith) (λ v. omega (arith, u))
+      ]
+
       vacants : (x : ℕ) → Mem x (entries s) → entryAt b′ x ≡ vacant
       vacants x c = let r = entry-within s x c in zero-vacant b′ x (zeros x (omega (arith, r .low, r .high)))
+
       deep : 1 ≤ w .above .e
-      deep = omega (arith, leads-depth b ns (pageCount b) 0 (suc (w .above .e)) (w .above .t) (w .above .leads),
-        leads-many b ns (pageCount b) 0 (suc (w .above .e)) (w .above .t) (w .above .leads), count-owned b f, w .space)
+      deep = omega (
+        arith,
+        leads-depth b ns (pageCount b) 0 (suc (w .above .e)) (w .above .t) (w .above .leads),
+        leads-many b ns (pageCount b) 0 (suc (w .above .e)) (w .above .t) (w .above .leads),
+        count-owned b f,
+        w .space,
+      )
+
       go : (e : ℕ) → w .above .e ≡ e → T (sound b′) × (treeOf b′ ≡ record { pages = pageCount b; root = changeAt ns (fill (dir name date (emptyRow 8))) (rowAt (pageCount b) b 0) })
       go zero q = absurd (omega (arith, q, deep))
       go (suc e) q =
           let is = is-directory 0x81 name 0x0100 date (w .long) (w .dated) b′ (w .at) (made-inside b f ns name date 0x81 0x0100 1 w) (made-there b f ns name date 0x81 0x0100 1 w) refl in
           made-sound b f ns name date 0x81 0x0100 1 w (dir name date (emptyRow 8)) (aDirectory name date s 0x0100) is
-            (ap (λ (d : ℕ). s ∷ owned d b′ s) q ∙ ap (λ (l : List ℕ). s ∷ l) (vacant-owns b′ e s vacants) ∙ m .pages)
-            (both-and (legalName name) true (w .legal) tt)
-            (subst (λ (d : ℕ). T (goodDirectory d b′ s)) (sym q) (vacant-good b′ e s vacants))
-            (λ y h. h)
-            (λ rest. ap (λ (r : Row). dir name date r rest)
-              (sym (ap (λ (d : ℕ). rowAt d b′ s) q ∙ vacant-row b′ e s vacants ∙ ap emptyRow (eight-entries s low))))
+          (ap (λ (d : ℕ). s ∷ owned d b′ s) q ∙ ap (λ (l : List ℕ). s ∷ l) (vacant-owns b′ e s vacants) ∙ m .pages)
+          (both-and (legalName name) true (w .legal) tt)
+          (subst (λ (d : ℕ). T (goodDirectory d b′ s)) (sym q) (vacant-good b′ e s vacants))
+          (λ y h. h)
+          (λ rest. ap (λ (r : Row). dir name date r rest)
+          (sym (ap (λ (d : ℕ). rowAt d b′ s) q ∙ vacant-row b′ e s vacants ∙ ap emptyRow (eight-entries s low))))
 
 -- ---- the calls
 
@@ -263,8 +280,15 @@ place-of b f ns n date k c =
     let p = parent b f ns (c .reached) (c .entered) in
     let r = c .new (rowAt (suc (p .e)) b (p .t)) (p .row) in
     record {
-      above = p; at = lowestVacant b (p .t); found = some-vacant b (p .e) (p .t) (r .1); legal = c .legal;
-      apart = not-named b (p .e) (p .t) (n .bytes) (r .0); long = c .long; dated = c .dated; space = c .space }
+      above = p;
+      at = lowestVacant b (p .t);
+      found = some-vacant b (p .e) (p .t) (r .1);
+      legal = c .legal;
+      apart = not-named b (p .e) (p .t) (n .bytes) (r .0);
+      long = c .long;
+      dated = c .dated;
+      space = c .space;
+    }
 
 pub made-position : (b : Bytes) (ns : List Name) (n : Name) (date : Bytes) (fl z k : ℕ) (p : Parent b ns)
     → made fl z k (below ns n) date b ≡ madeAt fl z k (n .bytes) date (lowestVacant b (p .t)) b
@@ -273,18 +297,18 @@ made-position b ns n date fl z k p = ap (λ (v : Walked ℕ). madeAt fl z k (n .
 
 pub file-tree : (b : Bytes) → Facts b → (ns : List Name) (n : Name) (date : Bytes) → Clear b ns n date (pagesFor 0)
     → T (sound (fileMade (below ns n) date b))
-      × (treeOf (fileMade (below ns n) date b) ≡ record { pages = pageCount b; root = changeAt ns (fill (file (n .bytes) date [])) (rowAt (pageCount b) b 0) })
+    × (treeOf (fileMade (below ns n) date b) ≡ record { pages = pageCount b; root = changeAt ns (fill (file (n .bytes) date [])) (rowAt (pageCount b) b 0) })
 unfolding place-of
 file-tree b f ns n date c =
     subst (λ (b′ : Bytes). T (sound b′) × (treeOf b′ ≡ record { pages = pageCount b; root = changeAt ns (fill (file (n .bytes) date [])) (rowAt (pageCount b) b 0) }))
-      (sym (made-position b ns n date 0x80 0 (pagesFor 0) (parent b f ns (c .reached) (c .entered))))
-      (file-sound b f ns (n .bytes) date (place-of b f ns n date (pagesFor 0) c))
+    (sym (made-position b ns n date 0x80 0 (pagesFor 0) (parent b f ns (c .reached) (c .entered))))
+    (file-sound b f ns (n .bytes) date (place-of b f ns n date (pagesFor 0) c))
 
 pub directory-tree : (b : Bytes) → Facts b → (ns : List Name) (n : Name) (date : Bytes) → Clear b ns n date 1
     → T (sound (directoryMade (below ns n) date b))
-      × (treeOf (directoryMade (below ns n) date b) ≡ record { pages = pageCount b; root = changeAt ns (fill (dir (n .bytes) date (emptyRow 8))) (rowAt (pageCount b) b 0) })
+    × (treeOf (directoryMade (below ns n) date b) ≡ record { pages = pageCount b; root = changeAt ns (fill (dir (n .bytes) date (emptyRow 8))) (rowAt (pageCount b) b 0) })
 unfolding place-of
 directory-tree b f ns n date c =
     subst (λ (b′ : Bytes). T (sound b′) × (treeOf b′ ≡ record { pages = pageCount b; root = changeAt ns (fill (dir (n .bytes) date (emptyRow 8))) (rowAt (pageCount b) b 0) }))
-      (sym (made-position b ns n date 0x81 0x0100 1 (parent b f ns (c .reached) (c .entered))))
-      (directory-sound b f ns (n .bytes) date (place-of b f ns n date 1 c))
+    (sym (made-position b ns n date 0x81 0x0100 1 (parent b f ns (c .reached) (c .entered))))
+    (directory-sound b f ns (n .bytes) date (place-of b f ns n date 1 c))

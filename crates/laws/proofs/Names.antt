@@ -140,15 +140,17 @@ pub texts-last : (r : Bytes) → textLength r ≡ length r → texts r ≡ take 
 unfolding textLength texts before
 texts-last [] e = refl
 texts-last (c ∷ r) e = elim (slash-or-not c r) [
-    inl h ↦ absurd (omega (arith, h .0))
-  | inr h ↦ rw (h .0, h .1) (ap (before c) (texts-last r (omega (arith, h .0)))) ]
+  | inl h ↦ absurd (omega (arith, h .0))
+  | inr h ↦ rw (h .0, h .1) (ap (before c) (texts-last r (omega (arith, h .0))))
+]
 
 pub texts-next : (r : Bytes) → textLength r < length r → texts r ≡ take (textLength r) r ∷ texts (drop (suc (textLength r)) r)
 unfolding before
 texts-next [] l = absurd (omega arith)
 texts-next (c ∷ r) l = elim (slash-or-not c r) [
-    inl h ↦ rw (h .0, h .1)
-  | inr h ↦ rw (h .0, h .1) (ap (before c) (texts-next r (omega (arith, h .0)))) ]
+  | inl h ↦ rw (h .0, h .1)
+  | inr h ↦ rw (h .0, h .1) (ap (before c) (texts-next r (omega (arith, h .0))))
+]
 
 -- ---- dates
 

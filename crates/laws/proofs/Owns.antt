@@ -38,7 +38,7 @@ pub own-two : (d : ℕ) (b : Bytes) (p x y q : ℕ) → x ≢ y → Mem x (entri
     → occ q (own d b (entryAt b x)) + occ q (own d b (entryAt b y)) ≤ occ q (owned (suc d) b p)
 own-two d b p x y q ne m k =
     subst (λ (l : List ℕ). occ q (own d b (entryAt b x)) + occ q (own d b (entryAt b y)) ≤ occ q l) (sym (owned-entries d b p))
-      (occ-flatMap-two (λ x. own d b (entryAt b x)) (entries p) x y q ne m k)
+    (occ-flatMap-two (λ x. own d b (entryAt b x)) (entries p) x y q ne m k)
 
 pub own-length : (d : ℕ) (b : Bytes) (p at : ℕ) → Mem at (entries p) → length (own d b (entryAt b at)) ≤ length (owned (suc d) b p)
 own-length d b p at m =

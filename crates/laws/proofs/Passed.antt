@@ -103,15 +103,26 @@ module _ (b : Bytes) (f : Facts b) where
       let top : Row = rowAt (pageCount b) b 0 in
       let good = not-not (goodDate date) (p2 .0) in
       let name = last-legal path (w .0) (w .1) (w .2) in
-      record { ns = w .0; n = w .1; is = w .2; good = good; clear = record {
-        reached = subst (λ (p : Path). T (not (isMissing (walk (parents p) top)))) (w .2) (p3 .0);
-        entered = subst (λ (p : Path). T (not (isBlocked (walk (parents p) top)))) (w .2) (p4 .0);
-        new = λ s a.
-          (subst (λ (v : Walked Row). T (not (isThere (lookup (w .1 .bytes) (arrivedOr end v))))) a
-             (subst (λ (p : Path). T (not (isThere (lookup (lastName p) (arrivedOr end (walk (parents p) top)))))) (w .2) (o .1)),
-           subst (λ (v : Walked Row). T (not (eqb (held (arrivedOr end v)) (width (arrivedOr end v))))) a
-             (subst (λ (p : Path). T (not (eqb (held (arrivedOr end (walk (parents p) top))) (width (arrivedOr end (walk (parents p) top)))))) (w .2) (p6 .0)));
-        legal = name .0; long = name .1; dated = date-length date good; space = space-free k (p7 .0) } }
+      record {
+        ns = w .0;
+        n = w .1;
+        is = w .2;
+        good = good;
+        clear = record {
+          reached = subst (λ (p : Path). T (not (isMissing (walk (parents p) top)))) (w .2) (p3 .0);
+          entered = subst (λ (p : Path). T (not (isBlocked (walk (parents p) top)))) (w .2) (p4 .0);
+          new = λ s a. (
+            subst (λ (v : Walked Row). T (not (isThere (lookup (w .1 .bytes) (arrivedOr end v))))) a
+                (subst (λ (p : Path). T (not (isThere (lookup (lastName p) (arrivedOr end (walk (parents p) top)))))) (w .2) (o .1)),
+            subst (λ (v : Walked Row). T (not (eqb (held (arrivedOr end v)) (width (arrivedOr end v))))) a
+                (subst (λ (p : Path). T (not (eqb (held (arrivedOr end (walk (parents p) top))) (width (arrivedOr end (walk (parents p) top)))))) (w .2) (p6 .0)),
+          );
+          legal = name .0;
+          long = name .1;
+          dated = date-length date good;
+          space = space-free k (p7 .0);
+        };
+      }
 
   pub write-passed : (path : Bytes) (from : ℕ) (v : Bytes) → Passes (refusals (write path from v) (treeOf b)) → Writes b path from v
   unfolding refusals earlier later wanted treeOf
@@ -125,11 +136,16 @@ module _ (b : Bytes) (f : Facts b) where
       let top : Row = rowAt (pageCount b) b 0 in
       let w = last-name (pathOf path) (p1 .0) (not-root (pathOf path) top (p4 .0)) in
       record {
-        ns = w .0; n = w .1; is = w .2;
+        ns = w .0;
+        n = w .1;
+        is = w .2;
         reached = subst (λ (p : Path). T (not (isMissing (walkTo p top)))) (w .2) (p2 .0);
         entered = subst (λ (p : Path). T (not (isBlocked (walkTo p top)))) (w .2) (p3 .0);
         leads = subst (λ (p : Path). walkTo p top ≡ arrived (node path (treeOf b))) (w .2) (arrives (directoryNode [] end) (walkTo (pathOf path) top) (p2 .0) (p3 .0));
-        isFile = p4 .0; begins = nltb→le (size path (treeOf b)) from (p5 .0); space = space-free (wanted (write path from v) (treeOf b)) (p6 .0) }
+        isFile = p4 .0;
+        begins = nltb→le (size path (treeOf b)) from (p5 .0);
+        space = space-free (wanted (write path from v) (treeOf b)) (p6 .0);
+      }
 
   pub remove-passed : (path : Bytes) → Passes (refusals (remove path) (treeOf b)) → Removes b path
   unfolding refusals earlier later treeOf arrivedOr
@@ -143,9 +159,12 @@ module _ (b : Bytes) (f : Facts b) where
       let top : Row = rowAt (pageCount b) b 0 in
       let w = last-name (pathOf path) (p1 .0) (p2 .0) in
       record {
-        ns = w .0; n = w .1; is = w .2;
+        ns = w .0;
+        n = w .1;
+        is = w .2;
         reached = subst (λ (p : Path). T (not (isMissing (walkTo p top)))) (w .2) (p3 .0);
         entered = subst (λ (p : Path). T (not (isBlocked (walkTo p top)))) (w .2) (p4 .0);
         empty = λ x a. nltb→le 0 (held (rowIn x))
-          (subst (λ (y : Walked Node). T (not (ltb 0 (held (rowIn (arrivedOr (directoryNode [] end) y)))))) a
-            (subst (λ (p : Path). T (not (ltb 0 (held (rowIn (arrivedOr (directoryNode [] end) (walkTo p top))))))) (w .2) (p6 .0))) }
+            (subst (λ (y : Walked Node). T (not (ltb 0 (held (rowIn (arrivedOr (directoryNode [] end) y)))))) a
+            (subst (λ (p : Path). T (not (ltb 0 (held (rowIn (arrivedOr (directoryNode [] end) (walkTo p top))))))) (w .2) (p6 .0)));
+      }

@@ -72,18 +72,18 @@ vacate-work b g n (aDirectory name date start size) h rest = if-yes (same name n
 vacant-works : (b b′ : Bytes) (e t at : ℕ) (n : Bytes) → entryNamed b t n ≡ some at → entryAt b′ at ≡ vacant → Works b b′ e t at (vacate n) (isNamed n)
 unfolding entryNamed goodEntry sameName entryRow
 vacant-works b b′ e t at n found v = record {
-    skip = vacate-skip b (rowAt e b) n;
-    work = λ rest. vacate-work b (rowAt e b) n (entryAt b at) (named-found b t n at found .1) rest ∙ ap (λ (x : Entry). entryRow b′ (rowAt e b′) x rest) (sym v);
-    found = found;
-    good = subst (λ (x : Entry). T (goodEntry b′ x)) (sym v) tt;
-    below = subst (λ (x : Entry). T (inDirectory true (goodDirectory e b′) x)) (sym v) tt;
-    name = λ x m ne. subst (λ (y : Entry). T (not (sameName y (entryAt b x)))) (sym v) tt }
+  skip = vacate-skip b (rowAt e b) n;
+  work = λ rest. vacate-work b (rowAt e b) n (entryAt b at) (named-found b t n at found .1) rest ∙ ap (λ (x : Entry). entryRow b′ (rowAt e b′) x rest) (sym v);
+  found = found;
+  good = subst (λ (x : Entry). T (goodEntry b′ x)) (sym v) tt;
+  below = subst (λ (x : Entry). T (inDirectory true (goodDirectory e b′) x)) (sym v) tt;
+  name = λ x m ne. subst (λ (y : Entry). T (not (sameName y (entryAt b x)))) (sym v) tt;
+}
 
 -- ---- the call
 
 module _ (b : Bytes) (f : Facts b) (ns : List Name) (n : Name) (tg : Target b ns n)
     (empty : held (rowIn (nodeOf b (rowAt (tg .above .e) b) (entryAt b (tg .at)))) ≤ 0) where
-
   pub removed-bytes : Removed version1 (pageCount b) b (set (foldl (On.released version1) b (pagesAt b (tg .at))) (tg .at) 0) (tg .at) (pagesAt b (tg .at))
   removed-bytes =
       let e : ℕ = tg .above .e in
@@ -93,7 +93,7 @@ module _ (b : Bytes) (f : Facts b) (ns : List Name) (n : Name) (tg : Target b ns
       let s : Slot b t at = slot b f ns (suc e) t at (tg .above .leads) m in
       let o : Owned b (pagesAt b at) = subst (Owned b) (entry-pages e b (entryAt b at) empty) (entry-owned b f ns e t at (tg .above .leads) m) in
       removed-is version1 home (pageCount b) (lawful b f) b at (pagesAt b at) (size b f .whole) (omega (arith, s .inside)) (rest-kept b f at (omega (arith, s .within .far)))
-        (λ q k. (o .inside q k .1, o .inside q k .2)) (o .once)
+      (λ q k. (o .inside q k .1, o .inside q k .2)) (o .once)
 
   removed-sound : let b′ = set (foldl (On.released version1) b (pagesAt b (tg .at))) (tg .at) 0 in
       T (sound b′) × (treeOf b′ ≡ record { pages = pageCount b; root = changeAt ns (vacate (n .bytes)) (rowAt (pageCount b) b 0) })
@@ -111,16 +111,19 @@ module _ (b : Bytes) (f : Facts b) (ns : List Name) (n : Name) (tg : Target b ns
       let v : entryAt b′ at ≡ vacant = zero-vacant b′ at (r .flag) in
       let none-left : own e b′ (entryAt b′ at) ≡ [] = ap (own e b′) v in
       changed b b′ f ns e t at [] (tg .above .leads) m
-        (record {
-          len = r .size; head = λ i l. r .rest i (head-kept b f i l) (omega (arith, s .within .far));
-          rest = λ i l u z. r .rest i (rest-kept b f i l) (λ w. omega (arith, u (omega arith))) })
-        (λ q k. absurd (omega arith))
-        (vacate (n .bytes)) (isNamed (n .bytes)) (tg .above .good)
-        (vacant-works b b′ e t at (n .bytes) (tg .found) v)
-        (record {
-          bits = λ q l. omega (arith, ap (occ q) mine, ap (occ q) none-left, r .bits q l);
-          count = omega (arith, ap length mine, ap length none-left, r .count);
-          fresh-in = λ q k. absurd (omega (arith, ap (occ q) none-left)) })
+      (record {
+        len = r .size;
+        head = λ i l. r .rest i (head-kept b f i l) (omega (arith, s .within .far));
+        rest = λ i l u z. r .rest i (rest-kept b f i l) (λ w. omega (arith, u (omega arith)));
+      })
+      (λ q k. absurd (omega arith))
+      (vacate (n .bytes)) (isNamed (n .bytes)) (tg .above .good)
+      (vacant-works b b′ e t at (n .bytes) (tg .found) v)
+      (record {
+        bits = λ q l. omega (arith, ap (occ q) mine, ap (occ q) none-left, r .bits q l);
+        count = omega (arith, ap length mine, ap length none-left, r .count);
+        fresh-in = λ q k. absurd (omega (arith, ap (occ q) none-left));
+      })
 
 pub removed-tree : (b : Bytes) → Facts b → (ns : List Name) (n : Name)
     → T (not (isMissing (walkTo (below ns n) (rowAt (pageCount b) b 0)))) → T (not (isBlocked (walkTo (below ns n) (rowAt (pageCount b) b 0))))
@@ -130,5 +133,5 @@ unfolding removed
 removed-tree b f ns n u v empty =
     let tg = target b f ns n u v in
     subst (λ (at : ℕ). let b′ = set (foldl (On.released version1) b (pagesAt b at)) at 0 in
-        T (sound b′) × (treeOf b′ ≡ record { pages = pageCount b; root = changeAt ns (vacate (n .bytes)) (rowAt (pageCount b) b 0) }))
-      (sym (tg .position)) (removed-sound b f ns n tg (empty _ (tg .node)))
+    T (sound b′) × (treeOf b′ ≡ record { pages = pageCount b; root = changeAt ns (vacate (n .bytes)) (rowAt (pageCount b) b 0) }))
+    (sym (tg .position)) (removed-sound b f ns n tg (empty _ (tg .node)))

@@ -27,15 +27,17 @@ home i = i / 256
 module _ (N : ℕ) (low : 1 ≤ N) (high : N ≤ 256) where
   version1-lawful : Lawful version1 home N
   version1-lawful = record {
-      header = omega arith; room = omega arith;
-      of-page = λ p i h k l. omega arith;
-      of-link = λ p i h k l. omega arith;
-      of-count = λ i k l. omega arith;
-      of-map = λ p h. omega arith;
-      order = omega arith;
-      apart = λ p i h u k l. omega arith;
-      links-in = λ p h. omega arith;
-      map-in = omega arith }
+    header = omega arith;
+    room = omega arith;
+    of-page = λ p i h k l. omega arith;
+    of-link = λ p i h k l. omega arith;
+    of-count = λ i k l. omega arith;
+    of-map = λ p h. omega arith;
+    order = omega arith;
+    apart = λ p i h u k l. omega arith;
+    links-in = λ p h. omega arith;
+    map-in = omega arith;
+  }
 
 module _ (b : Bytes) (f : Facts b) where
   pub size : Sized b
@@ -67,8 +69,9 @@ module _ (b : Bytes) (f : Facts b) (ns : List Name) (e t at : ℕ) (leads : Lead
   page-marked =
       let m : Mem t (0 ∷ ownedPages b) = omega (arith, hit-refl t, leads-sub b ns (pageCount b) 0 e t t leads) in
       elim (mem-cons t 0 (ownedPages b) m) [
-          inl z ↦ (omega (arith, z, size b f .low), ap (pageBit b) z ∙ f .bit-zero)
-        | inr k ↦ let r = f .inside t k in (r .1, omega (arith, f .exact t (r .0) (r .1), once (pageCount b) b f t)) ]
+        | inl z ↦ (omega (arith, z, size b f .low), ap (pageBit b) z ∙ f .bit-zero)
+        | inr k ↦ let r = f .inside t k in (r .1, omega (arith, f .exact t (r .0) (r .1), once (pageCount b) b f t))
+      ]
 
   pub slot : Mem at (entries t) → Slot b t at
   slot m =
@@ -78,9 +81,11 @@ module _ (b : Bytes) (f : Facts b) (ns : List Name) (e t at : ℕ) (leads : Lead
 -- n bytes of the entry, from its byte i on
 pub held : (b : Bytes) → Facts b → (t at : ℕ) → Slot b t at → (i n : ℕ) → i + n ≤ 32 → Held version1 home (pageCount b) (at + i) n t b
 held b f t at s i n h = record {
-    inside = omega (arith, s .inside);
-    bytes = λ j l u. (within-page t at (s .within) j (omega arith) (omega arith), rest-kept b f j (omega (arith, s .within .far)));
-    page = s .page; marked = s .marked }
+  inside = omega (arith, s .inside);
+  bytes = λ j l u. (within-page t at (s .within) j (omega arith) (omega arith), rest-kept b f j (omega (arith, s .within .far)));
+  page = s .page;
+  marked = s .marked;
+}
 
 -- the pages of an entry, with those below it
 pub record Owned (b : Bytes) (ps : List ℕ) : Type 0 where
@@ -89,11 +94,12 @@ pub record Owned (b : Bytes) (ps : List ℕ) : Type 0 where
 
 pub entry-owned : (b : Bytes) → Facts b → (ns : List Name) (e t at : ℕ) → Leads b (pageCount b) 0 ns (suc e) t → Mem at (entries t) → Owned b (own e b (entryAt b at))
 entry-owned b f ns e t at leads m = record {
-    inside = λ q k.
+  inside = λ q k.
       let o : Mem q (ownedPages b) = omega (arith, le q) in
       let r = f .inside q o in
       (r .0, r .1, omega (arith, f .exact q (r .0) (r .1), once (pageCount b) b f q));
-    once = λ q. omega (arith, le q, once (pageCount b) b f q) }
+  once = λ q. omega (arith, le q, once (pageCount b) b f q);
+}
   where
     le : (q : ℕ) → occ q (own e b (entryAt b at)) ≤ occ q (ownedPages b)
     le q = omega (arith, own-le e b t at q m, leads-owned b ns (pageCount b) 0 (suc e) t q leads)
@@ -105,10 +111,11 @@ entry-apart b f ns e t at leads m =
     let l = own-le e b t at t m in
     let o = once (pageCount b) b f t in
     elim (mem-cons t 0 (ownedPages b) (omega (arith, hit-refl t, s))) [
-        inl z ↦
+      | inl z ↦
           let n : occ 0 (ownedPages b) ≡ 0 = not-mem 0 (ownedPages b) (λ k. omega (arith, f .inside 0 k .0)) in
           let u = leads-owned b ns (pageCount b) 0 (suc e) t t leads in
           omega (arith, l, u, n, ap (λ (x : ℕ). occ x (ownedPages b)) z)
       | inr k ↦
           let r = f .inside t k in
-          omega (arith, hit-refl t, s, l, o, hit-ne t 0 (λ z. omega (arith, z, r .0))) ]
+          omega (arith, hit-refl t, s, l, o, hit-ne t 0 (λ z. omega (arith, z, r .0)))
+    ]

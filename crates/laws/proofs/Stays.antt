@@ -70,13 +70,13 @@ made-stays : (b : Bytes) → Facts b → (path date : Bytes) (fl z k : ℕ) → 
 unfolding lowestVacant arrivedOr
 made-stays b f path date fl z k m i =
     subst (λ (p : Path). Outside (lowestVacant b (parentPage b p)) 32 (On.gained version1 (pageCount b) k b) i → byteAt (made fl z k p date b) i ≡ byteAt b i) (sym (m .is)) (λ o.
-      let w : Place b (m .ns) (m .n .bytes) date k = place-of b f (m .ns) (m .n) date k (m .clear) in
-      let l = new-length fl (m .n .bytes) z date (w .long) (w .dated) in
-      let at : lowestVacant b (parentPage b (below (m .ns) (m .n))) ≡ w .at =
-            ap (λ (u : Walked ℕ). lowestVacant b (arrivedOr 0 u)) (w .above .page) ∙ ap (λ (o : Option ℕ). Option·getD o 0) (w .found) in
-      let o′ = subst (λ (x : ℕ). Outside x 32 (On.gained version1 (pageCount b) k b) i) at o in
-      ap (λ (x : Bytes). byteAt x i) (made-position b (m .ns) (m .n) date fl z k (w .above) ∙ ap (λ (o : Option ℕ). madeAt fl z k (m .n .bytes) date (Option·getD o 0) b) (w .found))
-      ∙ made-bytes b f (m .ns) (m .n .bytes) date fl z k w .rest i (kept b f i (o′ .header)) (λ u. omega (arith, o′ .entry u)) (o′ .page))
+    let w : Place b (m .ns) (m .n .bytes) date k = place-of b f (m .ns) (m .n) date k (m .clear) in
+    let l = new-length fl (m .n .bytes) z date (w .long) (w .dated) in
+    let at : lowestVacant b (parentPage b (below (m .ns) (m .n))) ≡ w .at =
+    ap (λ (u : Walked ℕ). lowestVacant b (arrivedOr 0 u)) (w .above .page) ∙ ap (λ (o : Option ℕ). Option·getD o 0) (w .found) in
+    let o′ = subst (λ (x : ℕ). Outside x 32 (On.gained version1 (pageCount b) k b) i) at o in
+    ap (λ (x : Bytes). byteAt x i) (made-position b (m .ns) (m .n) date fl z k (w .above) ∙ ap (λ (o : Option ℕ). madeAt fl z k (m .n .bytes) date (Option·getD o 0) b) (w .found))
+    ∙ made-bytes b f (m .ns) (m .n .bytes) date fl z k w .rest i (kept b f i (o′ .header)) (λ u. omega (arith, o′ .entry u)) (o′ .page))
 
 -- ---- write
 
@@ -86,31 +86,42 @@ written-stays b f path from v w i o = go (eqb (length v) 0)
   where
     tg : Target b (w .ns) (w .n)
     tg = target b f (w .ns) (w .n) (w .reached) (w .entered)
+
     at : entryPosition b (pathOf path) ≡ tg .at
     at = ap (entryPosition b) (w .is) ∙ tg .position
+
     here : node path (treeOf b) ≡ nodeOf b (rowAt (tg .above .e) b) (entryAt b (tg .at))
     here = let l = w .leads in let r = tg .node in cc
+
     isFile : T (isFileEntry (entryAt b (tg .at)))
     isFile = node-file b (rowAt (tg .above .e) b) (w .n .bytes) (entryAt b (tg .at)) (named-found b (tg .above .t) (w .n .bytes) (tg .at) (tg .found) .1)
         (subst (λ (x : Node). T (not (isDirectoryNode x))) here (w .isFile))
+
     same-size : size path (treeOf b) ≡ sizeAt b (tg .at)
     same-size = ap (λ (x : Node). length (contentIn x)) here ∙ ap length (file-content b f (w .ns) (w .n) tg isFile) ∙ file-size b f (w .ns) (w .n) tg isFile
+
     s : ℕ
     s = max (sizeAt b (tg .at)) (from + length v)
+
     pages : pagesAt b (tg .at) ≡ chain (link b) (pagesFor (sizeAt b (tg .at))) (startAt b (tg .at))
     pages = file-pages b f (w .ns) (w .n) tg isFile
+
     many : length (pagesAt b (tg .at)) ≡ pagesFor (sizeAt b (tg .at))
     many = ap length pages ∙ chain-length (link b) (pagesFor (sizeAt b (tg .at))) (startAt b (tg .at))
+
     hf : from ≤ sizeAt b (tg .at)
     hf = subst (λ (m : ℕ). from ≤ m) same-size (w .begins)
+
     space : pagesFor (max (sizeAt b (tg .at)) (from + length v)) - pagesFor (sizeAt b (tg .at)) ≤ zeroBits b (pageCount b)
     space = subst (λ (m : ℕ). pagesFor (max m (from + length v)) - pagesFor m ≤ zeroBits b (pageCount b)) same-size (w .space)
+
     out : Outside (tg .at + 17) 3
         (chain (link b) (pagesFor (sizeAt b (tg .at))) (startAt b (tg .at)) ++ On.gained version1 (pageCount b) (pagesFor (max (sizeAt b (tg .at)) (from + length v)) - pagesFor (sizeAt b (tg .at))) b) i
     out =
         let o₁ = subst (λ (x : ℕ). Outside (x + 17) 3 (pagesAt b x ++ On.gained version1 (pageCount b) (pagesFor (max (sizeAt b x) (from + length v)) - length (pagesAt b x)) b) i) at o in
         let o₂ = subst (λ (m : ℕ). Outside (tg .at + 17) 3 (pagesAt b (tg .at) ++ On.gained version1 (pageCount b) (pagesFor (max (sizeAt b (tg .at)) (from + length v)) - m) b) i) many o₁ in
         subst (λ (ps : List ℕ). Outside (tg .at + 17) 3 (ps ++ On.gained version1 (pageCount b) (pagesFor (max (sizeAt b (tg .at)) (from + length v)) - pagesFor (sizeAt b (tg .at))) b) i) pages o₂
+
     go : (c : Bool) → byteAt (if c then b else rewritten (entryPosition b (pathOf path)) from v b) i ≡ byteAt b i
     go true = refl
     go false =

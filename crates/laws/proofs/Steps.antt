@@ -76,13 +76,14 @@ as-tree c b h =
     let ls : List Line = refusals c (treeOf b) in
     let R : Bytes → Tree → Type 0 = λ a t. T (sound a) × (treeOf a ≡ t) in
     let r : R (settle ls (λ f. b) (effect c b)) (settle ls (λ f. treeOf b) (changed c (treeOf b))) =
-          settle-both R ls (λ f. b) (effect c b) (λ f. treeOf b) (changed c (treeOf b)) (λ f. (h, refl)) (granted-law c b h) in
+    settle-both R ls (λ f. b) (effect c b) (λ f. treeOf b) (changed c (treeOf b)) (λ f. (h, refl)) (granted-law c b h) in
     let e : settle (lines c b) (λ f. b) (effect c b) ≡ settle ls (λ f. b) (effect c b) = settled b h (λ f. b) (effect c b) c in
     record {
       answered = settled b h refused (granted (told c (treeOf b))) c;
       lent = settled b h (λ f. bufferBefore c) (filled c (treeOf b)) c;
       isSound = subst (λ (a : Bytes). T (sound a)) (sym e) (r .0);
-      means = ap treeOf e ∙ r .1 }
+      means = ap treeOf e ∙ r .1;
+    }
 
 -- ---- a call on any image
 
@@ -114,9 +115,10 @@ in-order (remove path) b = tt
 pub untouched : (c : Call) (b : Bytes) (f : Refusal) → answer c b ≡ refused f → Untouched c b f
 unfolding answer after bufferAfter
 untouched c b f e = record {
-    numbered = refused-numbered (lines c b) (told c (treeOf b)) f (numbered c b) e;
-    image = settle-refused (lines c b) (told c (treeOf b)) f (λ r. b) (effect c b) e;
-    lent = settle-refused (lines c b) (told c (treeOf b)) f (λ r. bufferBefore c) (filled c (treeOf b)) e }
+  numbered = refused-numbered (lines c b) (told c (treeOf b)) f (numbered c b) e;
+  image = settle-refused (lines c b) (told c (treeOf b)) f (λ r. b) (effect c b) e;
+  lent = settle-refused (lines c b) (told c (treeOf b)) f (λ r. bufferBefore c) (filled c (treeOf b)) e;
+}
 
 -- an image that is not sound gets 1, 2 or 3 from every call but format
 pub unsound : (c : Call) (b : Bytes) → T (not (isFormat c)) → T (not (sound b)) → Unsound c b
@@ -125,10 +127,13 @@ unsound c b n u = go (isFormat c) (validLength (length b)) (validHeader b) (soun
   where
     x : Answer (Told c)
     x = granted (told c (treeOf b))
+
     tail : List Line
     tail = refusals c (treeOf b) ++ brokenLine c b
+
     lines-of : Bool → Bool → Bool → Bool → List Line
     lines-of m l d s = (not l, refusal 1) ∷ (if m then [] else ((not d, refusal 2) ∷ (not s, refusal 3) ∷ (refusals c (treeOf b) ++ brokenLine c b)))
+
     go : (m l d s : Bool) → T (not m) → T (not s) → answer c b ≡ settle (lines-of m l d s) refused (granted (told c (treeOf b))) → Unsound c b
     go true l d s p q e = absurd p
     go false false d s p q e = record { number = 1; low = omega arith; high = omega arith; told = e }
@@ -175,7 +180,7 @@ pub after-format : (b : Bytes) → T (validLength (length b)) → T (sound (afte
 unfolding after lines isFormat settle effect
 after-format b v =
     subst (λ (b′ : Bytes). T (sound b′) × (treeOf b′ ≡ freshTree (pageCount b)))
-      (sym (settle-skip (λ f. b) (not (validLength (length b))) (refusal 1) [] (effect format b) (not-not-of (validLength (length b)) v))) (fresh b v)
+    (sym (settle-skip (λ f. b) (not (validLength (length b))) (refusal 1) [] (effect format b) (not-not-of (validLength (length b)) v))) (fresh b v)
 
 pub names-apart : (n m : Bytes) → n ≢ m → same n m ≡ false
 names-apart n m h = go (same n m) (same-true n m)

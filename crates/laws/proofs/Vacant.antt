@@ -43,6 +43,7 @@ module _ (b : Bytes) where
     pub vacant-good : T (goodDirectory (suc d) b p)
     unfolding goodEntry sameName
     vacant-good = good-join d b p (record {
-        each = λ x m. subst (λ (e : Entry). T (goodEntry b e)) (sym (h x m)) tt;
-        apart = λ x y m k ne. subst (λ (e : Entry). T (not (sameName e (entryAt b y)))) (sym (h x m)) tt;
-        below = λ x m. subst (λ (e : Entry). T (inDirectory true (goodDirectory d b) e)) (sym (h x m)) tt })
+      each = λ x m. subst (λ (e : Entry). T (goodEntry b e)) (sym (h x m)) tt;
+      apart = λ x y m k ne. subst (λ (e : Entry). T (not (sameName e (entryAt b y)))) (sym (h x m)) tt;
+      below = λ x m. subst (λ (e : Entry). T (inDirectory true (goodDirectory d b) e)) (sym (h x m)) tt;
+    })

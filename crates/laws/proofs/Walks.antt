@@ -73,8 +73,8 @@ walk-mirrors b [] d p h = (d, (refl, refl), refl, h)
 walk-mirrors b (n ∷ ns) zero p h = absurd h
 walk-mirrors b (n ∷ ns) (suc d) p h =
     subst (λ (o : Option Node). Mirrors b (suc d) p (n ∷ ns) (enterOn n (Option·map (entryAt b) (entryNamed b p (n .bytes))) (walkOn b ns)) (enter n o (walk ns)))
-      (sym (lookup-named b d p (n .bytes)))
-      (go (entryNamed b p (n .bytes)) refl (λ s k. walk-mirrors b ns d s k))
+    (sym (lookup-named b d p (n .bytes)))
+    (go (entryNamed b p (n .bytes)) refl (λ s k. walk-mirrors b ns d s k))
   where
     at-entry : (at : ℕ) → entryNamed b p (n .bytes) ≡ some at → (x : Entry) → entryAt b at ≡ x → T (isNamed (n .bytes) x) → T (inDirectory true (goodDirectory d b) x)
         → ((s : ℕ) → T (goodDirectory d b s) → Mirrors b d s ns (walkOn b ns s) (walk ns (rowAt d b s)))
@@ -83,6 +83,7 @@ walk-mirrors b (n ∷ ns) (suc d) p h =
     at-entry at e (aFile name date start size) q named sub next = refl
     at-entry at e (aDirectory name date start size) q named sub next =
         mirrors-further b d p n ns at start e (record { name = name; date = date; size = size; is = q }) (walkOn b ns start) (walk ns (rowAt d b start)) (next start sub)
+
     go : (o : Option ℕ) → entryNamed b p (n .bytes) ≡ o
         → ((s : ℕ) → T (goodDirectory d b s) → Mirrors b d s ns (walkOn b ns s) (walk ns (rowAt d b s)))
         → Mirrors b (suc d) p (n ∷ ns) (enterOn n (Option·map (entryAt b) o) (walkOn b ns)) (enter n (Option·map (λ at. nodeOf b (rowAt d b) (entryAt b at)) o) (walk ns))
@@ -125,6 +126,7 @@ parent b f ns u v = go (walkOn b ns 0) refl (walk-mirrors b ns (pageCount b) 0 (
     some-depth : (e t : ℕ) → Leads b (pageCount b) 0 ns e t → walk ns (rowAt (pageCount b) b 0) ≡ arrived (rowAt e b t) → T (goodDirectory e b t) → walkOn b ns 0 ≡ arrived t → Parent b ns
     some-depth zero t l w g q = absurd g
     some-depth (suc e) t l w g q = record { e = e; t = t; leads = l; good = g; page = q; row = w }
+
     go : (w : Walked ℕ) → walkOn b ns 0 ≡ w → Mirrors b (pageCount b) 0 ns w (walk ns (rowAt (pageCount b) b 0)) → Parent b ns
     go (arrived t) q m = some-depth (m .0) t (m .1) (m .2) (m .3) q
     go (missing i) q m = absurd (subst (λ (w : Walked Row). T (not (isMissing w))) m u)
@@ -172,11 +174,16 @@ target b f ns n u v = go (entryNamed b (p .t) (n .bytes)) refl
   where
     r : Row
     r = rowAt (pageCount b) b 0
+
     p : Parent b ns
     p = parent b f ns (inner-missing ns n (rowAt (pageCount b) b 0) u) (inner-blocked ns n (rowAt (pageCount b) b 0) v)
+
     go : (o : Option ℕ) → entryNamed b (p .t) (n .bytes) ≡ o → Target b ns n
     go none e = absurd (subst (λ (w : Walked Node). T (not (isMissing w))) (walked-last b ns n p ∙ ap (λ (o : Option ℕ). nodeNamed n (Option·map (λ at. nodeOf b (rowAt (p .e) b) (entryAt b at)) o)) e) u)
     go (some at) e = record {
-        above = p; at = at; found = e;
-        node = walked-last b ns n p ∙ ap (λ (o : Option ℕ). nodeNamed n (Option·map (λ at. nodeOf b (rowAt (p .e) b) (entryAt b at)) o)) e;
-        position = ap (λ (w : Walked ℕ). Option·getD (entryNamed b (arrivedOr 0 w) (n .bytes)) 0) (p .page) ∙ ap (λ (o : Option ℕ). Option·getD o 0) e }
+      above = p;
+      at = at;
+      found = e;
+      node = walked-last b ns n p ∙ ap (λ (o : Option ℕ). nodeNamed n (Option·map (λ at. nodeOf b (rowAt (p .e) b) (entryAt b at)) o)) e;
+      position = ap (λ (w : Walked ℕ). Option·getD (entryNamed b (arrivedOr 0 w) (n .bytes)) 0) (p .page) ∙ ap (λ (o : Option ℕ). Option·getD o 0) e;
+    }

@@ -55,7 +55,7 @@ file-entry b b′ at h fl n d = rw (fl, n, d) (go (occupied b at) (isDirectory b
   where
     go : (o c : Bool) → T (isFileEntry (if o then (if c then aDirectory (nameAt b at) (dateAt b at) (startAt b at) (sizeAt b at) else aFile (nameAt b at) (dateAt b at) (startAt b at) (sizeAt b at)) else vacant))
         → (if o then (if c then aDirectory (nameAt b at) (dateAt b at) (startAt b′ at) (sizeAt b′ at) else aFile (nameAt b at) (dateAt b at) (startAt b′ at) (sizeAt b′ at)) else vacant)
-          ≡ aFile (nameAt b at) (dateAt b at) (startAt b′ at) (sizeAt b′ at)
+        ≡ aFile (nameAt b at) (dateAt b at) (startAt b′ at) (sizeAt b′ at)
     go true true k = absurd k
     go true false k = refl
     go false c k = absurd k
@@ -140,9 +140,14 @@ module _ (b : Bytes) (f : Facts b) (ns : List Name) (n : Name) (tg : Target b ns
 
   pub file-chained : Chained version1 home (pageCount b) b (byte (at + 17)) t (pagesFor s₀)
   file-chained = record {
-      size = size b f .whole; aside = header-marked b f; held = held b f t at file-slot 17 1 (omega arith);
-      apart = ap (occ t) (sym mine) ∙ entry-apart b f ns e t at (tg .above .leads) (found .0);
-      pages = file-owned .inside; once = file-owned .once; ends = file-good .1 }
+    size = size b f .whole;
+    aside = header-marked b f;
+    held = held b f t at file-slot 17 1 (omega arith);
+    apart = ap (occ t) (sym mine) ∙ entry-apart b f ns e t at (tg .above .leads) (found .0);
+    pages = file-owned .inside;
+    once = file-owned .once;
+    ends = file-good .1;
+  }
 
   pub file-beside : Beside version1 home (pageCount b) (byte (at + 17)) t (at + 18) 2 b
   file-beside =
@@ -162,26 +167,27 @@ module _ (b : Bytes) (f : Facts b) (ns : List Name) (n : Name) (tg : Target b ns
       → Works b b′ e t at (rewrite (n .bytes) w) (isNamed (n .bytes))
   unfolding entryNamed goodEntry sameName entryRow pagesOf
   works b′ start s w is′ c ends = record {
-      skip = rewrite-skip b (rowAt e b) (n .bytes) w;
-      work = λ rest.
+    skip = rewrite-skip b (rowAt e b) (n .bytes) w;
+    work = λ rest.
         ap (λ (x : Entry). rewrite (n .bytes) w (entryRow b (rowAt e b) x rest)) is
         ∙ rewrite-work b (rowAt e b) (n .bytes) w (nameAt b at) (dateAt b at) (startAt b at) s₀ (subst (λ (x : Entry). T (isNamed (n .bytes) x)) is (found .1)) rest
         ∙ ap {B = Row} (λ v. file (nameAt b at) (dateAt b at) v rest) (sym c)
         ∙ ap (λ (x : Entry). entryRow b′ (rowAt e b′) x rest) (sym is′);
-      found = tg .found;
-      good = subst (λ (x : Entry). T (goodEntry b′ x)) (sym is′) (both-and (legalName (nameAt b at)) (eqb (beyond (link b′) (pagesFor s) start) 0) (file-good .0) (eq-eqb ends));
-      below = subst (λ (x : Entry). T (inDirectory true (goodDirectory e b′) x)) (sym is′) tt;
-      name = λ x m ne. subst (λ (y : Entry). T (not (sameName y (entryAt b x)))) (sym is′)
-        (subst (λ (y : Entry). T (not (sameName y (entryAt b x)))) is (good .apart at x (found .0) m (λ q. ne (sym q)))) }
+    found = tg .found;
+    good = subst (λ (x : Entry). T (goodEntry b′ x)) (sym is′) (both-and (legalName (nameAt b at)) (eqb (beyond (link b′) (pagesFor s) start) 0) (file-good .0) (eq-eqb ends));
+    below = subst (λ (x : Entry). T (inDirectory true (goodDirectory e b′) x)) (sym is′) tt;
+    name = λ x m ne. subst (λ (y : Entry). T (not (sameName y (entryAt b x)))) (sym is′)
+        (subst (λ (y : Entry). T (not (sameName y (entryAt b x)))) is (good .apart at x (found .0) m (λ q. ne (sym q))));
+  }
 
   -- a write of no bytes
   unchanged : T (sound b) × (treeOf b ≡ record { pages = pageCount b; root = changeAt ns (rewrite (n .bytes) content) (rowAt (pageCount b) b 0) })
   unchanged =
       changed b b f ns e t at [] (tg .above .leads) (found .0)
-        (record { len = refl; head = λ i l. refl; rest = λ i l u z. refl }) (λ q k. absurd (omega arith))
-        (rewrite (n .bytes) content) (isNamed (n .bytes)) (tg .above .good)
-        (works b (startAt b at) s₀ content is refl (file-good .1))
-        (record { bits = λ q l. refl; count = refl; fresh-in = λ q k. let r = file-owned .inside q (subst (Mem q) mine k) in (r .0, r .1) })
+      (record { len = refl; head = λ i l. refl; rest = λ i l u z. refl }) (λ q k. absurd (omega arith))
+      (rewrite (n .bytes) content) (isNamed (n .bytes)) (tg .above .good)
+      (works b (startAt b at) s₀ content is refl (file-good .1))
+      (record { bits = λ q l. refl; count = refl; fresh-in = λ q k. let r = file-owned .inside q (subst (Mem q) mine k) in (r .0, r .1) })
 
   module _ (from : ℕ) (v : Bytes) (hf : from ≤ s₀) (space : pagesFor (max s₀ (from + length v)) - pagesFor s₀ ≤ zeroBits b (pageCount b)) where
     -- the size, the number of pages gained, and the pages gained
@@ -214,7 +220,7 @@ module _ (b : Bytes) (f : Facts b) (ns : List Name) (n : Name) (tg : Target b ns
     entry-kept : (i : ℕ) → at ≤ i → i < at + 32 → (at + 17 ≤ i → at + 20 ≤ i) → byteAt b′ i ≡ byteAt b i
     entry-kept i l u o =
         write-bytes .rest i (rest-kept b f i (omega (arith, file-slot .within .far))) (λ x. omega (arith, o x)) (λ x. omega (arith, o (omega arith)))
-          (ap (λ (x : ℕ). occ x (ps ++ qs)) (within-page t at (file-slot .within) i l u) ∙ write-bytes .apart)
+        (ap (λ (x : ℕ). occ x (ps ++ qs)) (within-page t at (file-slot .within) i l u) ∙ write-bytes .apart)
 
     new-size : sizeAt b′ at ≡ s
     new-size =
@@ -227,8 +233,8 @@ module _ (b : Bytes) (f : Facts b) (ns : List Name) (n : Name) (tg : Target b ns
     is′ : entryAt b′ at ≡ aFile (nameAt b at) (dateAt b at) (startAt b′ at) s
     is′ =
         file-entry b b′ at isFile (entry-kept at (omega arith) (omega arith) (λ x. omega arith))
-          (part-bytes (at + 1) 16 b b′ (write-bytes .size) (λ i l u. entry-kept i (omega arith) (omega arith) (λ x. omega arith)))
-          (part-bytes (at + 20) 8 b b′ (write-bytes .size) (λ i l u. entry-kept i (omega arith) (omega arith) (λ x. omega arith)))
+        (part-bytes (at + 1) 16 b b′ (write-bytes .size) (λ i l u. entry-kept i (omega arith) (omega arith) (λ x. omega arith)))
+        (part-bytes (at + 20) 8 b b′ (write-bytes .size) (λ i l u. entry-kept i (omega arith) (omega arith) (λ x. omega arith)))
         ∙ ap (λ (z : ℕ). aFile (nameAt b at) (dateAt b at) (startAt b′ at) z) new-size
 
     pages′ : chain (link b′) (pagesFor s) (startAt b′ at) ≡ ps ++ qs
@@ -240,8 +246,9 @@ module _ (b : Bytes) (f : Facts b) (ns : List Name) (n : Name) (tg : Target b ns
 
     inside′ : (q : ℕ) → Mem q (ps ++ qs) → (1 ≤ q) × (q < pageCount b)
     inside′ q m = elim (mem-or-not q ps) [
-        inl h ↦ let r = file-owned .inside q h in (r .0, r .1)
-      | inr z ↦ let r = write-gained .new q (omega (arith, occ-append q ps qs)) in (r .0, r .1) ]
+      | inl h ↦ let r = file-owned .inside q h in (r .0, r .1)
+      | inr z ↦ let r = write-gained .new q (omega (arith, occ-append q ps qs)) in (r .0, r .1)
+    ]
 
     zero-out : occ 0 (ps ++ qs) ≡ 0
     zero-out = not-mem 0 (ps ++ qs) (λ c. omega (arith, inside′ 0 c .0))
@@ -251,22 +258,28 @@ module _ (b : Bytes) (f : Facts b) (ns : List Name) (n : Name) (tg : Target b ns
     rewritten-sound =
         let w = write-bytes in
         changed b b′ f ns e t at (ps ++ qs) (tg .above .leads) (found .0)
-          (record {
-            len = w .size;
-            head = λ i l. let z : i / 256 ≡ 0 = omega arith in
+        (record {
+          len = w .size;
+          head = λ i l. let z : i / 256 ≡ 0 = omega arith in
               w .rest i (head-kept b f i l) (λ u. omega (arith, file-slot .within .far)) (λ u. omega (arith, file-slot .within .far)) (ap (λ (x : ℕ). occ x (ps ++ qs)) z ∙ zero-out);
-            rest = λ i l u c. w .rest i (rest-kept b f i l) (λ y. omega (arith, u (omega arith))) (λ y. omega (arith, u (omega arith))) c })
-          (λ q m. (inside′ q m .0, λ o. elim (mem-or-not q ps) [
-              inl h ↦ subst (Mem q) (sym mine) h
-            | inr z ↦ let r = write-gained .new q (omega (arith, occ-append q ps qs)) in absurd (omega (arith, r .2, f .exact q (r .0) (r .1))) ]))
-          (rewrite (n .bytes) (put from v content)) (isNamed (n .bytes)) (tg .above .good)
-          (works b′ (startAt b′ at) s (put from v content) is′
-            (ap (λ (l : List ℕ). take s (flatMap (contentOn b′) l)) pages′ ∙ w .content)
-            (ap (λ (m : ℕ). beyond (link b′) m (startAt b′ at)) (sym many) ∙ w .ends))
-          (record {
-            bits = λ q l. omega (arith, ap (occ q) mine, ap (occ q) mine′, occ-append q ps qs, w .bits q l);
-            count = omega (arith, ap length mine, ap length mine′, length-append ps qs, w .count, write-gained .many, f .counted, space);
-            fresh-in = λ q m. inside′ q (subst (Mem q) mine′ m) })
+          rest = λ i l u c. w .rest i (rest-kept b f i l) (λ y. omega (arith, u (omega arith))) (λ y. omega (arith, u (omega arith))) c;
+        })
+        (λ q m. (
+          inside′ q m .0,
+          λ o. elim (mem-or-not q ps) [
+            | inl h ↦ subst (Mem q) (sym mine) h
+            | inr z ↦ let r = write-gained .new q (omega (arith, occ-append q ps qs)) in absurd (omega (arith, r .2, f .exact q (r .0) (r .1)))
+          ],
+        ))
+        (rewrite (n .bytes) (put from v content)) (isNamed (n .bytes)) (tg .above .good)
+        (works b′ (startAt b′ at) s (put from v content) is′
+        (ap (λ (l : List ℕ). take s (flatMap (contentOn b′) l)) pages′ ∙ w .content)
+        (ap (λ (m : ℕ). beyond (link b′) m (startAt b′ at)) (sym many) ∙ w .ends))
+        (record {
+          bits = λ q l. omega (arith, ap (occ q) mine, ap (occ q) mine′, occ-append q ps qs, w .bits q l);
+          count = omega (arith, ap length mine, ap length mine′, length-append ps qs, w .count, write-gained .many, f .counted, space);
+          fresh-in = λ q m. inside′ q (subst (Mem q) mine′ m);
+        })
 
     pub rewritten-is : rewritten at from v b ≡ b′
     unfolding rewritten
@@ -285,29 +298,36 @@ pub written-tree : (b : Bytes) → Facts b → (ns : List Name) (n : Name) (from
     → (x : Node) → walkTo (below ns n) (rowAt (pageCount b) b 0) ≡ arrived x → T (not (isDirectoryNode x))
     → from ≤ length (contentIn x) → pagesFor (max (length (contentIn x)) (from + length v)) - pagesFor (length (contentIn x)) ≤ zeroBits b (pageCount b)
     → T (sound (written (below ns n) from v b))
-      × (treeOf (written (below ns n) from v b) ≡ record { pages = pageCount b; root = changeAt ns (rewrite (n .bytes) (put from v (contentIn x))) (rowAt (pageCount b) b 0) })
+    × (treeOf (written (below ns n) from v b) ≡ record { pages = pageCount b; root = changeAt ns (rewrite (n .bytes) (put from v (contentIn x))) (rowAt (pageCount b) b 0) })
 unfolding written
 written-tree b f ns n from v u w x q nd hf space = go (eqb (length v) 0) (eqb→eq (length v) 0)
   where
     tg : Target b ns n
     tg = target b f ns n u w
+
     node : x ≡ nodeOf b (rowAt (tg .above .e) b) (entryAt b (tg .at))
     node = cc (q, tg .node)
+
     isFile : T (isFileEntry (entryAt b (tg .at)))
     isFile = node-file b (rowAt (tg .above .e) b) (n .bytes) (entryAt b (tg .at)) (named-found b (tg .above .t) (n .bytes) (tg .at) (tg .found) .1) (subst (λ (y : Node). T (not (isDirectoryNode y))) node nd)
+
     same-content : content b f ns n tg isFile ≡ contentIn x
     same-content = sym (ap contentIn node ∙ file-content b f ns n tg isFile)
+
     same-size : length (contentIn x) ≡ sizeAt b (tg .at)
     same-size = ap length (sym same-content) ∙ file-size b f ns n tg isFile
+
     Says : Bytes → Bytes → Type 0
     Says b′ c = T (sound b′) × (treeOf b′ ≡ record { pages = pageCount b; root = changeAt ns (rewrite (n .bytes) c) (rowAt (pageCount b) b 0) })
+
     full : Says (rewritten (tg .at) from v b) (put from v (contentIn x))
     full =
         let hf′ : from ≤ sizeAt b (tg .at) = subst (λ (m : ℕ). from ≤ m) same-size hf in
         let sp : pagesFor (max (sizeAt b (tg .at)) (from + length v)) - pagesFor (sizeAt b (tg .at)) ≤ zeroBits b (pageCount b) =
-              subst (λ (m : ℕ). pagesFor (max m (from + length v)) - pagesFor m ≤ zeroBits b (pageCount b)) same-size space in
+        subst (λ (m : ℕ). pagesFor (max m (from + length v)) - pagesFor m ≤ zeroBits b (pageCount b)) same-size space in
         subst (λ (b′ : Bytes). Says b′ (put from v (contentIn x))) (sym (rewritten-is b f ns n tg isFile from v hf′ sp))
-          (subst (λ (c : Bytes). Says (b′ b f ns n tg isFile from v hf′ sp) (put from v c)) same-content (rewritten-sound b f ns n tg isFile from v hf′ sp))
+        (subst (λ (c : Bytes). Says (b′ b f ns n tg isFile from v hf′ sp) (put from v c)) same-content (rewritten-sound b f ns n tg isFile from v hf′ sp))
+
     go : (c : Bool) → (T c → length v ≡ 0) → Says (if c then b else rewritten (entryPosition b (below ns n)) from v b) (put from v (contentIn x))
     go true z = subst (Says b) (same-content ∙ sym (put-none from v (contentIn x) (z tt))) (unchanged b f ns n tg isFile)
     go false z = subst (λ (at : ℕ). Says (rewritten at from v b) (put from v (contentIn x))) (sym (tg .position)) full

@@ -17,11 +17,11 @@ formats =
     -- page 0 is written, and no other byte
     shown blank (format gives done ∷ []) whole (0x5A ∷ 1 ∷ 1 ∷ 7 ∷ 1 ∷ replicate 251 0 ++ replicate 1792 0xE5)
     ∷ shown (replicate 4096 0xE5) (format gives done ∷ verdict gives sized 16 15 ∷ [])
-        whole (0x5A ∷ 1 ∷ 2 ∷ 15 ∷ 1 ∷ replicate 251 0 ++ replicate 3840 0xE5)
+    whole (0x5A ∷ 1 ∷ 2 ∷ 15 ∷ 1 ∷ replicate 251 0 ++ replicate 3840 0xE5)
     ∷ shown (replicate 65536 0xE5) (format gives done ∷ verdict gives sized 256 255 ∷ []) (part 0 6) (0x5A ∷ 1 ∷ 32 ∷ 255 ∷ 1 ∷ 0 ∷ [])
     -- a used image is emptied; its pages' bytes stay
     ∷ shown desk (format gives done ∷ verdict gives sized 8 7 ∷ find (text "/0042") gives refusalAt 5 1 ∷ [])
-        whole (header 7 1 ++ replicate 192 0 ++ drop 256 desk)
+    whole (header 7 1 ++ replicate 192 0 ++ drop 256 desk)
     -- lengths that are not allowed
     ∷ shown [] (format gives refusal 1 ∷ verdict gives refusal 1 ∷ []) whole []
     ∷ shown (replicate 2047 0xE5) (format gives refusal 1 ∷ verdict gives refusal 1 ∷ []) whole (replicate 2047 0xE5)
@@ -74,42 +74,42 @@ judgedFirst-hold = hold judgedFirst refl
 pub paths : List Case
 paths =
     answered desk (
-      -- bytes that are no path
-      find [] gives refusal 4
-      ∷ find (text "x") gives refusal 4
-      ∷ find (text "A/7") gives refusal 4
-      ∷ find (text "//") gives refusal 4
-      ∷ find (text "//A") gives refusal 4
-      ∷ find (text "/A/") gives refusal 4
-      ∷ find (text "/A//7") gives refusal 4
-      ∷ find (text "/0123456789ABCDEFG") gives refusal 4
-      ∷ find (text "/A/0123456789ABCDEFG") gives refusal 4
-      -- the bytes of a name: 0x20 to 0x7E, and each counts
-      ∷ find (0x2F ∷ 0x1F ∷ []) gives refusal 4
-      ∷ find (0x2F ∷ 0x20 ∷ []) gives refusalAt 5 1
-      ∷ find (0x2F ∷ 0x2E ∷ []) gives refusalAt 5 1
-      ∷ find (0x2F ∷ 0x30 ∷ []) gives refusalAt 5 1
-      ∷ find (0x2F ∷ 0x7E ∷ []) gives refusalAt 5 1
-      ∷ find (0x2F ∷ 0x7F ∷ []) gives refusal 4
-      ∷ find (0x2F ∷ 0x80 ∷ []) gives refusal 4
-      ∷ find (0x2F ∷ 0x41 ∷ 0x00 ∷ []) gives refusal 4
-      ∷ find (0x2F ∷ 0x41 ∷ 0x1F ∷ 0x41 ∷ []) gives refusal 4
-      -- a name that isn't there: the last, or one on the way
-      ∷ find (text "/42") gives refusalAt 5 1
-      ∷ find (text "/00042") gives refusalAt 5 1
-      ∷ find (text "/004") gives refusalAt 5 1
-      ∷ find (text "/a") gives refusalAt 5 1
-      ∷ find (text "/A/0042") gives refusalAt 5 3
-      ∷ find (text "/A/x/y") gives refusalAt 5 3
-      ∷ find (text "/x/7/y") gives refusalAt 5 1
-      ∷ find (text "/A/B/7") gives refusalAt 5 5
-      ∷ find (text "/0123456789ABCDEF") gives refusalAt 5 1
-      -- a file where a directory is needed; the leftmost fault counts
-      ∷ find (text "/0042/x") gives refusalAt 6 1
-      ∷ find (text "/0042/x/y") gives refusalAt 6 1
-      ∷ find (text "/A/7/x") gives refusalAt 6 3
-      ∷ find (text "/A/x/7/y") gives refusalAt 5 3
-      ∷ [])
+    -- bytes that are no path
+    find [] gives refusal 4
+    ∷ find (text "x") gives refusal 4
+    ∷ find (text "A/7") gives refusal 4
+    ∷ find (text "//") gives refusal 4
+    ∷ find (text "//A") gives refusal 4
+    ∷ find (text "/A/") gives refusal 4
+    ∷ find (text "/A//7") gives refusal 4
+    ∷ find (text "/0123456789ABCDEFG") gives refusal 4
+    ∷ find (text "/A/0123456789ABCDEFG") gives refusal 4
+    -- the bytes of a name: 0x20 to 0x7E, and each counts
+    ∷ find (0x2F ∷ 0x1F ∷ []) gives refusal 4
+    ∷ find (0x2F ∷ 0x20 ∷ []) gives refusalAt 5 1
+    ∷ find (0x2F ∷ 0x2E ∷ []) gives refusalAt 5 1
+    ∷ find (0x2F ∷ 0x30 ∷ []) gives refusalAt 5 1
+    ∷ find (0x2F ∷ 0x7E ∷ []) gives refusalAt 5 1
+    ∷ find (0x2F ∷ 0x7F ∷ []) gives refusal 4
+    ∷ find (0x2F ∷ 0x80 ∷ []) gives refusal 4
+    ∷ find (0x2F ∷ 0x41 ∷ 0x00 ∷ []) gives refusal 4
+    ∷ find (0x2F ∷ 0x41 ∷ 0x1F ∷ 0x41 ∷ []) gives refusal 4
+    -- a name that isn't there: the last, or one on the way
+    ∷ find (text "/42") gives refusalAt 5 1
+    ∷ find (text "/00042") gives refusalAt 5 1
+    ∷ find (text "/004") gives refusalAt 5 1
+    ∷ find (text "/a") gives refusalAt 5 1
+    ∷ find (text "/A/0042") gives refusalAt 5 3
+    ∷ find (text "/A/x/y") gives refusalAt 5 3
+    ∷ find (text "/x/7/y") gives refusalAt 5 1
+    ∷ find (text "/A/B/7") gives refusalAt 5 5
+    ∷ find (text "/0123456789ABCDEF") gives refusalAt 5 1
+    -- a file where a directory is needed; the leftmost fault counts
+    ∷ find (text "/0042/x") gives refusalAt 6 1
+    ∷ find (text "/0042/x/y") gives refusalAt 6 1
+    ∷ find (text "/A/7/x") gives refusalAt 6 3
+    ∷ find (text "/A/x/7/y") gives refusalAt 5 3
+    ∷ [])
     ∷ []
 
 pub paths-hold : Hold paths
@@ -121,42 +121,42 @@ paths-hold = hold paths refl
 pub told : List Case
 told =
     shown blank (
-      format gives done
-      ∷ makeFile (text "/0042") day1 gives done
-      ∷ makeDirectory (text "/A") day2 gives done
-      ∷ makeFile (text "/A/7") day3 gives done
-      ∷ makeDirectory (text "/A/B") day1 gives done
-      ∷ write (text "/0042") 0 (content 256) gives done
-      ∷ [])
-      whole desk
+    format gives done
+    ∷ makeFile (text "/0042") day1 gives done
+    ∷ makeDirectory (text "/A") day2 gives done
+    ∷ makeFile (text "/A/7") day3 gives done
+    ∷ makeDirectory (text "/A/B") day1 gives done
+    ∷ write (text "/0042") 0 (content 256) gives done
+    ∷ [])
+    whole desk
     ∷ shown desk (
-        verdict gives sized 8 3
-        ∷ find (text "/") gives found isDirectory 256 (replicate 8 0)
-        ∷ find (text "/0042") gives found isFile 256 day1
-        ∷ find (text "/A") gives found isDirectory 256 day2
-        ∷ find (text "/A/7") gives found isFile 0 day3
-        ∷ find (text "/A/B") gives found isDirectory 256 day1
-        -- the root has 6 entries
-        ∷ list (text "/") 0 gives entry isFile (text "0042" ++ replicate 12 0) 256 day1
-        ∷ list (text "/") 1 gives entry isDirectory (text "A" ++ replicate 15 0) 256 day2
-        ∷ list (text "/") 2 gives granted empty
-        ∷ list (text "/") 5 gives granted empty
-        ∷ list (text "/") 6 gives refusal 12
-        -- any other directory has 8
-        ∷ list (text "/A") 0 gives entry isFile (text "7" ++ replicate 15 0) 0 day3
-        ∷ list (text "/A") 1 gives entry isDirectory (text "B" ++ replicate 15 0) 256 day1
-        ∷ list (text "/A") 7 gives granted empty
-        ∷ list (text "/A") 8 gives refusal 12
-        ∷ list (text "/A/B") 0 gives granted empty
-        -- what list refuses before it looks at the number
-        ∷ list (text "A") 9 gives refusal 4
-        ∷ list (text "/x") 9 gives refusalAt 5 1
-        ∷ list (text "/A/x") 9 gives refusalAt 5 3
-        ∷ list (text "/0042") 0 gives refusalAt 6 1
-        ∷ list (text "/A/7") 9 gives refusalAt 6 3
-        ∷ list (text "/0042/x") 9 gives refusalAt 6 1
-        ∷ [])
-        whole desk
+    verdict gives sized 8 3
+    ∷ find (text "/") gives found isDirectory 256 (replicate 8 0)
+    ∷ find (text "/0042") gives found isFile 256 day1
+    ∷ find (text "/A") gives found isDirectory 256 day2
+    ∷ find (text "/A/7") gives found isFile 0 day3
+    ∷ find (text "/A/B") gives found isDirectory 256 day1
+    -- the root has 6 entries
+    ∷ list (text "/") 0 gives entry isFile (text "0042" ++ replicate 12 0) 256 day1
+    ∷ list (text "/") 1 gives entry isDirectory (text "A" ++ replicate 15 0) 256 day2
+    ∷ list (text "/") 2 gives granted empty
+    ∷ list (text "/") 5 gives granted empty
+    ∷ list (text "/") 6 gives refusal 12
+    -- any other directory has 8
+    ∷ list (text "/A") 0 gives entry isFile (text "7" ++ replicate 15 0) 0 day3
+    ∷ list (text "/A") 1 gives entry isDirectory (text "B" ++ replicate 15 0) 256 day1
+    ∷ list (text "/A") 7 gives granted empty
+    ∷ list (text "/A") 8 gives refusal 12
+    ∷ list (text "/A/B") 0 gives granted empty
+    -- what list refuses before it looks at the number
+    ∷ list (text "A") 9 gives refusal 4
+    ∷ list (text "/x") 9 gives refusalAt 5 1
+    ∷ list (text "/A/x") 9 gives refusalAt 5 3
+    ∷ list (text "/0042") 0 gives refusalAt 6 1
+    ∷ list (text "/A/7") 9 gives refusalAt 6 3
+    ∷ list (text "/0042/x") 9 gives refusalAt 6 1
+    ∷ [])
+    whole desk
     ∷ []
 
 pub told-hold : Hold told
@@ -169,128 +169,128 @@ pub makes : List Case
 makes =
     -- refused; of two lines that hold the higher one is given; nothing changes
     shown desk (
-      makeFile (text "A") [] gives refusal 4
-      ∷ makeDirectory (text "A") [] gives refusal 4
-      ∷ makeFile (text "/x/y") [] gives refusal 11
-      ∷ makeDirectory (text "/x/y") [] gives refusal 11
-      ∷ makeFile (text "/0042/y") [] gives refusal 11
-      ∷ makeDirectory (text "/0042/y") [] gives refusal 11
-      ∷ makeFile (text "/") [] gives refusal 11
-      ∷ makeDirectory (text "/") [] gives refusal 11
-      ∷ makeFile (text "/A") [] gives refusal 11
-      ∷ makeDirectory (text "/A") [] gives refusal 11
-      ∷ makeFile (text "/x/y") day1 gives refusalAt 5 1
-      ∷ makeDirectory (text "/A/x/y") day1 gives refusalAt 5 3
-      ∷ makeFile (text "/A/x/y/z") day1 gives refusalAt 5 3
-      ∷ makeFile (text "/A/7/y") day1 gives refusalAt 6 3
-      ∷ makeDirectory (text "/0042/y") day1 gives refusalAt 6 1
-      ∷ makeFile (text "/0042/0042") day1 gives refusalAt 6 1
-      ∷ makeFile (text "/") day1 gives refusal 8
-      ∷ makeDirectory (text "/") day1 gives refusal 8
-      ∷ makeFile (text "/0042") day1 gives refusal 8
-      ∷ makeDirectory (text "/0042") day1 gives refusal 8
-      ∷ makeFile (text "/A") day1 gives refusal 8
-      ∷ makeDirectory (text "/A/B") day1 gives refusal 8
-      ∷ makeFile (text "/A/7") day1 gives refusal 8
-      ∷ [])
-      whole desk
+    makeFile (text "A") [] gives refusal 4
+    ∷ makeDirectory (text "A") [] gives refusal 4
+    ∷ makeFile (text "/x/y") [] gives refusal 11
+    ∷ makeDirectory (text "/x/y") [] gives refusal 11
+    ∷ makeFile (text "/0042/y") [] gives refusal 11
+    ∷ makeDirectory (text "/0042/y") [] gives refusal 11
+    ∷ makeFile (text "/") [] gives refusal 11
+    ∷ makeDirectory (text "/") [] gives refusal 11
+    ∷ makeFile (text "/A") [] gives refusal 11
+    ∷ makeDirectory (text "/A") [] gives refusal 11
+    ∷ makeFile (text "/x/y") day1 gives refusalAt 5 1
+    ∷ makeDirectory (text "/A/x/y") day1 gives refusalAt 5 3
+    ∷ makeFile (text "/A/x/y/z") day1 gives refusalAt 5 3
+    ∷ makeFile (text "/A/7/y") day1 gives refusalAt 6 3
+    ∷ makeDirectory (text "/0042/y") day1 gives refusalAt 6 1
+    ∷ makeFile (text "/0042/0042") day1 gives refusalAt 6 1
+    ∷ makeFile (text "/") day1 gives refusal 8
+    ∷ makeDirectory (text "/") day1 gives refusal 8
+    ∷ makeFile (text "/0042") day1 gives refusal 8
+    ∷ makeDirectory (text "/0042") day1 gives refusal 8
+    ∷ makeFile (text "/A") day1 gives refusal 8
+    ∷ makeDirectory (text "/A/B") day1 gives refusal 8
+    ∷ makeFile (text "/A/7") day1 gives refusal 8
+    ∷ [])
+    whole desk
     -- no entry of the root is left, and no page: 8 before 9, and 9 before 10
     ∷ shown desk (
-        makeFile (text "/C") day1 gives done
-        ∷ makeFile (text "/D") day2 gives done
-        ∷ makeFile (text "/E") day3 gives done
-        ∷ makeDirectory (text "/F") day1 gives done
-        ∷ makeFile (text "/G") day1 gives refusal 9
-        ∷ makeDirectory (text "/G") day1 gives refusal 9
-        ∷ write (text "/C") 0 (replicate 510 1) gives done
-        ∷ [])
-        whole full
+    makeFile (text "/C") day1 gives done
+    ∷ makeFile (text "/D") day2 gives done
+    ∷ makeFile (text "/E") day3 gives done
+    ∷ makeDirectory (text "/F") day1 gives done
+    ∷ makeFile (text "/G") day1 gives refusal 9
+    ∷ makeDirectory (text "/G") day1 gives refusal 9
+    ∷ write (text "/C") 0 (replicate 510 1) gives done
+    ∷ [])
+    whole full
     ∷ shown full (
-        verdict gives sized 8 0
-        ∷ makeFile (text "/G") [] gives refusal 11
-        ∷ makeDirectory (text "/A/C") [] gives refusal 11
-        ∷ makeDirectory (text "/G/x") day1 gives refusalAt 5 1
-        ∷ makeDirectory (text "/C/x") day1 gives refusalAt 6 1
-        ∷ makeFile (text "/D") day1 gives refusal 8
-        ∷ makeDirectory (text "/D") day1 gives refusal 8
-        ∷ makeFile (text "/G") day1 gives refusal 9
-        ∷ makeDirectory (text "/G") day1 gives refusal 9
-        ∷ makeDirectory (text "/A/B") day1 gives refusal 8
-        ∷ makeDirectory (text "/A/C") day1 gives refusal 10
-        ∷ write (text "/D") 0 (1 ∷ []) gives refusal 10
-        -- what wants no page is not refused
-        ∷ find (text "/D") gives found isFile 0 day2
-        ∷ list (text "/") 4 gives entry isFile (text "E" ++ replicate 15 0) 0 day3
-        ∷ reads (text "/C") 509 (9 ∷ 9 ∷ []) 1 (1 ∷ 9 ∷ [])
-        ∷ write (text "/C") 509 (1 ∷ []) gives done
-        ∷ [])
-        whole full
+    verdict gives sized 8 0
+    ∷ makeFile (text "/G") [] gives refusal 11
+    ∷ makeDirectory (text "/A/C") [] gives refusal 11
+    ∷ makeDirectory (text "/G/x") day1 gives refusalAt 5 1
+    ∷ makeDirectory (text "/C/x") day1 gives refusalAt 6 1
+    ∷ makeFile (text "/D") day1 gives refusal 8
+    ∷ makeDirectory (text "/D") day1 gives refusal 8
+    ∷ makeFile (text "/G") day1 gives refusal 9
+    ∷ makeDirectory (text "/G") day1 gives refusal 9
+    ∷ makeDirectory (text "/A/B") day1 gives refusal 8
+    ∷ makeDirectory (text "/A/C") day1 gives refusal 10
+    ∷ write (text "/D") 0 (1 ∷ []) gives refusal 10
+    -- what wants no page is not refused
+    ∷ find (text "/D") gives found isFile 0 day2
+    ∷ list (text "/") 4 gives entry isFile (text "E" ++ replicate 15 0) 0 day3
+    ∷ reads (text "/C") 509 (9 ∷ 9 ∷ []) 1 (1 ∷ 9 ∷ [])
+    ∷ write (text "/C") 509 (1 ∷ []) gives done
+    ∷ [])
+    whole full
     ∷ answered full (remove (text "/D") gives done ∷ remove (text "/C") gives done ∷ verdict gives sized 8 2 ∷ [])
     -- an empty file wants no page; /A has 8 entries
     ∷ answered full (
-        makeFile (text "/A/C") day1 gives done
-        ∷ makeFile (text "/A/D") day1 gives done
-        ∷ makeFile (text "/A/E") day1 gives done
-        ∷ makeFile (text "/A/F") day1 gives done
-        ∷ makeFile (text "/A/G") day1 gives done
-        ∷ makeFile (text "/A/H") day2 gives done
-        ∷ makeFile (text "/A/I") day1 gives refusal 9
-        ∷ list (text "/A") 7 gives entry isFile (text "H" ++ replicate 15 0) 0 day2
-        ∷ [])
+    makeFile (text "/A/C") day1 gives done
+    ∷ makeFile (text "/A/D") day1 gives done
+    ∷ makeFile (text "/A/E") day1 gives done
+    ∷ makeFile (text "/A/F") day1 gives done
+    ∷ makeFile (text "/A/G") day1 gives done
+    ∷ makeFile (text "/A/H") day2 gives done
+    ∷ makeFile (text "/A/I") day1 gives refusal 9
+    ∷ list (text "/A") 7 gives entry isFile (text "H" ++ replicate 15 0) 0 day2
+    ∷ [])
     -- the lowest empty entry is filled, the one that a removal left
     ∷ answered desk (
-        makeFile (text "/C") day1 gives done
-        ∷ remove (text "/0042") gives done
-        ∷ makeDirectory (text "/D") day3 gives done
-        ∷ makeFile (text "/E") day2 gives done
-        ∷ list (text "/") 0 gives entry isDirectory (text "D" ++ replicate 15 0) 256 day3
-        ∷ list (text "/") 1 gives entry isDirectory (text "A" ++ replicate 15 0) 256 day2
-        ∷ list (text "/") 2 gives entry isFile (text "C" ++ replicate 15 0) 0 day1
-        ∷ list (text "/") 3 gives entry isFile (text "E" ++ replicate 15 0) 0 day2
-        ∷ [])
+    makeFile (text "/C") day1 gives done
+    ∷ remove (text "/0042") gives done
+    ∷ makeDirectory (text "/D") day3 gives done
+    ∷ makeFile (text "/E") day2 gives done
+    ∷ list (text "/") 0 gives entry isDirectory (text "D" ++ replicate 15 0) 256 day3
+    ∷ list (text "/") 1 gives entry isDirectory (text "A" ++ replicate 15 0) 256 day2
+    ∷ list (text "/") 2 gives entry isFile (text "C" ++ replicate 15 0) 0 day1
+    ∷ list (text "/") 3 gives entry isFile (text "E" ++ replicate 15 0) 0 day2
+    ∷ [])
     -- names: each byte counts, and so do case and leading zeros; "." and ".." are ordinary
     ∷ answered desk (
-        makeFile (text "/42") day2 gives done
-        ∷ makeFile (text "/00042") day3 gives done
-        ∷ find (text "/0042") gives found isFile 256 day1
-        ∷ find (text "/42") gives found isFile 0 day2
-        ∷ find (text "/00042") gives found isFile 0 day3
-        ∷ makeDirectory (text "/.") day2 gives done
-        ∷ makeFile (text "/./..") day3 gives done
-        ∷ find (text "/./..") gives found isFile 0 day3
-        ∷ find (text "/..") gives refusalAt 5 1
-        ∷ makeFile (text "/a") day3 gives done
-        ∷ find (text "/A") gives found isDirectory 256 day2
-        ∷ find (text "/a") gives found isFile 0 day3
-        ∷ [])
+    makeFile (text "/42") day2 gives done
+    ∷ makeFile (text "/00042") day3 gives done
+    ∷ find (text "/0042") gives found isFile 256 day1
+    ∷ find (text "/42") gives found isFile 0 day2
+    ∷ find (text "/00042") gives found isFile 0 day3
+    ∷ makeDirectory (text "/.") day2 gives done
+    ∷ makeFile (text "/./..") day3 gives done
+    ∷ find (text "/./..") gives found isFile 0 day3
+    ∷ find (text "/..") gives refusalAt 5 1
+    ∷ makeFile (text "/a") day3 gives done
+    ∷ find (text "/A") gives found isDirectory 256 day2
+    ∷ find (text "/a") gives found isFile 0 day3
+    ∷ [])
     ∷ answered desk (
-        makeFile (text "/0123456789ABCDEF") day2 gives done
-        ∷ makeFile (text "/0123456789ABCDE") day3 gives done
-        ∷ find (text "/0123456789ABCDEF") gives found isFile 0 day2
-        ∷ find (text "/0123456789ABCDE") gives found isFile 0 day3
-        ∷ list (text "/") 2 gives entry isFile (text "0123456789ABCDEF") 0 day2
-        ∷ list (text "/") 3 gives entry isFile (text "0123456789ABCDE" ++ 0 ∷ []) 0 day3
-        ∷ makeFile (0x2F ∷ 0x20 ∷ []) day1 gives done
-        ∷ makeFile (0x2F ∷ 0x7E ∷ []) day1 gives done
-        ∷ list (text "/") 4 gives entry isFile (0x20 ∷ replicate 15 0) 0 day1
-        ∷ list (text "/") 5 gives entry isFile (0x7E ∷ replicate 15 0) 0 day1
-        ∷ [])
+    makeFile (text "/0123456789ABCDEF") day2 gives done
+    ∷ makeFile (text "/0123456789ABCDE") day3 gives done
+    ∷ find (text "/0123456789ABCDEF") gives found isFile 0 day2
+    ∷ find (text "/0123456789ABCDE") gives found isFile 0 day3
+    ∷ list (text "/") 2 gives entry isFile (text "0123456789ABCDEF") 0 day2
+    ∷ list (text "/") 3 gives entry isFile (text "0123456789ABCDE" ++ 0 ∷ []) 0 day3
+    ∷ makeFile (0x2F ∷ 0x20 ∷ []) day1 gives done
+    ∷ makeFile (0x2F ∷ 0x7E ∷ []) day1 gives done
+    ∷ list (text "/") 4 gives entry isFile (0x20 ∷ replicate 15 0) 0 day1
+    ∷ list (text "/") 5 gives entry isFile (0x7E ∷ replicate 15 0) 0 day1
+    ∷ [])
     -- names of which one begins as the other does, whichever came first
     ∷ answered fresh (
-        makeDirectory (text "/AB") day1 gives done
-        ∷ makeFile (text "/A") day2 gives done
-        ∷ makeFile (text "/ABC") day3 gives done
-        ∷ write (text "/A") 0 (1 ∷ []) gives done
-        ∷ find (text "/AB") gives found isDirectory 256 day1
-        ∷ find (text "/A") gives found isFile 1 day2
-        ∷ find (text "/ABC") gives found isFile 0 day3
-        ∷ remove (text "/A") gives done
-        ∷ find (text "/A") gives refusalAt 5 1
-        ∷ makeDirectory (text "/ABCD") day1 gives done
-        ∷ makeDirectory (text "/A/x") day1 gives refusalAt 5 1
-        ∷ makeDirectory (text "/ABC/x") day1 gives refusalAt 6 1
-        ∷ makeDirectory (text "/ABCD/x") day1 gives done
-        ∷ [])
+    makeDirectory (text "/AB") day1 gives done
+    ∷ makeFile (text "/A") day2 gives done
+    ∷ makeFile (text "/ABC") day3 gives done
+    ∷ write (text "/A") 0 (1 ∷ []) gives done
+    ∷ find (text "/AB") gives found isDirectory 256 day1
+    ∷ find (text "/A") gives found isFile 1 day2
+    ∷ find (text "/ABC") gives found isFile 0 day3
+    ∷ remove (text "/A") gives done
+    ∷ find (text "/A") gives refusalAt 5 1
+    ∷ makeDirectory (text "/ABCD") day1 gives done
+    ∷ makeDirectory (text "/A/x") day1 gives refusalAt 5 1
+    ∷ makeDirectory (text "/ABC/x") day1 gives refusalAt 6 1
+    ∷ makeDirectory (text "/ABCD/x") day1 gives done
+    ∷ [])
     ∷ []
 
 pub makes-hold : Hold makes
@@ -303,36 +303,36 @@ pub dates : List Case
 dates =
     -- the ends of each range, and 99 where any two digits do
     answered fresh (
-      makeFile (text "/A") (0x99 ∷ 0x99 ∷ 0x01 ∷ 0x01 ∷ 0x99 ∷ 0x00 ∷ 0x00 ∷ 0x00 ∷ []) gives done
-      ∷ makeDirectory (text "/B") (0x00 ∷ 0x00 ∷ 0x12 ∷ 0x31 ∷ 0x00 ∷ 0x23 ∷ 0x59 ∷ 0x59 ∷ []) gives done
-      ∷ makeFile (text "/C") (0x20 ∷ 0x26 ∷ 0x09 ∷ 0x10 ∷ 0x07 ∷ 0x19 ∷ 0x09 ∷ 0x10 ∷ []) gives done
-      ∷ makeFile (text "/D") (0x20 ∷ 0x26 ∷ 0x10 ∷ 0x29 ∷ 0x07 ∷ 0x20 ∷ 0x10 ∷ 0x09 ∷ []) gives done
-      ∷ find (text "/A") gives found isFile 0 (0x99 ∷ 0x99 ∷ 0x01 ∷ 0x01 ∷ 0x99 ∷ 0x00 ∷ 0x00 ∷ 0x00 ∷ [])
-      ∷ [])
+    makeFile (text "/A") (0x99 ∷ 0x99 ∷ 0x01 ∷ 0x01 ∷ 0x99 ∷ 0x00 ∷ 0x00 ∷ 0x00 ∷ []) gives done
+    ∷ makeDirectory (text "/B") (0x00 ∷ 0x00 ∷ 0x12 ∷ 0x31 ∷ 0x00 ∷ 0x23 ∷ 0x59 ∷ 0x59 ∷ []) gives done
+    ∷ makeFile (text "/C") (0x20 ∷ 0x26 ∷ 0x09 ∷ 0x10 ∷ 0x07 ∷ 0x19 ∷ 0x09 ∷ 0x10 ∷ []) gives done
+    ∷ makeFile (text "/D") (0x20 ∷ 0x26 ∷ 0x10 ∷ 0x29 ∷ 0x07 ∷ 0x20 ∷ 0x10 ∷ 0x09 ∷ []) gives done
+    ∷ find (text "/A") gives found isFile 0 (0x99 ∷ 0x99 ∷ 0x01 ∷ 0x01 ∷ 0x99 ∷ 0x00 ∷ 0x00 ∷ 0x00 ∷ [])
+    ∷ [])
     -- one past each end
     ∷ shown fresh (
-        makeFile (text "/A") (0x20 ∷ 0x26 ∷ 0x00 ∷ 0x15 ∷ 0x07 ∷ 0x14 ∷ 0x30 ∷ 0x00 ∷ []) gives refusal 11
-        ∷ makeFile (text "/A") (0x20 ∷ 0x26 ∷ 0x13 ∷ 0x15 ∷ 0x07 ∷ 0x14 ∷ 0x30 ∷ 0x00 ∷ []) gives refusal 11
-        ∷ makeFile (text "/A") (0x20 ∷ 0x26 ∷ 0x11 ∷ 0x00 ∷ 0x07 ∷ 0x14 ∷ 0x30 ∷ 0x00 ∷ []) gives refusal 11
-        ∷ makeFile (text "/A") (0x20 ∷ 0x26 ∷ 0x11 ∷ 0x32 ∷ 0x07 ∷ 0x14 ∷ 0x30 ∷ 0x00 ∷ []) gives refusal 11
-        ∷ makeFile (text "/A") (0x20 ∷ 0x26 ∷ 0x11 ∷ 0x15 ∷ 0x07 ∷ 0x24 ∷ 0x30 ∷ 0x00 ∷ []) gives refusal 11
-        ∷ makeFile (text "/A") (0x20 ∷ 0x26 ∷ 0x11 ∷ 0x15 ∷ 0x07 ∷ 0x14 ∷ 0x60 ∷ 0x00 ∷ []) gives refusal 11
-        ∷ makeDirectory (text "/A") (0x20 ∷ 0x26 ∷ 0x11 ∷ 0x15 ∷ 0x07 ∷ 0x14 ∷ 0x30 ∷ 0x60 ∷ []) gives refusal 11
-        -- a half byte above 9, in each byte
-        ∷ makeFile (text "/A") (0x2A ∷ 0x26 ∷ 0x11 ∷ 0x15 ∷ 0x07 ∷ 0x14 ∷ 0x30 ∷ 0x00 ∷ []) gives refusal 11
-        ∷ makeFile (text "/A") (0xA0 ∷ 0x26 ∷ 0x11 ∷ 0x15 ∷ 0x07 ∷ 0x14 ∷ 0x30 ∷ 0x00 ∷ []) gives refusal 11
-        ∷ makeFile (text "/A") (0x20 ∷ 0xA6 ∷ 0x11 ∷ 0x15 ∷ 0x07 ∷ 0x14 ∷ 0x30 ∷ 0x00 ∷ []) gives refusal 11
-        ∷ makeFile (text "/A") (0x20 ∷ 0x26 ∷ 0x0A ∷ 0x15 ∷ 0x07 ∷ 0x14 ∷ 0x30 ∷ 0x00 ∷ []) gives refusal 11
-        ∷ makeFile (text "/A") (0x20 ∷ 0x26 ∷ 0x11 ∷ 0x1A ∷ 0x07 ∷ 0x14 ∷ 0x30 ∷ 0x00 ∷ []) gives refusal 11
-        ∷ makeFile (text "/A") (0x20 ∷ 0x26 ∷ 0x11 ∷ 0x15 ∷ 0x0A ∷ 0x14 ∷ 0x30 ∷ 0x00 ∷ []) gives refusal 11
-        ∷ makeFile (text "/A") (0x20 ∷ 0x26 ∷ 0x11 ∷ 0x15 ∷ 0x07 ∷ 0x0A ∷ 0x30 ∷ 0x00 ∷ []) gives refusal 11
-        ∷ makeFile (text "/A") (0x20 ∷ 0x26 ∷ 0x11 ∷ 0x15 ∷ 0x07 ∷ 0x14 ∷ 0x3A ∷ 0x00 ∷ []) gives refusal 11
-        ∷ makeDirectory (text "/A") (0x20 ∷ 0x26 ∷ 0x11 ∷ 0x15 ∷ 0x07 ∷ 0x14 ∷ 0x30 ∷ 0x0F ∷ []) gives refusal 11
-        -- seven bytes, and nine
-        ∷ makeFile (text "/A") (0x20 ∷ 0x26 ∷ 0x11 ∷ 0x15 ∷ 0x07 ∷ 0x14 ∷ 0x30 ∷ []) gives refusal 11
-        ∷ makeDirectory (text "/A") (day1 ++ 0x00 ∷ []) gives refusal 11
-        ∷ [])
-        whole fresh
+    makeFile (text "/A") (0x20 ∷ 0x26 ∷ 0x00 ∷ 0x15 ∷ 0x07 ∷ 0x14 ∷ 0x30 ∷ 0x00 ∷ []) gives refusal 11
+    ∷ makeFile (text "/A") (0x20 ∷ 0x26 ∷ 0x13 ∷ 0x15 ∷ 0x07 ∷ 0x14 ∷ 0x30 ∷ 0x00 ∷ []) gives refusal 11
+    ∷ makeFile (text "/A") (0x20 ∷ 0x26 ∷ 0x11 ∷ 0x00 ∷ 0x07 ∷ 0x14 ∷ 0x30 ∷ 0x00 ∷ []) gives refusal 11
+    ∷ makeFile (text "/A") (0x20 ∷ 0x26 ∷ 0x11 ∷ 0x32 ∷ 0x07 ∷ 0x14 ∷ 0x30 ∷ 0x00 ∷ []) gives refusal 11
+    ∷ makeFile (text "/A") (0x20 ∷ 0x26 ∷ 0x11 ∷ 0x15 ∷ 0x07 ∷ 0x24 ∷ 0x30 ∷ 0x00 ∷ []) gives refusal 11
+    ∷ makeFile (text "/A") (0x20 ∷ 0x26 ∷ 0x11 ∷ 0x15 ∷ 0x07 ∷ 0x14 ∷ 0x60 ∷ 0x00 ∷ []) gives refusal 11
+    ∷ makeDirectory (text "/A") (0x20 ∷ 0x26 ∷ 0x11 ∷ 0x15 ∷ 0x07 ∷ 0x14 ∷ 0x30 ∷ 0x60 ∷ []) gives refusal 11
+    -- a half byte above 9, in each byte
+    ∷ makeFile (text "/A") (0x2A ∷ 0x26 ∷ 0x11 ∷ 0x15 ∷ 0x07 ∷ 0x14 ∷ 0x30 ∷ 0x00 ∷ []) gives refusal 11
+    ∷ makeFile (text "/A") (0xA0 ∷ 0x26 ∷ 0x11 ∷ 0x15 ∷ 0x07 ∷ 0x14 ∷ 0x30 ∷ 0x00 ∷ []) gives refusal 11
+    ∷ makeFile (text "/A") (0x20 ∷ 0xA6 ∷ 0x11 ∷ 0x15 ∷ 0x07 ∷ 0x14 ∷ 0x30 ∷ 0x00 ∷ []) gives refusal 11
+    ∷ makeFile (text "/A") (0x20 ∷ 0x26 ∷ 0x0A ∷ 0x15 ∷ 0x07 ∷ 0x14 ∷ 0x30 ∷ 0x00 ∷ []) gives refusal 11
+    ∷ makeFile (text "/A") (0x20 ∷ 0x26 ∷ 0x11 ∷ 0x1A ∷ 0x07 ∷ 0x14 ∷ 0x30 ∷ 0x00 ∷ []) gives refusal 11
+    ∷ makeFile (text "/A") (0x20 ∷ 0x26 ∷ 0x11 ∷ 0x15 ∷ 0x0A ∷ 0x14 ∷ 0x30 ∷ 0x00 ∷ []) gives refusal 11
+    ∷ makeFile (text "/A") (0x20 ∷ 0x26 ∷ 0x11 ∷ 0x15 ∷ 0x07 ∷ 0x0A ∷ 0x30 ∷ 0x00 ∷ []) gives refusal 11
+    ∷ makeFile (text "/A") (0x20 ∷ 0x26 ∷ 0x11 ∷ 0x15 ∷ 0x07 ∷ 0x14 ∷ 0x3A ∷ 0x00 ∷ []) gives refusal 11
+    ∷ makeDirectory (text "/A") (0x20 ∷ 0x26 ∷ 0x11 ∷ 0x15 ∷ 0x07 ∷ 0x14 ∷ 0x30 ∷ 0x0F ∷ []) gives refusal 11
+    -- seven bytes, and nine
+    ∷ makeFile (text "/A") (0x20 ∷ 0x26 ∷ 0x11 ∷ 0x15 ∷ 0x07 ∷ 0x14 ∷ 0x30 ∷ []) gives refusal 11
+    ∷ makeDirectory (text "/A") (day1 ++ 0x00 ∷ []) gives refusal 11
+    ∷ [])
+    whole fresh
     ∷ []
 
 pub dates-hold : Hold dates
@@ -344,43 +344,42 @@ dates-hold = hold dates refl
 pub readings : List Case
 readings =
     shown blank (
-      format gives done
-      ∷ makeDirectory (text "/D") day2 gives done
-      ∷ makeFile (text "/R") day1 gives done
-      ∷ write (text "/R") 0 (content 600) gives done
-      ∷ makeFile (text "/E") day3 gives done
-      ∷ [])
-      whole shelf
+    format gives done
+    ∷ makeDirectory (text "/D") day2 gives done
+    ∷ makeFile (text "/R") day1 gives done
+    ∷ write (text "/R") 0 (content 600) gives done
+    ∷ makeFile (text "/E") day3 gives done
+    ∷ [])
+    whole shelf
     ∷ shown shelf (
-      reads (text "/R") 0 (0xEE ∷ 0xEE ∷ 0xEE ∷ []) 3 (0 ∷ 1 ∷ 2 ∷ [])
-      -- across pages: the first holds bytes 0 to 254, the second 255 to 509
-      ∷ reads (text "/R") 252 (replicate 6 0xEE) 6 (1 ∷ 2 ∷ 3 ∷ 4 ∷ 5 ∷ 6 ∷ [])
-      ∷ reads (text "/R") 507 (replicate 6 0xEE) 6 (5 ∷ 6 ∷ 7 ∷ 8 ∷ 9 ∷ 10 ∷ [])
-      -- at the size, before it and past it; what is not copied over stays
-      ∷ reads (text "/R") 599 (1 ∷ 2 ∷ 3 ∷ []) 1 (97 ∷ 2 ∷ 3 ∷ [])
-      ∷ reads (text "/R") 600 (1 ∷ 2 ∷ 3 ∷ []) 0 (1 ∷ 2 ∷ 3 ∷ [])
-      ∷ read (text "/R") 601 (1 ∷ 2 ∷ 3 ∷ []) gives refusal 12
-      ∷ reads (text "/R") 0 (replicate 700 0xEE) 600 (content 600 ++ replicate 100 0xEE)
-      ∷ reads (text "/E") 0 (1 ∷ 2 ∷ []) 0 (1 ∷ 2 ∷ [])
-      ∷ read (text "/E") 1 (1 ∷ 2 ∷ []) gives refusal 12
-      -- no room: refused all the same
-      ∷ reads (text "/R") 0 [] 0 []
-      ∷ reads (text "/R") 600 [] 0 []
-      ∷ read (text "/R") 601 [] gives refusal 12
-      ∷ read (text "/D") 0 [] gives refusal 7
-      -- refused; 7 before 12
-      ∷ read (text "R") 601 (1 ∷ []) gives refusal 4
-      ∷ read (text "/x") 601 (1 ∷ []) gives refusalAt 5 1
-      ∷ read (text "/D/x/y") 0 (1 ∷ []) gives refusalAt 5 3
-      ∷ read (text "/R/x") 601 (1 ∷ []) gives refusalAt 6 1
-      ∷ read (text "/D") 1 (1 ∷ []) gives refusal 7
-      ∷ read (text "/") 0 (1 ∷ []) gives refusal 7
-      ∷ read (text "/") 257 (1 ∷ []) gives refusal 7
-      ∷ [])
-      whole shelf
+    reads (text "/R") 0 (0xEE ∷ 0xEE ∷ 0xEE ∷ []) 3 (0 ∷ 1 ∷ 2 ∷ [])
+    -- across pages: the first holds bytes 0 to 254, the second 255 to 509
+    ∷ reads (text "/R") 252 (replicate 6 0xEE) 6 (1 ∷ 2 ∷ 3 ∷ 4 ∷ 5 ∷ 6 ∷ [])
+    ∷ reads (text "/R") 507 (replicate 6 0xEE) 6 (5 ∷ 6 ∷ 7 ∷ 8 ∷ 9 ∷ 10 ∷ [])
+    -- at the size, before it and past it; what is not copied over stays
+    ∷ reads (text "/R") 599 (1 ∷ 2 ∷ 3 ∷ []) 1 (97 ∷ 2 ∷ 3 ∷ [])
+    ∷ reads (text "/R") 600 (1 ∷ 2 ∷ 3 ∷ []) 0 (1 ∷ 2 ∷ 3 ∷ [])
+    ∷ read (text "/R") 601 (1 ∷ 2 ∷ 3 ∷ []) gives refusal 12
+    ∷ reads (text "/R") 0 (replicate 700 0xEE) 600 (content 600 ++ replicate 100 0xEE)
+    ∷ reads (text "/E") 0 (1 ∷ 2 ∷ []) 0 (1 ∷ 2 ∷ [])
+    ∷ read (text "/E") 1 (1 ∷ 2 ∷ []) gives refusal 12
+    -- no room: refused all the same
+    ∷ reads (text "/R") 0 [] 0 []
+    ∷ reads (text "/R") 600 [] 0 []
+    ∷ read (text "/R") 601 [] gives refusal 12
+    ∷ read (text "/D") 0 [] gives refusal 7
+    -- refused; 7 before 12
+    ∷ read (text "R") 601 (1 ∷ []) gives refusal 4
+    ∷ read (text "/x") 601 (1 ∷ []) gives refusalAt 5 1
+    ∷ read (text "/D/x/y") 0 (1 ∷ []) gives refusalAt 5 3
+    ∷ read (text "/R/x") 601 (1 ∷ []) gives refusalAt 6 1
+    ∷ read (text "/D") 1 (1 ∷ []) gives refusal 7
+    ∷ read (text "/") 0 (1 ∷ []) gives refusal 7
+    ∷ read (text "/") 257 (1 ∷ []) gives refusal 7
+    ∷ [])
+    whole shelf
     ∷ []
 
 pub readings-hold : Hold readings
 unfolding computing computed stated readings shelf fresh
 readings-hold = hold readings refl
-

@@ -14,64 +14,64 @@ pub writes : List Case
 writes =
     -- no bytes: nothing changes, and what stands above is refused all the same
     shown shelf (
-      write (text "/R") 0 [] gives done
-      ∷ write (text "/R") 600 [] gives done
-      ∷ write (text "/E") 0 [] gives done
-      ∷ write (text "R") 0 [] gives refusal 4
-      ∷ write (text "/x") 0 [] gives refusalAt 5 1
-      ∷ write (text "/R/x") 0 [] gives refusalAt 6 1
-      ∷ write (text "/D") 0 [] gives refusal 7
-      ∷ write (text "/") 0 [] gives refusal 7
-      ∷ write (text "/R") 601 [] gives refusal 12
-      ∷ write (text "/E") 1 [] gives refusal 12
-      -- refused with bytes: 7 before 12 and 10, 12 before 10
-      ∷ write (text "R") 601 (replicate 2000 1) gives refusal 4
-      ∷ write (text "/D/x/y") 601 (replicate 2000 1) gives refusalAt 5 3
-      ∷ write (text "/R/x") 601 (replicate 2000 1) gives refusalAt 6 1
-      ∷ write (text "/D") 257 (1 ∷ []) gives refusal 7
-      ∷ write (text "/D") 0 (replicate 2000 1) gives refusal 7
-      ∷ write (text "/") 0 (1 ∷ []) gives refusal 7
-      ∷ write (text "/R") 601 (1 ∷ []) gives refusal 12
-      ∷ write (text "/R") 601 (replicate 2000 1) gives refusal 12
-      -- three pages are free: /R may have six, which hold 1,530 bytes
-      ∷ write (text "/R") 600 (replicate 931 1) gives refusal 10
-      ∷ write (text "/R") 0 (replicate 1531 1) gives refusal 10
-      ∷ write (text "/E") 0 (replicate 766 1) gives refusal 10
-      ∷ [])
-      whole shelf
+    write (text "/R") 0 [] gives done
+    ∷ write (text "/R") 600 [] gives done
+    ∷ write (text "/E") 0 [] gives done
+    ∷ write (text "R") 0 [] gives refusal 4
+    ∷ write (text "/x") 0 [] gives refusalAt 5 1
+    ∷ write (text "/R/x") 0 [] gives refusalAt 6 1
+    ∷ write (text "/D") 0 [] gives refusal 7
+    ∷ write (text "/") 0 [] gives refusal 7
+    ∷ write (text "/R") 601 [] gives refusal 12
+    ∷ write (text "/E") 1 [] gives refusal 12
+    -- refused with bytes: 7 before 12 and 10, 12 before 10
+    ∷ write (text "R") 601 (replicate 2000 1) gives refusal 4
+    ∷ write (text "/D/x/y") 601 (replicate 2000 1) gives refusalAt 5 3
+    ∷ write (text "/R/x") 601 (replicate 2000 1) gives refusalAt 6 1
+    ∷ write (text "/D") 257 (1 ∷ []) gives refusal 7
+    ∷ write (text "/D") 0 (replicate 2000 1) gives refusal 7
+    ∷ write (text "/") 0 (1 ∷ []) gives refusal 7
+    ∷ write (text "/R") 601 (1 ∷ []) gives refusal 12
+    ∷ write (text "/R") 601 (replicate 2000 1) gives refusal 12
+    -- three pages are free: /R may have six, which hold 1,530 bytes
+    ∷ write (text "/R") 600 (replicate 931 1) gives refusal 10
+    ∷ write (text "/R") 0 (replicate 1531 1) gives refusal 10
+    ∷ write (text "/E") 0 (replicate 766 1) gives refusal 10
+    ∷ [])
+    whole shelf
     ∷ answered shelf (write (text "/R") 600 (replicate 930 1) gives done ∷ find (text "/R") gives found isFile 1530 day1 ∷ verdict gives sized 8 0 ∷ [])
     ∷ answered shelf (write (text "/E") 0 (replicate 765 1) gives done ∷ verdict gives sized 8 0 ∷ [])
     -- in the middle, across pages
     ∷ shown shelf (write (text "/R") 253 (0xA0 ∷ 0xA1 ∷ 0xA2 ∷ 0xA3 ∷ []) gives done ∷ find (text "/R") gives found isFile 600 day1 ∷ [])
-        whole (put 766 (0xA0 ∷ 0xA1 ∷ []) (put 769 (0xA2 ∷ 0xA3 ∷ []) shelf))
+    whole (put 766 (0xA0 ∷ 0xA1 ∷ []) (put 769 (0xA2 ∷ 0xA3 ∷ []) shelf))
     -- over the end, on the last page: 602 bytes
     ∷ shown shelf (write (text "/R") 599 (0xA0 ∷ 0xA1 ∷ 0xA2 ∷ []) gives done ∷ [])
-        whole (put 114 (0x5A ∷ 0x02 ∷ []) (put 1114 (0xA0 ∷ 0xA1 ∷ 0xA2 ∷ []) shelf))
+    whole (put 114 (0x5A ∷ 0x02 ∷ []) (put 1114 (0xA0 ∷ 0xA1 ∷ 0xA2 ∷ []) shelf))
     -- at the end, onto a new page: 800 bytes, of which the last 35 stand on page 5
     ∷ shown shelf (write (text "/R") 600 (content 200) gives done ∷ [])
-        whole (put 3 (2 ∷ 0b111111 ∷ []) (put 114 (0x20 ∷ 0x03 ∷ []) (put 1024 (5 ∷ []) (put 1115 (content 165)
-          (put 1280 (0 ∷ part 165 35 (content 200) ++ replicate 220 0) shelf)))))
+    whole (put 3 (2 ∷ 0b111111 ∷ []) (put 114 (0x20 ∷ 0x03 ∷ []) (put 1024 (5 ∷ []) (put 1115 (content 165)
+    (put 1280 (0 ∷ part 165 35 (content 200) ++ replicate 220 0) shelf)))))
     -- into an empty file, which gets two pages: each zeroed before
     ∷ shown shelf (write (text "/E") 0 (content 300) gives done ∷ find (text "/E") gives found isFile 300 day3 ∷ [])
-        whole (put 3 (1 ∷ 0b1111111 ∷ []) (put 145 (5 ∷ 0x2C ∷ 0x01 ∷ [])
-          (put 1280 (6 ∷ content 255 ++ 0 ∷ part 255 45 (content 300) ++ replicate 210 0) shelf)))
+    whole (put 3 (1 ∷ 0b1111111 ∷ []) (put 145 (5 ∷ 0x2C ∷ 0x01 ∷ [])
+    (put 1280 (6 ∷ content 255 ++ 0 ∷ part 255 45 (content 300) ++ replicate 210 0) shelf)))
     -- the lowest free page comes first, wherever it stands: /B goes on from page 2 on pages 1 and 3
     ∷ shown two (remove (text "/A") gives done ∷ write (text "/B") 255 (content 300) gives done
-        ∷ reads (text "/B") 254 (replicate 3 9) 3 (0x42 ∷ 0 ∷ 1 ∷ [])
-        ∷ reads (text "/B") 509 (replicate 3 9) 3 (3 ∷ 4 ∷ 5 ∷ []) ∷ [])
-        whole (put 3 (4 ∷ 0b1111 ∷ []) (set (put 114 (0x2B ∷ 0x02 ∷ [])
-          (put 256 (3 ∷ content 255) (set (put 768 (0 ∷ part 255 45 (content 300) ++ replicate 210 0) two) 512 1))) 64 0))
+    ∷ reads (text "/B") 254 (replicate 3 9) 3 (0x42 ∷ 0 ∷ 1 ∷ [])
+    ∷ reads (text "/B") 509 (replicate 3 9) 3 (3 ∷ 4 ∷ 5 ∷ []) ∷ [])
+    whole (put 3 (4 ∷ 0b1111 ∷ []) (set (put 114 (0x2B ∷ 0x02 ∷ [])
+    (put 256 (3 ∷ content 255) (set (put 768 (0 ∷ part 255 45 (content 300) ++ replicate 210 0) two) 512 1))) 64 0))
     -- 16 pages, and two bitmap bytes
     ∷ shown (replicate 4096 0xE5) (
-        format gives done ∷ makeFile (text "/A") day1 gives done ∷ write (text "/A") 0 (content 2041) gives done ∷ verdict gives sized 16 6
-        ∷ reads (text "/A") 2039 (0 ∷ 0 ∷ 0 ∷ []) 2 (31 ∷ 32 ∷ 0 ∷ []) ∷ [])
-        (part 0 6) (0x5A ∷ 1 ∷ 2 ∷ 6 ∷ 0b11111111 ∷ 0b11 ∷ [])
+    format gives done ∷ makeFile (text "/A") day1 gives done ∷ write (text "/A") 0 (content 2041) gives done ∷ verdict gives sized 16 6
+    ∷ reads (text "/A") 2039 (0 ∷ 0 ∷ 0 ∷ []) 2 (31 ∷ 32 ∷ 0 ∷ []) ∷ [])
+    (part 0 6) (0x5A ∷ 1 ∷ 2 ∷ 6 ∷ 0b11111111 ∷ 0b11 ∷ [])
     ∷ shown far (verdict gives sized 16 14 ∷ write (text "/A") 255 (0xA0 ∷ []) gives done ∷ [])
-        whole (put 3 (13 ∷ 0b11 ∷ 0b10 ∷ []) (put 82 (0x00 ∷ 0x01 ∷ []) (set (put 256 (0 ∷ 0xA0 ∷ replicate 254 0) far) 2304 1)))
+    whole (put 3 (13 ∷ 0b11 ∷ 0b10 ∷ []) (put 82 (0x00 ∷ 0x01 ∷ []) (set (put 256 (0 ∷ 0xA0 ∷ replicate 254 0) far) 2304 1)))
     -- case 12, so far as the answers go
     ∷ answered (replicate 65536 0xE5) (
-        format gives done ∷ makeFile (text "/A") day1 gives done
-        ∷ write (text "/A") 0 (replicate 65026 1) gives refusal 10 ∷ write (text "/A") 0 (replicate 65025 1) gives done ∷ [])
+    format gives done ∷ makeFile (text "/A") day1 gives done
+    ∷ write (text "/A") 0 (replicate 65026 1) gives refusal 10 ∷ write (text "/A") 0 (replicate 65025 1) gives done ∷ [])
     ∷ []
 
 pub writes-hold : Hold writes
@@ -84,37 +84,37 @@ pub removes : List Case
 removes =
     -- refused
     shown desk (
-      remove (text "A") gives refusal 4
-      ∷ remove (text "/") gives refusal 14
-      ∷ remove (text "/x") gives refusalAt 5 1
-      ∷ remove (text "/A/x/7") gives refusalAt 5 3
-      ∷ remove (text "/0042/x") gives refusalAt 6 1
-      ∷ remove (text "/A/7/x") gives refusalAt 6 3
-      ∷ remove (text "/A") gives refusal 13
-      ∷ [])
-      whole desk
+    remove (text "A") gives refusal 4
+    ∷ remove (text "/") gives refusal 14
+    ∷ remove (text "/x") gives refusalAt 5 1
+    ∷ remove (text "/A/x/7") gives refusalAt 5 3
+    ∷ remove (text "/0042/x") gives refusalAt 6 1
+    ∷ remove (text "/A/7/x") gives refusalAt 6 3
+    ∷ remove (text "/A") gives refusal 13
+    ∷ [])
+    whole desk
     ∷ answered fresh (remove (text "/") gives refusal 14 ∷ [])
     -- the flags byte, the marks and the count change, and no other byte
     ∷ shown desk (remove (text "/0042") gives done ∷ find (text "/0042") gives refusalAt 5 1 ∷ verdict gives sized 8 5 ∷ [])
-        whole (put 3 (5 ∷ 0b00111 ∷ []) (set desk 64 0))
+    whole (put 3 (5 ∷ 0b00111 ∷ []) (set desk 64 0))
     ∷ shown desk (remove (text "/A/B") gives done ∷ [])
-        whole (put 3 (4 ∷ 0b11011 ∷ []) (set desk 288 0))
+    whole (put 3 (4 ∷ 0b11011 ∷ []) (set desk 288 0))
     ∷ shown desk (remove (text "/A/7") gives done ∷ remove (text "/A") gives refusal 13 ∷ [])
-        whole (set desk 256 0)
+    whole (set desk 256 0)
     ∷ shown desk (remove (text "/A/7") gives done ∷ remove (text "/A/B") gives done ∷ remove (text "/A") gives done ∷ [])
-        whole (put 3 (5 ∷ 0b11001 ∷ []) (set (set (set desk 256 0) 288 0) 96 0))
+    whole (put 3 (5 ∷ 0b11001 ∷ []) (set (set (set desk 256 0) 288 0) 96 0))
     ∷ shown far (remove (text "/A") gives done ∷ []) whole (put 3 (15 ∷ 0b1 ∷ 0b0 ∷ []) (set far 64 0))
     -- case 11
     ∷ answered fresh (
-        makeFile (text "/0042") day1 gives done
-        ∷ write (text "/0042") 0 (content 1785) gives done
-        ∷ verdict gives sized 8 0
-        ∷ remove (text "/0042") gives done
-        ∷ verdict gives sized 8 7
-        ∷ makeFile (text "/42") day1 gives done
-        ∷ write (text "/42") 0 (content 1785) gives done
-        ∷ verdict gives sized 8 0
-        ∷ [])
+    makeFile (text "/0042") day1 gives done
+    ∷ write (text "/0042") 0 (content 1785) gives done
+    ∷ verdict gives sized 8 0
+    ∷ remove (text "/0042") gives done
+    ∷ verdict gives sized 8 7
+    ∷ makeFile (text "/42") day1 gives done
+    ∷ write (text "/42") 0 (content 1785) gives done
+    ∷ verdict gives sized 8 0
+    ∷ [])
     ∷ []
 
 pub removes-hold : Hold removes
@@ -130,29 +130,29 @@ junk = put 64 (replicate 192 0x65) fresh
 pub made : List Case
 made =
     shown junk (makeFile (text "/0042") day3 gives done ∷ [])
-      whole (put 64 (stored 0x80 (text "0042" ++ replicate 12 0) 0 0x00 0x00 day3) junk)
+    whole (put 64 (stored 0x80 (text "0042" ++ replicate 12 0) 0 0x00 0x00 day3) junk)
     ∷ shown junk (makeDirectory (text "/A") day3 gives done ∷ [])
-        whole (put 3 (6 ∷ 0b11 ∷ []) (put 64 (stored 0x81 (text "A" ++ replicate 15 0) 1 0x00 0x01 day3) (put 256 (replicate 256 0) junk)))
+    whole (put 3 (6 ∷ 0b11 ∷ []) (put 64 (stored 0x81 (text "A" ++ replicate 15 0) 1 0x00 0x01 day3) (put 256 (replicate 256 0) junk)))
     -- below the root; page 5 held E5 bytes
     ∷ shown desk (makeDirectory (text "/A/0123456789ABCDEF") day3 gives done ∷ makeFile (text "/A/B/.") day2 gives done ∷ [])
-        whole (put 3 (2 ∷ 0b111111 ∷ []) (put 320 (stored 0x81 (text "0123456789ABCDEF") 5 0x00 0x01 day3)
-          (put 512 (stored 0x80 (text "." ++ replicate 15 0) 0 0x00 0x00 day2) (put 1280 (replicate 256 0) desk))))
+    whole (put 3 (2 ∷ 0b111111 ∷ []) (put 320 (stored 0x81 (text "0123456789ABCDEF") 5 0x00 0x01 day3)
+    (put 512 (stored 0x80 (text "." ++ replicate 15 0) 0 0x00 0x00 day2) (put 1280 (replicate 256 0) desk))))
     -- seven directories, each in the one before
     ∷ answered fresh (
-        makeDirectory (text "/1") day1 gives done
-        ∷ makeDirectory (text "/1/2") day1 gives done
-        ∷ makeDirectory (text "/1/2/3") day1 gives done
-        ∷ makeDirectory (text "/1/2/3/4") day1 gives done
-        ∷ makeDirectory (text "/1/2/3/4/5") day1 gives done
-        ∷ makeDirectory (text "/1/2/3/4/5/6") day1 gives done
-        ∷ makeDirectory (text "/1/2/3/4/5/6/7") day1 gives done
-        ∷ verdict gives sized 8 0
-        ∷ makeDirectory (text "/1/2/3/4/5/6/7/8") day1 gives refusal 10
-        ∷ makeFile (text "/1/2/3/4/5/6/7/8") day2 gives done
-        ∷ find (text "/1/2/3/4/5/6/7/8") gives found isFile 0 day2
-        ∷ find (text "/1/2/3/4/5/6/7/9") gives refusalAt 5 15
-        ∷ remove (text "/1/2/3/4/5/6/7") gives refusal 13
-        ∷ [])
+    makeDirectory (text "/1") day1 gives done
+    ∷ makeDirectory (text "/1/2") day1 gives done
+    ∷ makeDirectory (text "/1/2/3") day1 gives done
+    ∷ makeDirectory (text "/1/2/3/4") day1 gives done
+    ∷ makeDirectory (text "/1/2/3/4/5") day1 gives done
+    ∷ makeDirectory (text "/1/2/3/4/5/6") day1 gives done
+    ∷ makeDirectory (text "/1/2/3/4/5/6/7") day1 gives done
+    ∷ verdict gives sized 8 0
+    ∷ makeDirectory (text "/1/2/3/4/5/6/7/8") day1 gives refusal 10
+    ∷ makeFile (text "/1/2/3/4/5/6/7/8") day2 gives done
+    ∷ find (text "/1/2/3/4/5/6/7/8") gives found isFile 0 day2
+    ∷ find (text "/1/2/3/4/5/6/7/9") gives refusalAt 5 15
+    ∷ remove (text "/1/2/3/4/5/6/7") gives refusal 13
+    ∷ [])
     ∷ []
 
 pub made-hold : Hold made

@@ -81,8 +81,8 @@ desk = header 3 0b11111 ++ stored 0x80 (text "0042" ++ replicate 12 0) 3 0x00 0x
 -- the desk and four entries more: /C of 510 bytes on pages 6 and 7, /D and /E, empty, and /F on page 5, empty
 unfoldable pub full : Bytes
 full = put 3 (0 ∷ 0b11111111 ∷ []) (put 128 (
-      stored 0x80 (text "C" ++ replicate 15 0) 6 0xFE 0x01 day1 ++ stored 0x80 (text "D" ++ replicate 15 0) 0 0x00 0x00 day2
-      ++ stored 0x80 (text "E" ++ replicate 15 0) 0 0x00 0x00 day3 ++ stored 0x81 (text "F" ++ replicate 15 0) 5 0x00 0x01 day1)
+    stored 0x80 (text "C" ++ replicate 15 0) 6 0xFE 0x01 day1 ++ stored 0x80 (text "D" ++ replicate 15 0) 0 0x00 0x00 day2
+    ++ stored 0x80 (text "E" ++ replicate 15 0) 0 0x00 0x00 day3 ++ stored 0x81 (text "F" ++ replicate 15 0) 5 0x00 0x01 day1)
     (put 1280 (replicate 256 0 ++ 7 ∷ replicate 255 1 ++ 0 ∷ replicate 255 1) desk))
 
 -- /D on page 1, empty; /R of 600 bytes on pages 2, 3 and 4; /E, empty

@@ -28,12 +28,13 @@ deskTree : Tree
 deskTree = record {
   pages = 8;
   root =
-    file (text "0042" ++ replicate 12 0) day1 (content 256)
-    (dir (text "A" ++ replicate 15 0) day2
+      file (text "0042" ++ replicate 12 0) day1 (content 256)
+      (dir (text "A" ++ replicate 15 0) day2
       (file (text "7" ++ replicate 15 0) day3 []
       (dir (text "B" ++ replicate 15 0) day1 (free (free (free (free (free (free (free (free end))))))))
       (free (free (free (free (free (free end))))))))
-    (free (free (free (free end))))) }
+      (free (free (free (free end)))));
+}
 
 -- the calls that make the desk from a fresh image, among others that leave nothing behind
 deskSteps : List Step
@@ -74,17 +75,17 @@ trees-hold = hold trees refl
 pub listings : List Case
 listings =
     shown blank (
-      format gives done
-      ∷ newFile "/0042" gives done
-      ∷ write (text "/0042") 0 (replicate 256 0) gives done
-      ∷ newDirectory "/A" gives done
-      ∷ newFile "/A/7" gives done
-      ∷ [])
-      listing (text "pages 8 free 4\nF 256 /0042\nD 256 /A\nF 0 /A/7\n")
+    format gives done
+    ∷ newFile "/0042" gives done
+    ∷ write (text "/0042") 0 (replicate 256 0) gives done
+    ∷ newDirectory "/A" gives done
+    ∷ newFile "/A/7" gives done
+    ∷ [])
+    listing (text "pages 8 free 4\nF 256 /0042\nD 256 /A\nF 0 /A/7\n")
     ∷ shown fresh [] listing (text "pages 8 free 7\n")
     -- entries in order, a directory's contents directly after it; names may hold spaces
     ∷ shown desk (newFile "/A/B/ ~" gives done ∷ newFile "/a b" gives done ∷ remove (text "/0042") gives done ∷ newFile "/0123456789ABCDEF" gives done ∷ [])
-        listing (text "pages 8 free 5\nF 0 /0123456789ABCDEF\nD 256 /A\nF 0 /A/7\nD 256 /A/B\nF 0 /A/B/ ~\nF 0 /a b\n")
+    listing (text "pages 8 free 5\nF 0 /0123456789ABCDEF\nD 256 /A\nF 0 /A/7\nD 256 /A/B\nF 0 /A/B/ ~\nF 0 /a b\n")
     ∷ shown fresh (newFile "/A" gives done ∷ write (text "/A") 0 (replicate 1785 0) gives done ∷ []) listing (text "pages 8 free 0\nF 1785 /A\n")
     ∷ shown (replicate 65536 0) (format gives done ∷ []) listing (text "pages 256 free 255\n")
     -- refused

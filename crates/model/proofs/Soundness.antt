@@ -132,18 +132,18 @@ pub kept : List Case
 kept =
     clear loose 6 (1 ∷ [])
     ∷ shown loose (
-        find (text "/A") gives found isFile 255 (replicate 8 0xFF)
-        ∷ list (text "/") 0 gives entry isFile (text "A" ++ replicate 15 0) 255 (replicate 8 0xFF)
-        ∷ list (text "/") 1 gives granted empty
-        ∷ write (text "/A") 255 (0xA0 ∷ []) gives done
-        ∷ makeDirectory (text "/B") day1 gives done
-        ∷ [])
-        whole (put 3 (4 ∷ 0b1111 ∷ []) (put 82 (0x00 ∷ 0x01 ∷ []) (put 96 (stored 0x81 (text "B" ++ replicate 15 0) 3 0x00 0x01 day1)
-          (set (put 512 (0 ∷ 0xA0 ∷ replicate 510 0) loose) 256 2))))
+    find (text "/A") gives found isFile 255 (replicate 8 0xFF)
+    ∷ list (text "/") 0 gives entry isFile (text "A" ++ replicate 15 0) 255 (replicate 8 0xFF)
+    ∷ list (text "/") 1 gives granted empty
+    ∷ write (text "/A") 255 (0xA0 ∷ []) gives done
+    ∷ makeDirectory (text "/B") day1 gives done
+    ∷ [])
+    whole (put 3 (4 ∷ 0b1111 ∷ []) (put 82 (0x00 ∷ 0x01 ∷ []) (put 96 (stored 0x81 (text "B" ++ replicate 15 0) 3 0x00 0x01 day1)
+    (set (put 512 (0 ∷ 0xA0 ∷ replicate 510 0) loose) 256 2))))
     ∷ shown loose (remove (text "/A") gives done ∷ []) whole (put 3 (7 ∷ 0b1 ∷ []) (set loose 64 0))
     -- the flags' other bits on a directory
     ∷ shown (set box 64 0xFF) (verdict gives sized 8 6 ∷ find (text "/A") gives found isDirectory 256 day1 ∷ makeFile (text "/A/x") day1 gives done ∷ [])
-        (part 64 1) (0xFF ∷ [])
+    (part 64 1) (0xFF ∷ [])
     ∷ []
 
 -- the pages owned, and the entries that own each of pages 0 to 7, by position

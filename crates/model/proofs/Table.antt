@@ -42,58 +42,58 @@ table =
     shown blank (format gives done ∷ verdict gives sized 8 7 ∷ []) (part 0 5) (0x5A ∷ 0x01 ∷ 0x01 ∷ 0x07 ∷ 0x01 ∷ [])
     -- 2
     ∷ answered blank (
-        format gives done
-        ∷ newFile "/0042" gives done
-        ∷ newFile "/42" gives done
-        ∷ list (text "/") 0 gives granted (holds isFile (text "0042" ++ replicate 12 0) 0 date)
-        ∷ list (text "/") 1 gives granted (holds isFile (text "42" ++ replicate 14 0) 0 date)
-        ∷ verdict gives sized 8 7
-        ∷ find (text "/00042") gives refused (refusalAt 5 1)
-        ∷ [])
+    format gives done
+    ∷ newFile "/0042" gives done
+    ∷ newFile "/42" gives done
+    ∷ list (text "/") 0 gives granted (holds isFile (text "0042" ++ replicate 12 0) 0 date)
+    ∷ list (text "/") 1 gives granted (holds isFile (text "42" ++ replicate 14 0) 0 date)
+    ∷ verdict gives sized 8 7
+    ∷ find (text "/00042") gives refused (refusalAt 5 1)
+    ∷ [])
     -- 3
     ∷ shown blank (format gives done ∷ newFile "/0042" gives done ∷ writeAt "/0042" 0 255 gives done ∷ [])
-        fields (1 ∷ 0xFF ∷ 0x00 ∷ 0x03 ∷ 6 ∷ [])
+    fields (1 ∷ 0xFF ∷ 0x00 ∷ 0x03 ∷ 6 ∷ [])
     -- 4
     ∷ shown blank (format gives done ∷ newFile "/0042" gives done ∷ writeAt "/0042" 0 255 gives done ∷ writeAt "/0042" 255 1 gives done ∷ [])
-        (λ b. byteAt b 256 ∷ byteAt b 512 ∷ fields b) (2 ∷ 0 ∷ 1 ∷ 0x00 ∷ 0x01 ∷ 0x07 ∷ 5 ∷ [])
+    (λ b. byteAt b 256 ∷ byteAt b 512 ∷ fields b) (2 ∷ 0 ∷ 1 ∷ 0x00 ∷ 0x01 ∷ 0x07 ∷ 5 ∷ [])
     -- 5: by the rule, and by the free number
     ∷ shown blank (
-        format gives done
-        ∷ newFile "/A" gives done ∷ writeAt "/A" 0 512 gives done ∷ verdict gives sized 8 (7 - 3)
-        ∷ newFile "/B" gives done ∷ writeAt "/B" 0 0 gives done ∷ verdict gives sized 8 (7 - 3 - 0)
-        ∷ newFile "/C" gives done ∷ writeAt "/C" 0 255 gives done ∷ verdict gives sized 8 (7 - 3 - 0 - 1)
-        ∷ newFile "/D" gives done ∷ writeAt "/D" 0 256 gives done ∷ verdict gives sized 8 (7 - 3 - 0 - 1 - 2)
-        ∷ [])
-        (λ b. map pagesFor (512 ∷ 0 ∷ 255 ∷ 256 ∷ [])) (3 ∷ 0 ∷ 1 ∷ 2 ∷ [])
+    format gives done
+    ∷ newFile "/A" gives done ∷ writeAt "/A" 0 512 gives done ∷ verdict gives sized 8 (7 - 3)
+    ∷ newFile "/B" gives done ∷ writeAt "/B" 0 0 gives done ∷ verdict gives sized 8 (7 - 3 - 0)
+    ∷ newFile "/C" gives done ∷ writeAt "/C" 0 255 gives done ∷ verdict gives sized 8 (7 - 3 - 0 - 1)
+    ∷ newFile "/D" gives done ∷ writeAt "/D" 0 256 gives done ∷ verdict gives sized 8 (7 - 3 - 0 - 1 - 2)
+    ∷ [])
+    (λ b. map pagesFor (512 ∷ 0 ∷ 255 ∷ 256 ∷ [])) (3 ∷ 0 ∷ 1 ∷ 2 ∷ [])
     -- 6: in 65,536 zeros; before the image after the mark stand the bits of pages 153 to 155 in it
     ∷ shown (replicate 65536 0) []
-        (λ b. let marked = On.mark version1 154 b in map (pageBit marked) (153 ∷ 154 ∷ 155 ∷ []) ++ marked)
-        (0 ∷ 1 ∷ 0 ∷ replicate (4 + 19) 0 ++ 0b100 ∷ replicate (65536 - 4 - 20) 0)
+    (λ b. let marked = On.mark version1 154 b in map (pageBit marked) (153 ∷ 154 ∷ 155 ∷ []) ++ marked)
+    (0 ∷ 1 ∷ 0 ∷ replicate (4 + 19) 0 ++ 0b100 ∷ replicate (65536 - 4 - 20) 0)
     -- 7
     ∷ answered blank (
-        format gives done ∷ newFile "/0042" gives done ∷ writeAt "/0042" 0 1786 gives refused (refusal 10)
-        ∷ writeAt "/0042" 0 1785 gives done ∷ verdict gives sized 8 0 ∷ [])
+    format gives done ∷ newFile "/0042" gives done ∷ writeAt "/0042" 0 1786 gives refused (refusal 10)
+    ∷ writeAt "/0042" 0 1785 gives done ∷ verdict gives sized 8 0 ∷ [])
     -- 8
     ∷ answered blank (
-        format gives done
-        ∷ newDirectory "/A" gives done ∷ newDirectory "/B" gives done ∷ newDirectory "/C" gives done
-        ∷ newDirectory "/D" gives done ∷ newDirectory "/E" gives done ∷ newDirectory "/F" gives done
-        ∷ verdict gives sized 8 1 ∷ newDirectory "/G" gives refused (refusal 9) ∷ [])
+    format gives done
+    ∷ newDirectory "/A" gives done ∷ newDirectory "/B" gives done ∷ newDirectory "/C" gives done
+    ∷ newDirectory "/D" gives done ∷ newDirectory "/E" gives done ∷ newDirectory "/F" gives done
+    ∷ verdict gives sized 8 1 ∷ newDirectory "/G" gives refused (refusal 9) ∷ [])
     -- 9
     ∷ answered blank (
-        format gives done
-        ∷ newFile "/0123456789ABCDEF" gives done
-        ∷ newFile "/0123456789ABCDEFG" gives refused (refusal 4)
-        ∷ newFile "//A" gives refused (refusal 4)
-        ∷ newFile "/A/" gives refused (refusal 4)
-        ∷ [])
+    format gives done
+    ∷ newFile "/0123456789ABCDEF" gives done
+    ∷ newFile "/0123456789ABCDEFG" gives refused (refusal 4)
+    ∷ newFile "//A" gives refused (refusal 4)
+    ∷ newFile "/A/" gives refused (refusal 4)
+    ∷ [])
     -- 10
     ∷ answered blank (
-        format gives done ∷ newFile "/0042" gives done ∷ writeAt "/0042" 0 255 gives done
-        ∷ writeAt "/0042" 256 1 gives refused (refusal 12)
-        ∷ writeAt "/0042" 255 1 gives done
-        ∷ find (text "/0042") gives granted (record { kind = isFile; size = 256; date = date })
-        ∷ [])
+    format gives done ∷ newFile "/0042" gives done ∷ writeAt "/0042" 0 255 gives done
+    ∷ writeAt "/0042" 256 1 gives refused (refusal 12)
+    ∷ writeAt "/0042" 255 1 gives done
+    ∷ find (text "/0042") gives granted (record { kind = isFile; size = 256; date = date })
+    ∷ [])
     ∷ []
 
 pub cases : Hold table

@@ -22,9 +22,9 @@ unfoldable pub goodDate : Bytes → Bool
 goodDate d = conditions (
     eqb (length d) 8
     ∷ all isBcd d
-    ∷ between 1 12 (bcd (byteAt d 2))    -- month
-    ∷ between 1 31 (bcd (byteAt d 3))    -- day
-    ∷ between 0 23 (bcd (byteAt d 5))    -- hour
-    ∷ between 0 59 (bcd (byteAt d 6))    -- minute
-    ∷ between 0 59 (bcd (byteAt d 7))    -- second
+    ∷ between 1 12 (bcd (byteAt d 2))  -- month
+    ∷ between 1 31 (bcd (byteAt d 3))  -- day
+    ∷ between 0 23 (bcd (byteAt d 5))  -- hour
+    ∷ between 0 59 (bcd (byteAt d 6))  -- minute
+    ∷ between 0 59 (bcd (byteAt d 7))  -- second
     ∷ [])

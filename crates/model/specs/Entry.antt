@@ -55,7 +55,7 @@ unfoldable pub entryAt : Bytes → ℕ → Entry
 entryAt b at =
     if occupied b at
     then (if isDirectory b at then aDirectory (nameAt b at) (dateAt b at) (startAt b at) (sizeAt b at)
-          else aFile (nameAt b at) (dateAt b at) (startAt b at) (sizeAt b at))
+    else aFile (nameAt b at) (dateAt b at) (startAt b at) (sizeAt b at))
     else vacant
 
 -- the 32 bytes that a make writes; the last four are reserved

@@ -75,7 +75,7 @@ unfoldable pub judgeRest : Bytes → List ℕ → Judged
 judgeRest b marks =
     let counted = eqb (pageBit b 0) 1 && eqb (freeCount b) (zeroBits b (pageCount b)) in
     lostOr (if counted then clean marks else fault badCount)
-      (first (λ p. eqb (getD marks p 0) 0 && eqb (pageBit b p) 1) (countFrom 1 (pageCount b - 1)))
+    (first (λ p. eqb (getD marks p 0) 0 && eqb (pageBit b p) 1) (countFrom 1 (pageCount b - 1)))
 
 unfoldable pub judge : Bytes → Judged
 judge b = thenJudge (judgeDirectory (pageCount b) b 0 (replicate (pageCount b) 0)) (judgeRest b)

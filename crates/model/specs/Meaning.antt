@@ -123,9 +123,9 @@ unfoldable pub lines : Call → Bytes → List Line
 lines c b =
     (not (validLength (length b)), refusal 1)
     ∷ (if isFormat c then [] else (
-      (not (validHeader b), refusal 2)
-      ∷ (not (sound b), refusal 3)
-      ∷ (refusals c (treeOf b) ++ brokenLine c b)))
+    (not (validHeader b), refusal 2)
+    ∷ (not (sound b), refusal 3)
+    ∷ (refusals c (treeOf b) ++ brokenLine c b)))
 
 -- the bytes after a granted call
 unfoldable pub effect : Call → Bytes → Bytes

@@ -108,9 +108,9 @@ makeLines path date t =
     pathLine path
     ∷ (not (goodDate date), refusal 11)
     ∷ walkLines (walkedParent path t) ++ (
-      (isRoot (pathOf path) || isThere (lookup (lastName (pathOf path)) (parentRow path t)), refusal 8)
-      ∷ (eqb (held (parentRow path t)) (width (parentRow path t)), refusal 9)
-      ∷ [])
+    (isRoot (pathOf path) || isThere (lookup (lastName (pathOf path)) (parentRow path t)), refusal 8)
+    ∷ (eqb (held (parentRow path t)) (width (parentRow path t)), refusal 9)
+    ∷ [])
 
 -- the lines above number 10; 12 of list: the entry number is past the directory's last; 14: remove: the path is `/`
 unfoldable pub earlier : Call → Tree → List Line

@@ -90,15 +90,15 @@ soundTo depth b =
     let n = pageCount b in
     let pages = owned depth b 0 in
     conditions (
-      validLength (length b)
-      ∷ validHeader b
-      ∷ eqb (pageBit b 0) 1
-      ∷ eqb (freeCount b) (zeroBits b n)
-      ∷ goodDirectory depth b 0
-      ∷ all (inRange n) pages
-      ∷ distinct pages
-      ∷ all (λ p. Bool·beq (eqb (pageBit b p) 1) (member p pages)) (countFrom 1 (n - 1))
-      ∷ [])
+    validLength (length b)
+    ∷ validHeader b
+    ∷ eqb (pageBit b 0) 1
+    ∷ eqb (freeCount b) (zeroBits b n)
+    ∷ goodDirectory depth b 0
+    ∷ all (inRange n) pages
+    ∷ distinct pages
+    ∷ all (λ p. Bool·beq (eqb (pageBit b p) 1) (member p pages)) (countFrom 1 (n - 1))
+    ∷ [])
 
 -- Directories that own a page each are nested less deep than there are pages, so N is deep enough: law `depth-enough`.
 unfoldable pub sound : Bytes → Bool

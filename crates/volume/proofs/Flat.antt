@@ -93,5 +93,6 @@ pub flatMap-length-le : (f : ℕ → List ℕ) (xs : List ℕ) (x : ℕ) → 1 �
 unfolding flatMap
 flatMap-length-le f [] x m = absurd (omega arith)
 flatMap-length-le f (y ∷ ys) x m = elim (mem-cons x y ys m) [
-    inl e ↦ omega (arith, length-append (f y) (flatMap f ys), ap (λ (z : ℕ). length (f z)) e)
-  | inr k ↦ omega (arith, length-append (f y) (flatMap f ys), flatMap-length-le f ys x k) ]
+  | inl e ↦ omega (arith, length-append (f y) (flatMap f ys), ap (λ (z : ℕ). length (f z)) e)
+  | inr k ↦ omega (arith, length-append (f y) (flatMap f ys), flatMap-length-le f ys x k)
+]
