@@ -14,7 +14,7 @@ use bitmap::Free;
 use fields::Page;
 use fields::Position;
 
-// The page with an index in the chain, from 0.
+// The page with an index in the chain, counted from 0.
 pub fn page_at(image: &[u8], start: Page, index: usize) -> Page
     requires { ⌜ Inside (now image) index (start .0) ⌝ }
     ensures { λ r. ⌜ r .0 ≡ beyond (link (now (image .entry))) index (start .0) ⌝ }
@@ -45,7 +45,8 @@ fn behind_page(place: usize) -> usize
     place - 255
 }
 
-// Copies what one page has of the bytes wanted from a place of its content on, where `done` are copied, and answers how many are then.
+// Of the bytes wanted `done` are in the buffer. Copies those that this page has from a place of its content on, and answers how many are there then.
+// A place behind the page, and a buffer that has them all, make it none.
 fn read_page(
     image: &[u8],
     page: Page,
@@ -90,7 +91,7 @@ pub fn read_chain(
     }
 }
 
-// Puts what one page takes of the bytes, of which `done` are written, at a place of its content, and answers how many are written then.
+// Of the bytes `done` are written. Puts those that this page takes at a place of its content, behind its link, and answers how many are written then.
 fn write_page(image: &mut [u8], page: Page, place: usize, bytes: &[u8], done: usize) -> usize
     requires { ⌜ (page .0 < pageCount (now image)) × (done ≤ length (now bytes)) ⌝ }
     ensures { λ r. ⌜ r ≡ done + min (room - place) (length (now (bytes .entry)) - done) ⌝ }
@@ -104,7 +105,7 @@ fn write_page(image: &mut [u8], page: Page, place: usize, bytes: &[u8], done: us
     end
 }
 
-// Puts bytes over the content of k pages, from the position on.
+// Puts bytes over the content of k pages, from the position on. No link is content, so the chain stays as it is.
 pub fn write_chain(image: &mut [u8], start: Page, k: usize, position: Position, bytes: &[u8])
     requires { ⌜ Inside (now image) k (start .0) ⌝ }
     ensures { λ _. ⌜ now (image .exit) ≡ spread (On.content version1) room (chain (link (now (image .entry))) k (start .0)) (position .0) (now (bytes .entry)) (now (image .entry)) ⌝ }
@@ -125,7 +126,7 @@ fn append(image: &mut [u8], n: usize, joint: usize) -> Page
     ensures { λ r. ⌜ (r .0 ≡ On.lowestFree version1 n (now (image .entry))) × (now (image .exit) ≡ On.grown version1 n 1 (byte joint) (now (image .entry))) ⌝ }
 {
     let Free::At(page) = bitmap::lowest_free(image, n) else {
-        // Not so: a page is free.
+        // Never: a page is free, says the contract.
         return Page(0);
     };
     pages::take_page(image, page);

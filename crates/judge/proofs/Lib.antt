@@ -1,0 +1,5 @@
+pub mod Marks
+pub mod Names
+pub mod Walk
+pub mod Rest
+pub mod Image

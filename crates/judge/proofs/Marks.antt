@@ -1,0 +1,111 @@
+-- A page that gets an owner had none, so one page fewer has none; a chain is owned page by page.
+use mathlib.Core.Path.{_≡_, refl, sym, ap, _∙_}
+use Prim.Native.Nat.{ℕ, zero, suc, _+_, _-_, _≤_, _<_}
+use native.Mathlib.Nat.{le-refl, sub-zero}
+use native.Mathlib.Numerals.{add-one}
+use native.Mathlib.Omega.{arith}
+use mathlib.Core.Bool.{Bool, true, false, not, _&&_}
+use mathlib.Core.List.{List, [], _∷_}
+use lib.ListN.{length, getD, set}
+use lib.Dec.{eqb, leb, ltb}
+use borrow.Author.Tests.{not-true, not-false, eq-eqb, eqb-true, ltb-true, leb-true}
+use Rattle.volume.specs.Bytes.{Bytes, if_then_else_}
+use Rattle.model.specs.Layout.{pageCount, pageBit, link}
+use Rattle.model.specs.Judge as Model
+use Rattle.model.specs.Judge.{Judged, fault, clean, thenJudge, judgePage, judgeChain, badChain, markedFree, ownedTwice}
+use Rattle.judge.specs.declared.Check.{Check}
+use Rattle.judge.specs.declared.Check.the-variants.{Clean, Faulty}
+use Rattle.judge.specs.declared.Fault.{Fault}
+use Rattle.judge.specs.Answers.{faultOf, outcome}
+use Rattle.judge.specs.Walk.{zeros, unowned}
+
+-- ---- answers that were taken apart
+
+pub clean-of : {r : Check} {m : List ℕ} {j : Judged} → outcome r m ≡ j → r ≡ Clean → clean m ≡ j
+clean-of {r} {m} e c = sym (ap (λ (s : Check). outcome s m) c) ∙ e
+
+pub fault-of : {r : Check} {j : Judged} {x : Fault} (m : List ℕ) → outcome r m ≡ j → r ≡ Faulty x → fault (faultOf x) ≡ j
+fault-of m e c = sym (ap (λ (s : Check). outcome s m) c) ∙ e
+
+-- a test, which is s, by an answer that was tested
+pub told : {r s : Bool} → r ≡ s → not r ≡ false → s ≡ true
+told {r} e h = sym e ∙ not-false r h
+
+pub untold : {r s : Bool} → r ≡ s → not r ≡ true → s ≡ false
+untold {r} e h = sym e ∙ not-true r h
+
+-- ---- how many pages have no owner
+
+zeros-set : (m : List ℕ) (p : ℕ) → p < length m → getD m p 0 ≡ 0 → zeros m ≡ suc (zeros (set m p 1))
+unfolding zeros
+zeros-set [] p l h = absurd (omega arith)
+zeros-set (x ∷ m) zero l h = simp (eq-eqb x 0 h)
+zeros-set (x ∷ m) (suc p) l h = go (eqb x 0) (zeros-set m p (omega arith) h)
+  where
+    go : (c : Bool) → zeros m ≡ suc (zeros (set m p 1)) → (if c then suc (zeros m) else zeros m) ≡ suc (if c then suc (zeros (set m p 1)) else zeros (set m p 1))
+    go true e = ap suc e
+    go false e = e
+
+unowned-set : (m : List ℕ) (p : ℕ) → 1 ≤ p → p < length m → getD m p 0 ≡ 0 → unowned m ≡ suc (unowned (set m p 1))
+unfolding unowned
+unowned-set [] p k l h = absurd (omega arith)
+unowned-set (x ∷ m) zero k l h = absurd (omega arith)
+unowned-set (x ∷ m) (suc p) k l h = zeros-set m p (omega arith) h
+
+zeros-le : (m : List ℕ) (p : ℕ) → zeros (set m p 1) ≤ zeros m
+unfolding zeros
+zeros-le [] p = le-refl _
+zeros-le (x ∷ m) zero = go (eqb x 0)
+  where
+    go : (c : Bool) → zeros m ≤ (if c then suc (zeros m) else zeros m)
+    go true = omega arith
+    go false = le-refl _
+zeros-le (x ∷ m) (suc p) = go (eqb x 0) (zeros-le m p)
+  where
+    go : (c : Bool) → zeros (set m p 1) ≤ zeros m → (if c then suc (zeros (set m p 1)) else zeros (set m p 1)) ≤ (if c then suc (zeros m) else zeros m)
+    go true h = omega arith
+    go false h = h
+
+-- an owner is not given back
+pub unowned-le : (m : List ℕ) (p : ℕ) → unowned (set m p 1) ≤ unowned m
+unfolding unowned
+unowned-le [] p = le-refl _
+unowned-le (x ∷ m) zero = le-refl _
+unowned-le (x ∷ m) (suc p) = zeros-le m p
+
+-- ---- one page
+
+pub record Made (m : List ℕ) (p : ℕ) (m′ : List ℕ) : Type 0 where
+  pub here : p < length m
+  pub fewer : unowned m ≡ suc (unowned m′)
+
+pub page-made : (b : Bytes) (range : Model.Fault) (p : ℕ) (m m′ : List ℕ) → length m ≡ pageCount b → clean m′ ≡ judgePage b range p m → Made m p m′
+unfolding judgePage
+page-made b range p m m′ each e = go (leb 1 p) (ltb p (pageCount b)) (eqb (getD m p 0) 0) (eqb (pageBit b p) 1) refl refl refl e
+  where
+    go : (low high free marked : Bool) → leb 1 p ≡ low → ltb p (pageCount b) ≡ high → eqb (getD m p 0) 0 ≡ free
+        → clean m′ ≡ (if low && high then (if free then (if marked then clean (set m p 1) else fault (markedFree p)) else fault (ownedTwice p)) else fault range)
+        → Made m p m′
+    go true true true true l h f e′ =
+        let k : p < length m = omega (arith, ltb-true p (pageCount b) h) in
+        let same : m′ ≡ set m p 1 = cc in
+        record { here = k; fewer = unowned-set m p (leb-true 1 p l) k (eqb-true (getD m p 0) 0 f) ∙ ap (λ (s : List ℕ). suc (unowned s)) (sym same) }
+    go true true true false l h f e′ = let z : _≡_ {A = ℕ} 0 1 = cc in absurd (omega arith)
+    go true true false marked l h f e′ = let z : _≡_ {A = ℕ} 0 1 = cc in absurd (omega arith)
+    go true false free marked l h f e′ = let z : _≡_ {A = ℕ} 0 1 = cc in absurd (omega arith)
+    go false high free marked l h f e′ = let z : _≡_ {A = ℕ} 0 1 = cc in absurd (omega arith)
+
+-- ---- a chain, of which some pages have passed
+
+pub chain-first : (b : Bytes) (d i k p : ℕ) (m : List ℕ) → judgeChain b d i k 0 p m ≡ judgeChain b d i (k - 0) 0 p m
+chain-first b d i k p m = rw (sub-zero k)
+
+module _ (b : Bytes) (d i k passed p : ℕ) (m : List ℕ) where
+  pub chain-next : passed < k → judgeChain b d i (k - passed) passed p m
+      ≡ thenJudge (judgePage b (badChain d i passed) p m) (judgeChain b d i (k - (passed + 1)) (passed + 1) (link b p))
+  unfolding judgeChain
+  chain-next h = let e : k - passed ≡ suc (k - (passed + 1)) = omega arith in rw (e, ← add-one passed)
+
+  pub chain-end : k ≤ passed → judgeChain b d i (k - passed) passed p m ≡ (if eqb p 0 then clean m else fault (badChain d i passed))
+  unfolding judgeChain
+  chain-end h = let e : k - passed ≡ 0 = omega arith in rw e

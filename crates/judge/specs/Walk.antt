@@ -1,0 +1,38 @@
+-- What the judges' contracts name besides the model's definitions: the owner marks that are lent, and the entries before one.
+use mathlib.Core.Path.{_≡_}
+use Prim.Native.Nat.{ℕ, zero, suc, _+_, _*_, _≤_}
+use mathlib.Core.Bool.{Bool, _&&_}
+use mathlib.Core.List.{List, [], _∷_}
+use lib.ListN.{length, getD}
+use lib.Dec.{eqb}
+use Rattle.volume.specs.Bytes.{Bytes, if_then_else_}
+use Rattle.model.specs.Layout.{pageCount, pageBit}
+use Rattle.model.specs.Entry.{entriesStart}
+
+-- a mark for each page of the image; page numbers are bytes, so there are at most 256
+pub record Marked (b : Bytes) (marks : List ℕ) : Type 0 where
+  pub each : length marks ≡ pageCount b
+  pub low : 1 ≤ length marks
+  pub high : length marks ≤ 256
+
+unfoldable pub zeros : List ℕ → ℕ
+zeros [] = 0
+zeros (mark ∷ marks) = let rest = zeros marks in if eqb mark 0 then suc rest else rest
+
+-- How many pages have no owner yet. Page 0 is the header and never gets one, so it does not count.
+unfoldable pub unowned : List ℕ → ℕ
+unowned [] = 0
+unowned (header ∷ marks) = zeros marks
+
+-- the position of entry i of the directory on page p
+abbrev pub position : (page i : ℕ) → ℕ
+position p i = entriesStart p + 32 * i
+
+-- the positions of the entries before entry i, the last one first
+unfoldable pub earlier : (page i : ℕ) → List ℕ
+earlier p zero = []
+earlier p (suc i) = position p i ∷ earlier p i
+
+-- page p is marked in the bitmap and has no owner
+abbrev pub isLost : Bytes → List ℕ → ℕ → Bool
+isLost b marks p = eqb (getD marks p 0) 0 && eqb (pageBit b p) 1
