@@ -1,19 +1,18 @@
 -- A path's names are its texts, each up to the next slash, padded with zeros, and a legal text is one to sixteen bytes of which none is zero:
 -- so each name is legal and has 16 bytes.
-use mathlib.Core.Path.{_≡_, refl, ap, _∙_, subst}
-use mathlib.Core.Logic.{_⊎_, inl, inr}
-use Prim.Native.Nat.{ℕ, zero, suc, _+_, _-_, _≤_, _<_}
+use mathlib.Core.Path.{_≡_, _∙_, subst}
+use Prim.Native.Nat.{ℕ, zero, suc, _+_, _-_, _≤_}
 use native.Mathlib.Omega.{arith}
 use mathlib.Core.Bool.{Bool, true, false, _&&_}
 use mathlib.Core.List.{List, [], _∷_, _++_, dropLast}
-use lib.ListN.{length, take, drop, replicate, length-append, length-replicate}
+use lib.ListN.{length, replicate, length-append, length-replicate}
 use lib.Dec.{T, eqb, leb, eqb→eq, leb→le}
 use Rattle.volume.specs.Bytes.{Bytes, if_then_else_}
 use Rattle.volume.specs.Lists.{all, lastOr}
 use Rattle.volume.proofs.Tests.{and-both, both-and, conditions-cons}
 use Rattle.model.specs.Name.{legalByte, legalRest, legalName, legalText, padded}
 use Rattle.model.specs.Date.{goodDate}
-use Rattle.model.specs.Path.{Name, Path, noPath, root, below, before, texts, namesFrom, pathTo, pathOf}
+use Rattle.model.specs.Path.{Name, Path, noPath, root, below, texts, namesFrom, pathTo, pathOf}
 
 -- ---- texts as names
 
@@ -113,44 +112,6 @@ parents-legal bytes ns n e = subst LegalPath e (path-legal bytes) .0
 
 pub last-legal : (bytes : Bytes) (ns : List Name) (n : Name) → pathOf bytes ≡ below ns n → T (legalName (n .bytes)) × (length (n .bytes) ≡ 16)
 last-legal bytes ns n e = subst LegalPath e (path-legal bytes) .1
-
--- ---- a path by the length of its next text
-
--- the number of bytes before the first slash
-unfoldable pub textLength : Bytes → ℕ
-textLength [] = 0
-textLength (c ∷ r) = if eqb c 0x2F then 0 else suc (textLength r)
-
-slash-or-not : (c : ℕ) (r : Bytes)
-    → ((textLength (c ∷ r) ≡ 0) × (texts (c ∷ r) ≡ [] ∷ texts r)) ⊎ ((textLength (c ∷ r) ≡ suc (textLength r)) × (texts (c ∷ r) ≡ before c (texts r)))
-unfolding textLength texts
-slash-or-not c r = go (eqb c 0x2F) (suc (textLength r)) ([] ∷ texts r) (before c (texts r))
-  where
-    go : (z : Bool) (n : ℕ) (x y : List Bytes)
-        → (((if z then 0 else n) ≡ 0) × ((if z then x else y) ≡ x)) ⊎ (((if z then 0 else n) ≡ n) × ((if z then x else y) ≡ y))
-    go true n x y = inl (refl, refl)
-    go false n x y = inr (refl, refl)
-
-pub text-within : (r : Bytes) → textLength r ≤ length r
-unfolding textLength
-text-within [] = omega arith
-text-within (c ∷ r) = elim (slash-or-not c r) [ inl h ↦ omega (arith, h .0) | inr h ↦ omega (arith, h .0, text-within r) ]
-
-pub texts-last : (r : Bytes) → textLength r ≡ length r → texts r ≡ take (textLength r) r ∷ []
-unfolding textLength texts before
-texts-last [] e = refl
-texts-last (c ∷ r) e = elim (slash-or-not c r) [
-  | inl h ↦ absurd (omega (arith, h .0))
-  | inr h ↦ rw (h .0, h .1) (ap (before c) (texts-last r (omega (arith, h .0))))
-]
-
-pub texts-next : (r : Bytes) → textLength r < length r → texts r ≡ take (textLength r) r ∷ texts (drop (suc (textLength r)) r)
-unfolding before
-texts-next [] l = absurd (omega arith)
-texts-next (c ∷ r) l = elim (slash-or-not c r) [
-  | inl h ↦ rw (h .0, h .1)
-  | inr h ↦ rw (h .0, h .1) (ap (before c) (texts-next r (omega (arith, h .0))))
-]
 
 -- ---- dates
 

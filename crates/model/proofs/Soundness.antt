@@ -78,6 +78,7 @@ facts =
     -- equal names in one directory, told at the later entry; in two directories they are apart
     ∷ unsound (set two 97 0x41) (badEntry 0 1)
     ∷ unsound (set desk 289 0x37) (badEntry 1 1)
+    ∷ unsound (put 96 (stored 0x80 (text "A" ++ replicate 15 0) 0 0x00 0x00 day1) box) (badEntry 0 1)
     ∷ clear (set desk 257 0x41) 3 (2 ∷ 1 ∷ 4 ∷ 3 ∷ [])
     -- a directory's size
     ∷ unsound (set box 82 0x01) (badEntry 0 0)

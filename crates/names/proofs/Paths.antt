@@ -13,7 +13,8 @@ use Rattle.volume.specs.Bytes.{Bytes, if_then_else_}
 use Rattle.volume.specs.Lists.{all}
 use Rattle.model.specs.Name.{legalText}
 use Rattle.model.specs.Path.{Name, noPath, texts, namesFrom, pathTo, pathOf, isNoPath}
-use Rattle.laws.proofs.Names.{textLength, texts-next, texts-last}
+use Rattle.names.specs.Texts.{textLength}
+use Rattle.names.proofs.Texts.{texts-next, texts-last}
 
 -- the text that begins at `begin` ends at `e`
 module _ (path : Bytes) (begin e : ℕ) (is : e ≡ begin + textLength (drop begin path)) where

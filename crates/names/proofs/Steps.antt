@@ -12,7 +12,7 @@ use borrow.Author.Tests.{eq-eqb, ne-eqb, eqb-true, eqb-false}
 use Rattle.volume.specs.Bytes.{Bytes, same}
 use Rattle.volume.specs.Lists.{all}
 use Rattle.model.specs.Name.{legalByte, legalRest}
-use Rattle.laws.proofs.Names.{textLength}
+use Rattle.names.specs.Texts.{textLength}
 
 module _ (l : Bytes) (k : ℕ) (h : k < length l) where
   pub byte-next : drop k l ≡ getD l k 0 ∷ drop (k + 1) l

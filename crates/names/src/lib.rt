@@ -10,7 +10,7 @@ ghost use Rattle.volume.specs.Lists.{all};
 ghost use Rattle.model.specs.Entry.{nameAt};
 ghost use Rattle.model.specs.Name.{legalByte, legalRest, legalName, legalText, padded};
 ghost use Rattle.model.specs.Path.{texts, pathOf, isNoPath};
-ghost use Rattle.laws.proofs.Names.{textLength};
+ghost use Rattle.names.specs.Texts.{textLength};
 
 pub fn legal_byte(c: u8) -> bool
     ensures { λ r. ⌜ r ≡ legalByte c ⌝ }
