@@ -7,26 +7,11 @@ use lib.ListN.{length, set}
 use Rattle.volume.specs.Bytes.{Bytes}
 use Rattle.volume.specs.Field.{byte}
 use Rattle.volume.specs.Geometry as On
-use Rattle.volume.proofs.Lawful.{Lawful}
 use Rattle.volume.proofs.Marks.{lowest-free}
 use Rattle.volume.proofs.Grow.{room-next}
 use Rattle.model.specs.Layout.{version1, pageCount}
-use Rattle.chains.specs.Asked.{home, Growing}
-
--- Version 1 is a lawful geometry.
-pub version1-lawful : (N : ℕ) → 1 ≤ N → N ≤ 256 → Lawful version1 home N
-version1-lawful N low high = record {
-  header = omega arith;
-  room = omega arith;
-  of-page = λ p i h k l. omega arith;
-  of-link = λ p i h k l. omega arith;
-  of-count = λ i k l. omega arith;
-  of-map = λ p h. omega arith;
-  order = omega arith;
-  apart = λ p i h u k l. omega arith;
-  links-in = λ p h. omega arith;
-  map-in = omega arith;
-}
+use Rattle.model.proofs.Version1.{home, version1-lawful}
+use Rattle.chains.specs.Asked.{Growing}
 
 -- ---- one page
 

@@ -1,14 +1,13 @@
 -- The walk begins with a mark of 0 for each page of an image of an allowed length, so fuel for all its pages but the header is enough.
-use mathlib.Core.Path.{_≡_, refl, sym, ap, _∙_}
+use mathlib.Core.Path.{_≡_, refl, sym, ap, subst, _∙_}
 use Prim.Native.Nat.{ℕ, zero, suc, _%_, _≤_}
 use native.Mathlib.Omega.{arith}
-use mathlib.Core.Bool.{Bool, true, false, _&&_}
-use mathlib.Core.List.{List, _∷_}
+use mathlib.Core.Bool.{true}
+use mathlib.Core.List.{List, [], _∷_}
 use lib.ListN.{length, take, replicate, length-replicate}
-use lib.Dec.{eqb, leb}
-use borrow.Author.Tests.{leb-true}
+use lib.Dec.{T, eqb, leb, leb→le}
 use Rattle.volume.specs.Bytes.{Bytes}
-use Rattle.volume.specs.Lists.{all}
+use Rattle.volume.proofs.Tests.{conditions-cons}
 use Rattle.model.specs.Layout.{pageCount, validLength}
 use Rattle.model.specs.Judge.{Judged, thenJudge, judgeDirectory, judgeRest, judge}
 use Rattle.judge.specs.Walk.{Marked, zeros, unowned}
@@ -16,14 +15,12 @@ use Rattle.judge.specs.Walk.{Marked, zeros, unowned}
 -- ---- the length
 
 pub allowed : (n : ℕ) → validLength n ≡ true → (2048 ≤ n) × (n ≤ 65536)
-unfolding validLength all
-allowed n e = go (eqb (n % 2048) 0) (leb 2048 n) (leb n 65536) refl refl e
-  where
-    go : (x y z : Bool) → leb 2048 n ≡ y → leb n 65536 ≡ z → (x && (y && (z && true))) ≡ true → (2048 ≤ n) × (n ≤ 65536)
-    go true true true l h k = (leb-true 2048 n l, leb-true n 65536 h)
-    go true true false l h k = let w : _≡_ {A = ℕ} 0 1 = cc in absurd (omega arith)
-    go true false z l h k = let w : _≡_ {A = ℕ} 0 1 = cc in absurd (omega arith)
-    go false y z l h k = let w : _≡_ {A = ℕ} 0 1 = cc in absurd (omega arith)
+unfolding validLength
+allowed n e =
+    let x = conditions-cons (eqb (n % 2048) 0) (leb 2048 n ∷ leb n 65536 ∷ []) (subst T (sym e) tt) in
+    let y = conditions-cons (leb 2048 n) (leb n 65536 ∷ []) (x .1) in
+    let z = conditions-cons (leb n 65536) [] (y .1) in
+    (leb→le 2048 n (y .0), leb→le n 65536 (z .0))
 
 -- ---- the marks at the beginning
 
@@ -49,7 +46,7 @@ module _ (b : Bytes) (n : ℕ) (pages : n ≡ pageCount b) (valid : validLength 
 zeros-all : (n : ℕ) → zeros (replicate n 0) ≡ n
 unfolding zeros
 zeros-all zero = refl
-zeros-all (suc n) = ap suc (zeros-all n)
+zeros-all (suc n) = omega (arith, zeros-all n)
 
 unowned-all : (n : ℕ) → unowned (replicate (suc n) 0) ≡ n
 unfolding unowned

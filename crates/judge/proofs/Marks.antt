@@ -8,7 +8,7 @@ use mathlib.Core.Bool.{Bool, true, false, not, _&&_}
 use mathlib.Core.List.{List, [], _∷_}
 use lib.ListN.{length, getD, set}
 use lib.Dec.{eqb, leb, ltb}
-use borrow.Author.Tests.{not-true, not-false, eq-eqb, eqb-true, ltb-true, leb-true}
+use borrow.Author.Tests.{not-true, not-false, eqb-true, ltb-true, leb-true}
 use Rattle.volume.specs.Bytes.{Bytes, if_then_else_}
 use Rattle.model.specs.Layout.{pageCount, pageBit, link}
 use Rattle.model.specs.Judge as Model
@@ -27,6 +27,9 @@ clean-of {r} {m} e c = sym (ap (λ (s : Check). outcome s m) c) ∙ e
 pub fault-of : {r : Check} {j : Judged} {x : Fault} (m : List ℕ) → outcome r m ≡ j → r ≡ Faulty x → fault (faultOf x) ≡ j
 fault-of m e c = sym (ap (λ (s : Check). outcome s m) c) ∙ e
 
+pub never : {A : Type 0} {m : List ℕ} {f : Model.Fault} → clean m ≡ fault f → A
+never e = let z : _≡_ {A = ℕ} 0 1 = cc in absurd (omega arith)
+
 -- a test, which is s, by an answer that was tested
 pub told : {r s : Bool} → r ≡ s → not r ≡ false → s ≡ true
 told {r} e h = sym e ∙ not-false r h
@@ -39,12 +42,8 @@ untold {r} e h = sym e ∙ not-true r h
 zeros-set : (m : List ℕ) (p : ℕ) → p < length m → getD m p 0 ≡ 0 → zeros m ≡ suc (zeros (set m p 1))
 unfolding zeros
 zeros-set [] p l h = absurd (omega arith)
-zeros-set (x ∷ m) zero l h = simp (eq-eqb x 0 h)
-zeros-set (x ∷ m) (suc p) l h = go (eqb x 0) (zeros-set m p (omega arith) h)
-  where
-    go : (c : Bool) → zeros m ≡ suc (zeros (set m p 1)) → (if c then suc (zeros m) else zeros m) ≡ suc (if c then suc (zeros (set m p 1)) else zeros (set m p 1))
-    go true e = ap suc e
-    go false e = e
+zeros-set (x ∷ m) zero l h = omega arith
+zeros-set (x ∷ m) (suc p) l h = omega (arith, zeros-set m p (omega arith) h)
 
 unowned-set : (m : List ℕ) (p : ℕ) → 1 ≤ p → p < length m → getD m p 0 ≡ 0 → unowned m ≡ suc (unowned (set m p 1))
 unfolding unowned
@@ -55,16 +54,8 @@ unowned-set (x ∷ m) (suc p) k l h = zeros-set m p (omega arith) h
 zeros-le : (m : List ℕ) (p : ℕ) → zeros (set m p 1) ≤ zeros m
 unfolding zeros
 zeros-le [] p = le-refl _
-zeros-le (x ∷ m) zero = go (eqb x 0)
-  where
-    go : (c : Bool) → zeros m ≤ (if c then suc (zeros m) else zeros m)
-    go true = omega arith
-    go false = le-refl _
-zeros-le (x ∷ m) (suc p) = go (eqb x 0) (zeros-le m p)
-  where
-    go : (c : Bool) → zeros (set m p 1) ≤ zeros m → (if c then suc (zeros (set m p 1)) else zeros (set m p 1)) ≤ (if c then suc (zeros m) else zeros m)
-    go true h = omega arith
-    go false h = h
+zeros-le (x ∷ m) zero = omega arith
+zeros-le (x ∷ m) (suc p) = omega (arith, zeros-le m p)
 
 -- an owner is not given back
 pub unowned-le : (m : List ℕ) (p : ℕ) → unowned (set m p 1) ≤ unowned m
@@ -90,10 +81,10 @@ page-made b range p m m′ each e = go (leb 1 p) (ltb p (pageCount b)) (eqb (get
         let k : p < length m = omega (arith, ltb-true p (pageCount b) h) in
         let same : m′ ≡ set m p 1 = cc in
         record { here = k; fewer = unowned-set m p (leb-true 1 p l) k (eqb-true (getD m p 0) 0 f) ∙ ap (λ (s : List ℕ). suc (unowned s)) (sym same) }
-    go true true true false l h f e′ = let z : _≡_ {A = ℕ} 0 1 = cc in absurd (omega arith)
-    go true true false marked l h f e′ = let z : _≡_ {A = ℕ} 0 1 = cc in absurd (omega arith)
-    go true false free marked l h f e′ = let z : _≡_ {A = ℕ} 0 1 = cc in absurd (omega arith)
-    go false high free marked l h f e′ = let z : _≡_ {A = ℕ} 0 1 = cc in absurd (omega arith)
+    go true true true false l h f e′ = never e′
+    go true true false marked l h f e′ = never e′
+    go true false free marked l h f e′ = never e′
+    go false high free marked l h f e′ = never e′
 
 -- ---- a chain, of which some pages have passed
 

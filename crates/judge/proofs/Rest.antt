@@ -1,5 +1,5 @@
 -- After the walk: the search for a lost page goes by what is left of the pages to look at.
-use mathlib.Core.Path.{_≡_, refl}
+use mathlib.Core.Path.{_≡_, refl, sym}
 use mathlib.Core.Logic.{_≢_}
 use Prim.Native.Nat.{ℕ, suc, _+_, _-_, _≤_, _<_}
 use native.Mathlib.Numerals.{add-one}
@@ -15,6 +15,7 @@ use Rattle.volume.specs.Lists.{first, countFrom}
 use Rattle.model.specs.Layout.{pageCount, freeCount, pageBit, zeroBits}
 use Rattle.model.specs.Judge.{Fault, badCount, Judged, fault, clean, lostOr, judgeRest}
 use Rattle.judge.specs.Walk.{isLost}
+use Rattle.judge.proofs.Marks.{never}
 
 module _ (b : Bytes) (marks : List ℕ) where
   -- the lowest lost page of n from p on
@@ -43,13 +44,13 @@ module _ (b : Bytes) (marks : List ℕ) where
 module _ (b : Bytes) (m : List ℕ) where
   lost-faulty : {x : Fault} (rest : Judged) (l : Option ℕ) → fault x ≡ lostOr (clean m) l → fault x ≡ lostOr rest l
   unfolding lostOr
-  lost-faulty rest none e = let z : _≡_ {A = ℕ} 0 1 = cc in absurd (omega arith)
+  lost-faulty rest none e = never (sym e)
   lost-faulty rest (some p) e = e
 
   lost-clean : (rest : Judged) (l : Option ℕ) → clean m ≡ lostOr (clean m) l → rest ≡ lostOr rest l
   unfolding lostOr
   lost-clean rest none e = refl
-  lost-clean rest (some p) e = let z : _≡_ {A = ℕ} 0 1 = cc in absurd (omega arith)
+  lost-clean rest (some p) e = never e
 
   -- bit 0 and the count
   abbrev pub counted : Judged

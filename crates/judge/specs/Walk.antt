@@ -1,11 +1,11 @@
 -- What the judges' contracts name besides the model's definitions: the owner marks that are lent, and the entries before one.
 use mathlib.Core.Path.{_≡_}
-use Prim.Native.Nat.{ℕ, zero, suc, _+_, _*_, _≤_}
+use Prim.Native.Nat.{ℕ, zero, suc, _+_, _-_, _*_, _≤_}
 use mathlib.Core.Bool.{Bool, _&&_}
 use mathlib.Core.List.{List, [], _∷_}
 use lib.ListN.{length, getD}
 use lib.Dec.{eqb}
-use Rattle.volume.specs.Bytes.{Bytes, if_then_else_}
+use Rattle.volume.specs.Bytes.{Bytes}
 use Rattle.model.specs.Layout.{pageCount, pageBit}
 use Rattle.model.specs.Entry.{entriesStart}
 
@@ -15,9 +15,10 @@ pub record Marked (b : Bytes) (marks : List ℕ) : Type 0 where
   pub low : 1 ≤ length marks
   pub high : length marks ≤ 256
 
+-- how many marks are 0
 unfoldable pub zeros : List ℕ → ℕ
 zeros [] = 0
-zeros (mark ∷ marks) = let rest = zeros marks in if eqb mark 0 then suc rest else rest
+zeros (mark ∷ marks) = 1 - mark + zeros marks
 
 -- How many pages have no owner yet. Page 0 is the header and never gets one, so it does not count.
 unfoldable pub unowned : List ℕ → ℕ

@@ -31,12 +31,13 @@ use Rattle.model.specs.Effect.{formatted, lowestVacant, made, rewritten, writte
 use Rattle.model.specs.Call.{Call, format, verdict, find, list, read, makeFile, makeDirectory, write, remove, refusal}
 use Rattle.model.specs.Refusal.{isDirectoryNode, contentIn, node, wanted, earlier, later, refusals, size, Passes}
 use Rattle.model.specs.Meaning.{isFormat, lines, effect, after}
+use Rattle.model.proofs.Version1.{home}
 use Rattle.laws.proofs.Facts.{Facts, sound-facts, valid-sized}
 use Rattle.laws.proofs.Owns.{own-le, pages-own}
 use Rattle.laws.proofs.Counting.{count-owned, fill-up}
 use Rattle.laws.proofs.Focus.{named-found, leads-owned}
 use Rattle.laws.proofs.Walks.{nodeOf, Target, target}
-use Rattle.laws.proofs.Slots.{home, lawful, header-marked, size as sized}
+use Rattle.laws.proofs.Slots.{lawful, header-marked, size as sized}
 use Rattle.laws.proofs.NewEntry.{new-length, new-start}
 use Rattle.laws.proofs.Make.{Place, place-of, place-held, madeAt}
 use Rattle.laws.proofs.Write.{isFileEntry, node-file, file-pages, file-chained, file-content, file-size, rewritten-is}

@@ -29,6 +29,7 @@ use Rattle.model.specs.Image.{contentOf, entryRow, rowOf, rowAt, treeOf}
 use Rattle.model.specs.Walk.{Walked, arrived, walk, entryNamed, arrivedOr, changeAt}
 use Rattle.model.specs.Effect.{isVacant, lowestVacant, made, fileMade, directoryMade}
 use Rattle.model.specs.Refusal.{isMissing, isBlocked, isThere}
+use Rattle.model.proofs.Version1.{home}
 use Rattle.laws.proofs.Facts.{Facts}
 use Rattle.laws.proofs.Entries.{entry-within}
 use Rattle.laws.proofs.Owns.{own, own-length}
@@ -36,7 +37,7 @@ use Rattle.laws.proofs.Focus.{named-found, Leads, leads-depth}
 use Rattle.laws.proofs.Change.{changed}
 use Rattle.laws.proofs.Counting.{count-owned}
 use Rattle.laws.proofs.Walks.{nodeOf, lookup-named, Parent, parent}
-use Rattle.laws.proofs.Slots.{home, size, lawful, head-kept, rest-kept, header-marked, Slot, slot, held}
+use Rattle.laws.proofs.Slots.{size, lawful, head-kept, rest-kept, header-marked, Slot, slot, held}
 use Rattle.laws.proofs.Vacant.{zero-vacant, vacant-row, vacant-owns, vacant-good}
 use Rattle.laws.proofs.NewEntry.{new-length, new-start, is-file, is-directory}
 

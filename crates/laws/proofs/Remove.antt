@@ -21,13 +21,14 @@ use Rattle.model.specs.Image.{entryRow, rowOf, rowAt, treeOf}
 use Rattle.model.specs.Walk.{arrived, walkTo, entryNamed, changeAt}
 use Rattle.model.specs.Effect.{removed}
 use Rattle.model.specs.Refusal.{isMissing, isBlocked, rowIn}
+use Rattle.model.proofs.Version1.{home}
 use Rattle.laws.proofs.Facts.{Facts}
 use Rattle.laws.proofs.Owns.{own, owned-entries}
 use Rattle.laws.proofs.Vacant.{zero-vacant}
 use Rattle.laws.proofs.Focus.{named-found}
 use Rattle.laws.proofs.Change.{Works, changed}
 use Rattle.laws.proofs.Walks.{nodeOf, Target, target}
-use Rattle.laws.proofs.Slots.{home, size, lawful, head-kept, rest-kept, Slot, slot, Owned, entry-owned}
+use Rattle.laws.proofs.Slots.{size, lawful, head-kept, rest-kept, Slot, slot, Owned, entry-owned}
 
 -- ---- a directory that holds nothing owns nothing
 

@@ -1,7 +1,7 @@
--- Version 1 is a lawful geometry, and an entry of a reached directory lies in a marked page of the image, its pages marked and owned once.
+-- A sound image is lawful as version 1, and an entry of a reached directory lies in a marked page of the image, its pages marked and owned once.
 use mathlib.Core.Path.{_≡_, ap, _∙_}
 use mathlib.Core.Logic.{inl, inr}
-use Prim.Native.Nat.{ℕ, suc, _+_, _/_, _≤_, _<_}
+use Prim.Native.Nat.{ℕ, suc, _+_, _≤_, _<_}
 use native.Mathlib.Omega.{arith}
 use mathlib.Core.List.{List, _∷_}
 use lib.ListN.{length}
@@ -13,31 +13,13 @@ use Rattle.model.specs.Layout.{version1, pageCount, pageBit}
 use Rattle.model.specs.Entry.{entries, entryAt}
 use Rattle.model.specs.Sound.{ownedPages}
 use Rattle.model.specs.Path.{Name}
+use Rattle.model.proofs.Version1.{home, version1-lawful}
 use Rattle.laws.proofs.Facts.{Facts, once, Sized, valid-sized}
 use Rattle.laws.proofs.Entries.{Within, entry-within, within-page}
 use Rattle.laws.proofs.Owns.{own, own-le}
 use Rattle.laws.proofs.Focus.{Leads, leads-sub, leads-owned}
 
 -- ---- version 1
-
--- the page that a byte belongs to
-abbrev pub home : ℕ → ℕ
-home i = i / 256
-
-module _ (N : ℕ) (low : 1 ≤ N) (high : N ≤ 256) where
-  version1-lawful : Lawful version1 home N
-  version1-lawful = record {
-    header = omega arith;
-    room = omega arith;
-    of-page = λ p i h k l. omega arith;
-    of-link = λ p i h k l. omega arith;
-    of-count = λ i k l. omega arith;
-    of-map = λ p h. omega arith;
-    order = omega arith;
-    apart = λ p i h u k l. omega arith;
-    links-in = λ p h. omega arith;
-    map-in = omega arith;
-  }
 
 module _ (b : Bytes) (f : Facts b) where
   pub size : Sized b

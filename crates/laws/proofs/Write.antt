@@ -30,6 +30,7 @@ use Rattle.model.specs.Image.{contentOn, contentOf, entryRow, rowAt, treeOf}
 use Rattle.model.specs.Walk.{arrived, walkTo, entryNamed, changeAt, entryPosition}
 use Rattle.model.specs.Effect.{rewritten, written}
 use Rattle.model.specs.Refusal.{isMissing, isBlocked, isDirectoryNode, contentIn}
+use Rattle.model.proofs.Version1.{home}
 use Rattle.laws.proofs.Facts.{Facts}
 use Rattle.laws.proofs.Entries.{within-page}
 use Rattle.laws.proofs.Owns.{own}
@@ -38,7 +39,7 @@ use Rattle.laws.proofs.Level.{Good, good-split}
 use Rattle.laws.proofs.Change.{Works, changed}
 use Rattle.laws.proofs.Counting.{fill-up, content-length}
 use Rattle.laws.proofs.Walks.{nodeOf, Target, target}
-use Rattle.laws.proofs.Slots.{home, size, lawful, head-kept, rest-kept, header-marked, Slot, slot, held, Owned, entry-owned, entry-apart}
+use Rattle.laws.proofs.Slots.{size, lawful, head-kept, rest-kept, header-marked, Slot, slot, held, Owned, entry-owned, entry-apart}
 
 -- ---- the entry of a file
 

@@ -1,3 +1,5 @@
+-- Version 1 among the geometries.
+pub mod Version1
 -- The specification computed: lists of calls run on real images by the definitions, and what they must give. Read in this order.
 pub mod Run
 -- Document 01's cases marked T.

@@ -47,7 +47,7 @@ unfoldable pub said : Finding → Answer Verdict
 said found.badLength = refused (refusal 1)
 said found.badHeader = refused (refusal 2)
 said (found.unsound f) = refused (refusal 3)
-said (found.sound pages free) = granted (record { pages = pages; free = free })
+said (found.isSound pages free) = granted (record { pages = pages; free = free })
 
 pub verdict-said : (b : Bytes) → said (judgedAs b) ≡ answer verdict b
 unfolding said judgedAs concluded isClean
@@ -65,7 +65,7 @@ verdict-said b = by-length (validLength (length b)) refl
     by-length false v = bad-length b v
     by-length true v = by-header (validHeader b) refl v
 
-pub judged-sound : (b : Bytes) (pages free : ℕ) → found.sound pages free ≡ judgedAs b → granted (record { pages = pages; free = free }) ≡ answer verdict b
+pub judged-sound : (b : Bytes) (pages free : ℕ) → found.isSound pages free ≡ judgedAs b → granted (record { pages = pages; free = free }) ≡ answer verdict b
 unfolding said
 judged-sound b pages free e = ap said e ∙ verdict-said b
 
