@@ -1,0 +1,107 @@
+-- The entry of a name: an occupied one has its name and a vacant one none, and the first of a directory that has it is found in order.
+use mathlib.Core.Path.{_≡_, refl, sym, ap, _∙_}
+use mathlib.Core.Logic.{_⊎_, inl, inr}
+use Prim.Native.Nat.{ℕ, zero, suc, _+_, _*_, _-_, _≤_, _<_}
+use native.Mathlib.Nat.{sub-zero}
+use native.Mathlib.Numerals.{add-one}
+use native.Mathlib.Omega.{arith}
+use mathlib.Core.Bool.{true, false}
+use mathlib.Core.Option.{Option, none, some}
+use mathlib.Core.List.{map}
+use denote.Enum.Declared.{tagOf}
+use lib.ListN.{length, List·getD-eq-default}
+use Rattle.volume.specs.Bytes.{Bytes, same}
+use Rattle.volume.specs.Lists.{first, countFrom}
+use Rattle.model.specs.Layout.{pageSize, pageCount}
+use Rattle.model.specs.Entry.{Entry as Model, vacant, aFile, aDirectory, entryCount, entriesStart, entries, nameAt, dateAt, entryAt}
+use Rattle.model.specs.Sound.{isNamed}
+use Rattle.model.specs.Path.{Name}
+use Rattle.model.specs.Walk.{arrived, missing, blocked, entryNamed, enterOn}
+use Rattle.walk.specs.Steps.{entered}
+use Rattle.fields.proofs.Entry.{the-type}
+use Rattle.fields.specs.declared.Entry.{Entry}
+use Rattle.fields.specs.declared.Entry.the-variants.{Vacant, File, Directory}
+use Rattle.fields.specs.Read.{entryOf}
+
+module _ (b n : Bytes) (at : ℕ) (r : Entry) (read : entryOf r (nameAt b at) (dateAt b at) ≡ entryAt b at) where
+  pub vacant-unnamed : r ≡ Vacant → false ≡ isNamed n (entryAt b at)
+  unfolding isNamed
+  vacant-unnamed v = ap (isNamed n) (ap (λ (s : Entry). entryOf s (nameAt b at) (dateAt b at)) (sym v) ∙ read)
+
+  pub occupied-named : (tagOf the-type r ≡ 1) ⊎ (tagOf the-type r ≡ 2) → same (nameAt b at) n ≡ isNamed n (entryAt b at)
+  unfolding isNamed
+  occupied-named o = named r o ∙ ap (isNamed n) read
+    where
+      named : (s : Entry) → (tagOf the-type s ≡ 1) ⊎ (tagOf the-type s ≡ 2) → same (nameAt b at) n ≡ isNamed n (entryOf s (nameAt b at) (dateAt b at))
+      named Vacant k = elim k [ inl u ↦ absurd (omega arith) | inr u ↦ absurd (omega arith) ]
+      named (File start size) k = refl
+      named (Directory start size) k = refl
+
+-- ---- the entries of a directory, from entry i on
+
+abbrev namedFrom : Bytes → (p : ℕ) → Bytes → ℕ → Option ℕ
+namedFrom b p n i = first (λ at. isNamed n (entryAt b at)) (map (λ j. entriesStart p + 32 * j) (countFrom i (entryCount p - i)))
+
+-- the entries before entry i have another name
+pub record Looked (b : Bytes) (p : ℕ) (n : Bytes) (i : ℕ) : Type 0 where
+  pub low : i ≤ entryCount p
+  pub left : entryNamed b p n ≡ namedFrom b p n i
+
+module _ {b n : Bytes} {p : ℕ} where
+  pub looked-first : Looked b p n 0
+  unfolding entryNamed entries
+  looked-first = record { low = omega arith; left = rw (sub-zero (entryCount p)) }
+
+  module _ {i : ℕ} (l : Looked b p n i) where
+    split : i < entryCount p → entryCount p - i ≡ suc (entryCount p - (i + 1))
+    split h = omega arith
+
+    pub looked-named : i < entryCount p → isNamed n (entryAt b (entriesStart p + 32 * i)) ≡ true → some (entriesStart p + 32 * i) ≡ entryNamed b p n
+    unfolding first countFrom
+    looked-named h e = sym (l .left ∙ rw (split h, e))
+
+    pub looked-next : i < entryCount p → isNamed n (entryAt b (entriesStart p + 32 * i)) ≡ false → Looked b p n (i + 1)
+    unfolding first countFrom
+    looked-next h e = record { low = omega arith; left = l .left ∙ rw (split h, e, add-one) }
+
+    pub looked-last : entryCount p ≤ i → none ≡ entryNamed b p n
+    unfolding first countFrom
+    looked-last h = let z : entryCount p - i ≡ 0 = omega arith in sym (l .left ∙ rw z)
+
+-- ---- a page past the image
+
+past-vacant : (b n : Bytes) (at : ℕ) → length b ≤ at → isNamed n (entryAt b at) ≡ false
+unfolding isNamed entryAt
+past-vacant b n at h = rw (List·getD-eq-default b 0 h)
+
+none-past : (b n : Bytes) (p i k : ℕ) → length b ≤ entriesStart p → first (λ at. isNamed n (entryAt b at)) (map (λ j. entriesStart p + 32 * j) (countFrom i k)) ≡ none
+unfolding first countFrom
+none-past b n p i zero h = refl
+none-past b n p i (suc k) h = rw (past-vacant b n (entriesStart p + 32 * i) (omega arith)) (none-past b n p (suc i) k h)
+
+pub page-past : (b n : Bytes) (p : ℕ) → pageSize * pageCount b ≡ length b → pageCount b ≤ p → none ≡ entryNamed b p n
+unfolding entryNamed entries
+page-past b n p w h = sym (none-past b n p 0 (entryCount p) (omega (arith, w, h)))
+
+-- ---- one name on
+
+module _ (b : Bytes) (n : Name) (p : ℕ) where
+  pub no-entry : none ≡ entryNamed b p (n .bytes) → missing (n .begins) ≡ entered b n p
+  unfolding enterOn
+  no-entry e = rw (sym e)
+
+  module _ (at : ℕ) (found : some at ≡ entryNamed b p (n .bytes)) where
+    entry-read : (x : Model) → x ≡ entryAt b at → enterOn n (some x) arrived ≡ entered b n p
+    entry-read x e = rw (sym found, e)
+
+    pub entry-vacant : vacant ≡ entryAt b at → missing (n .begins) ≡ entered b n p
+    unfolding enterOn
+    entry-vacant = entry-read vacant
+
+    pub entry-file : {name date : Bytes} {start size : ℕ} → aFile name date start size ≡ entryAt b at → blocked (n .begins) ≡ entered b n p
+    unfolding enterOn
+    entry-file {name} {date} {start} {size} = entry-read (aFile name date start size)
+
+    pub entry-directory : {name date : Bytes} {start size : ℕ} → aDirectory name date start size ≡ entryAt b at → arrived start ≡ entered b n p
+    unfolding enterOn
+    entry-directory {name} {date} {start} {size} = entry-read (aDirectory name date start size)

@@ -1,0 +1,138 @@
+-- The names of a path, one by one: each but the last is one step of the walk, and what is left is a path again.
+use mathlib.Core.Path.{_≡_, refl, sym, ap, ap₂, _∙_}
+use Prim.Native.Nat.{ℕ, _+_, _-_, _≤_, _<_}
+use native.Mathlib.Omega.{arith}
+use mathlib.Core.Bool.{Bool, true, false, not, _&&_}
+use mathlib.Core.Option.{Option, none, some, Option·map}
+use mathlib.Core.List.{List, [], _∷_}
+use lib.ListN.{length, take, drop, length-take, length-drop}
+use lib.Dec.{T, eqb, leb, leb→le}
+use Rattle.volume.specs.Bytes.{Bytes, if_then_else_}
+use Rattle.volume.specs.Lists.{all, lastOr}
+use Rattle.volume.proofs.Tests.{and-both, conditions-cons}
+use Rattle.model.specs.Name.{legalText}
+use Rattle.model.specs.Entry.{Entry, vacant, aFile, aDirectory, entryAt}
+use Rattle.model.specs.Path.{Name, Path, noPath, below, before, texts, namesFrom, pathTo, pathOf, isNoPath, parents}
+use Rattle.model.specs.Walk.{Walked, arrived, missing, blocked, inWalked, entryNamed, enterOn, walkOn}
+use Rattle.names.specs.Texts.{textLength}
+use Rattle.names.proofs.Paths.{text-more, text-last, legal-more, legal-last}
+use Rattle.walk.specs.Steps.{nameIn, last, entered, walkedParent}
+
+-- what is left of a path from the byte on at which its next name begins
+abbrev rest : Bytes → (from : ℕ) → Path
+rest path from = pathTo (namesFrom from (texts (drop from path)))
+
+-- ---- a path of one name, and of more
+
+texts-one : (r : Bytes) → 1 ≤ length (texts r)
+unfolding texts before
+texts-one [] = omega arith
+texts-one (c ∷ r) = go (eqb c 0x2F) (texts r)
+  where
+    go : (z : Bool) (vs : List Bytes) → 1 ≤ length (if z then [] ∷ vs else before c vs)
+    go true vs = omega arith
+    go false [] = omega arith
+    go false (v ∷ vs) = omega arith
+
+names-one : (i : ℕ) (vs : List Bytes) → 1 ≤ length vs → 1 ≤ length (namesFrom i vs)
+unfolding namesFrom
+names-one i [] h = h
+names-one i (v ∷ vs) h = omega arith
+
+path-more : (n : Name) (ns : List Name) → 1 ≤ length ns → (parents (pathTo (n ∷ ns)) ≡ n ∷ parents (pathTo ns)) × (last (pathTo (n ∷ ns)) ≡ last (pathTo ns))
+unfolding pathTo lastOr
+path-more n [] h = absurd (omega arith)
+path-more n (m ∷ ns) h = (refl, refl)
+
+-- the name that begins at `from` ends at `to`
+module _ (path : Bytes) (from to : ℕ) (low : from ≤ length path) (is : to ≡ from + textLength (drop from path)) where
+  rest-last : to ≡ length path → rest path from ≡ below [] (nameIn path from to)
+  unfolding pathTo namesFrom lastOr
+  rest-last e = rw (text-last path from to is low e)
+
+  module _ (h : to < length path) where
+    long : from + length (take (to - from) (drop from path)) + 1 ≡ to + 1
+    long = omega (arith, length-take (to - from) (drop from path), length-drop from path)
+
+    next-names : namesFrom from (texts (drop from path)) ≡ nameIn path from to ∷ namesFrom (to + 1) (texts (drop (to + 1) path))
+    unfolding namesFrom
+    next-names = rw (text-more path from to is h, long)
+
+    rest-more : (parents (rest path from) ≡ nameIn path from to ∷ parents (rest path (to + 1))) × (last (rest path from) ≡ last (rest path (to + 1)))
+    rest-more = rw next-names (path-more (nameIn path from to) (namesFrom (to + 1) (texts (drop (to + 1) path))) (names-one (to + 1) (texts (drop (to + 1) path)) (texts-one (drop (to + 1) path))))
+
+-- ---- one step, and then the others
+
+enter-then : (n : Name) (o : Option Entry) (on : ℕ → Walked ℕ) → enterOn n o on ≡ inWalked (enterOn n o arrived) on
+unfolding enterOn inWalked
+enter-then n none on = refl
+enter-then n (some vacant) on = refl
+enter-then n (some (aFile name date start size)) on = refl
+enter-then n (some (aDirectory name date start size)) on = refl
+
+walk-step : (b : Bytes) (n : Name) (ns : List Name) (p : ℕ) → walkOn b (n ∷ ns) p ≡ inWalked (entered b n p) (walkOn b ns)
+unfolding walkOn
+walk-step b n ns p = enter-then n (Option·map (entryAt b) (entryNamed b p (n .bytes))) (walkOn b ns)
+
+text-fits : (v : Bytes) → T (legalText v) → length v ≤ 16
+unfolding legalText
+text-fits v h = leb→le (length v) 16 (conditions-cons (leb (length v) 16) _ (conditions-cons (leb 1 (length v)) _ h .1) .0)
+
+-- ---- where the walk of a path stands: in the directory on page p, before the name that begins at `from`
+
+pub record Standing (b path : Bytes) (p from : ℕ) : Type 0 where
+  pub low : from ≤ length path
+  pub small : p < 256
+  pub legal : T (all legalText (texts (drop from path)))
+  pub left : walkedParent b (rest path from) p ≡ walkedParent b (pathOf path) 0
+
+path-names : (path : Bytes) → 2 ≤ length path → T (not (isNoPath (pathOf path))) → T (all legalText (texts (drop 1 path))) × (rest path 1 ≡ pathOf path)
+unfolding pathOf isNoPath
+path-names [] l h = absurd (omega arith)
+path-names (c ∷ []) l h = absurd (omega arith)
+path-names (c ∷ d ∷ r) l h = go (eqb c 0x2F) (all legalText (texts (d ∷ r))) (pathTo (namesFrom 1 (texts (d ∷ r)))) h
+  where
+    go : (x y : Bool) (q : Path) → T (not (isNoPath (if x && y then q else noPath))) → T y × (q ≡ (if x && y then q else noPath))
+    go true true q k = (tt, refl)
+    go true false q k = absurd k
+    go false y q k = absurd k
+
+pub standing-first : (b path : Bytes) → 2 ≤ length path → T (not (isNoPath (pathOf path))) → Standing b path 0 1
+standing-first b path l h =
+    let q = path-names path l h in
+    record { low = omega arith; small = omega arith; legal = q .0; left = ap (λ (x : Path). walkedParent b x 0) (q .1) }
+
+module _ {b path : Bytes} {p from : ℕ} (s : Standing b path p from) (to : ℕ) (is : to ≡ from + textLength (drop from path)) where
+  pub standing-last : to ≡ length path → (length path - from ≤ 16) × (arrived (p, nameIn path from (length path)) ≡ walkedParent b (pathOf path) 0)
+  unfolding walkOn inWalked
+  standing-last e =
+      let short = text-fits _ (rw (legal-last path from to is (s .low) e) at (s .legal)) in (
+        omega (arith, e, short, length-take (to - from) (drop from path), length-drop from path),
+        ap (λ k. arrived (p, nameIn path from k)) (sym e) ∙ ap (λ (x : Path). walkedParent b x p) (sym (rest-last path from to (s .low) is e)) ∙ s .left,
+      )
+
+  module _ (h : to < length path) where
+    legal : T (legalText (take (to - from) (drop from path))) × T (all legalText (texts (drop (to + 1) path)))
+    legal = and-both (legalText (take (to - from) (drop from path))) _ (rw (legal-more path from to is h) at (s .legal))
+
+    pub standing-fits : length (take (to - from) (drop from path)) ≤ 16
+    standing-fits = text-fits _ (legal .0)
+
+    stepped : inWalked (inWalked (entered b (nameIn path from to) p) (walkOn b (parents (rest path (to + 1))))) (λ q. arrived (q, last (rest path (to + 1)))) ≡ walkedParent b (pathOf path) 0
+    stepped =
+        let r = rest-more path from to (s .low) is h in
+        ap (λ (w : Walked ℕ). inWalked w (λ q. arrived (q, last (rest path (to + 1))))) (sym (walk-step b (nameIn path from to) (parents (rest path (to + 1))) p))
+        ∙ ap₂ (λ (ns : List Name) (n : Name). inWalked (walkOn b ns p) (λ q. arrived (q, n))) (sym (r .0)) (sym (r .1)) ∙ s .left
+
+    pub standing-next : (q : ℕ) → q < 256 → arrived q ≡ entered b (nameIn path from to) p → Standing b path q (to + 1)
+    unfolding inWalked
+    standing-next q l e =
+        record { low = omega arith; small = l; legal = legal .1; left = rw (sym e) at stepped }
+
+    pub standing-missing : (i : ℕ) → missing i ≡ entered b (nameIn path from to) p → missing i ≡ walkedParent b (pathOf path) 0
+    unfolding inWalked
+    standing-missing i e = rw (sym e) at stepped
+
+    pub standing-blocked : (i : ℕ) → blocked i ≡ entered b (nameIn path from to) p → blocked i ≡ walkedParent b (pathOf path) 0
+    unfolding inWalked
+    standing-blocked i e = rw (sym e) at stepped

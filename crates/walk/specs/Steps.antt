@@ -1,0 +1,66 @@
+-- The values of the walk's enums in the model, and the part of a path that a walk has before it.
+use Prim.Native.Nat.{ℕ, _+_, _-_, _<_, _≤_}
+use mathlib.Core.List.{[]}
+use mathlib.Core.Option.{Option, none, some, Option·map}
+use lib.ListN.{length, take, drop}
+use Rattle.volume.specs.Bytes.{Bytes}
+use Rattle.model.specs.Name.{padded}
+use Rattle.model.specs.Entry.{entryAt}
+use Rattle.model.specs.Path.{Name, Path, noPath, root, below, parents}
+use Rattle.model.specs.Walk.{Walked, arrived, missing, blocked, inWalked, entryNamed, enterOn, walkOn}
+use Rattle.walk.specs.declared.Spot.{Spot}
+use Rattle.walk.specs.declared.Spot.the-variants.{At, Nowhere}
+use Rattle.walk.specs.declared.Reached.{Reached}
+use Rattle.walk.specs.declared.Reached.the-variants.{Into, Missing, Blocked}
+use Rattle.walk.specs.declared.Parent.{Parent}
+use Rattle.walk.specs.declared.Parent.the-variants as into
+
+abbrev pub spotOf : Spot → Option ℕ
+spotOf (At position) = some position
+spotOf Nowhere = none
+
+-- the entry lies in the image
+abbrev pub Inside : Bytes → Spot → Type 0
+Inside b (At position) = position + 32 ≤ length b
+Inside b Nowhere = Unit {0}
+
+abbrev pub walkedOf : Reached → Walked ℕ
+walkedOf (Into walk) = arrived (walk .0 .0)
+walkedOf (Missing byte) = missing byte
+walkedOf (Blocked byte) = blocked byte
+
+-- a page that a walk has come to is a byte
+abbrev pub Small : Reached → Type 0
+Small (Into walk) = walk .0 .0 < 256
+Small (Missing byte) = Unit {0}
+Small (Blocked byte) = Unit {0}
+
+-- one name on from the directory on page p
+abbrev pub entered : Bytes → Name → (page : ℕ) → Walked ℕ
+entered b n p = enterOn n (Option·map (entryAt b) (entryNamed b p (n .bytes))) arrived
+
+-- ---- the parent of a path
+
+-- the name that stands in a path from one byte to another
+abbrev pub nameIn : Bytes → (from to : ℕ) → Name
+nameIn path from to = record { begins = from; bytes = padded (take (to - from) (drop from path)) }
+
+abbrev pub last : Path → Name
+last noPath = record { begins = 0; bytes = [] }
+last root = record { begins = 0; bytes = [] }
+last (below ns n) = n
+
+-- the page of the directory that all names but the last lead to from the one on page p, and the last name
+abbrev pub walkedParent : Bytes → Path → (page : ℕ) → Walked (ℕ × Name)
+walkedParent b path p = inWalked (walkOn b (parents path) p) (λ q. arrived (q, last path))
+
+abbrev pub parentOf : Bytes → Parent → Walked (ℕ × Name)
+parentOf path (into.In walk from) = arrived (walk .0 .0, nameIn path from (length path))
+parentOf path (into.Missing byte) = missing byte
+parentOf path (into.Blocked byte) = blocked byte
+
+-- the page is a byte, and the last name lies in the path and fits an entry
+abbrev pub Fits : Bytes → Parent → Type 0
+Fits path (into.In walk from) = (walk .0 .0 < 256) × (from ≤ length path) × (length path - from ≤ 16)
+Fits path (into.Missing byte) = Unit {0}
+Fits path (into.Blocked byte) = Unit {0}
