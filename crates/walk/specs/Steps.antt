@@ -1,4 +1,4 @@
--- The values of the walk's enums in the model, and the part of a path that a walk has before it.
+-- The values of the walk's enums in the model, and what its contracts name besides: one step, and the parent of a path.
 use Prim.Native.Nat.{ℕ, _+_, _-_, _<_, _≤_}
 use mathlib.Core.List.{[]}
 use mathlib.Core.Option.{Option, none, some, Option·map}
