@@ -26,7 +26,7 @@ pub fn page_at(image: &[u8], start: Page, index: usize) -> Page
     page
 }
 
-fn least(a: usize, b: usize) -> usize
+pub fn least(a: usize, b: usize) -> usize
     ensures { λ r. ⌜ r ≡ min a b ⌝ }
 {
     if a <= b {

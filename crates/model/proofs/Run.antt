@@ -1,8 +1,9 @@
 -- Lists of calls run by the definitions: each call gets the image as the last one left it.
-use mathlib.Core.Path.{_≡_, ap}
+use mathlib.Core.Path.{_≡_, refl, sym, ap, _∙_}
 use Prim.Native.Nat.{ℕ}
+use mathlib.Core.Bool.{Bool, true, false}
 use mathlib.Core.List.{List, [], _∷_, _++_, flatMap}
-use Rattle.volume.specs.Bytes.{Bytes, same}
+use Rattle.volume.specs.Bytes.{Bytes, same, if_then_else_}
 use Rattle.volume.specs.Lists.{all, any, keep, lastOr, distinct, countFrom, first}
 use Rattle.volume.specs.Chain.{chain, beyond, spread}
 use Rattle.volume.specs.Geometry as On
@@ -16,8 +17,8 @@ use Rattle.model.specs.Path.{before, texts, namesFrom, pathTo, pathOf, i
 use Rattle.model.specs.Image.{contentOf, entryRow, rowOf, rowAt, treeOf}
 use Rattle.model.specs.Walk.{enter, walk, nodeNamed, inWalked, walkTo, entryNamed, enterOn, walkOn, arrivedOr}
 use Rattle.model.specs.Effect.{formatted, isVacant, lowestVacant, made, rewritten, written, removed}
-use Rattle.model.specs.Call.{Call, read, Verdict, Told, bufferBefore, Answer, granted}
-use Rattle.model.specs.Refusal.{isMissing, isBlocked, stoppedAt, isThere, isDirectoryNode, contentIn, rowIn, wanted, makeLines, earlier, later, refusals, settle}
+use Rattle.model.specs.Call.{Call, read, Verdict, Told, bufferBefore, Refusal, Answer, refused, granted}
+use Rattle.model.specs.Refusal.{Line, isMissing, isBlocked, stoppedAt, isThere, isDirectoryNode, contentIn, rowIn, wanted, makeLines, earlier, later, refusals, settle}
 use Rattle.model.specs.Meaning.{foundAt, listed, told, filled, isFormat, brokenLine, lines, effect, answer, after, bufferAfter}
 use Rattle.model.specs.Demands.{Result, Results}
 use Rattle.model.specs.Text.{text}
@@ -32,9 +33,51 @@ unfoldable pub results : (cs : List Call) → Bytes → Results cs
 results [] b = tt
 results (c ∷ cs) b = (record { answered = answer c b; lent = bufferAfter c b }, results cs (after c b))
 
+-- ---- the same, with the lines of each call asked once: a third less to compute
+
+-- what one call gives back, and the image after it
+unfoldable pub turn : (c : Call) → Bytes → Result c × Bytes
+turn c b =
+    settle (lines c b) (λ f. (record { answered = refused f; lent = bufferBefore c }, b))
+    (record { answered = granted (told c (treeOf b)); lent = filled c (treeOf b) }, effect c b)
+
+unfoldable pub turns : (cs : List Call) → Bytes → Results cs × Bytes
+turns [] b = (tt, b)
+turns (c ∷ cs) b =
+    let now = turn c b in
+    let rest = turns cs (now .1) in
+    ((now .0, rest .0), rest .1)
+
+settle-through : {A B : Type 0} (g : A → B) (ls : List Line) (f : Refusal → A) (x : A) → g (settle ls f x) ≡ settle ls (λ r. g (f r)) (g x)
+unfolding settle
+settle-through g [] f x = refl
+settle-through g (l ∷ ls) f x = go (l .0) (settle-through g ls f x)
+  where
+    go : (c : Bool) → g (settle ls f x) ≡ settle ls (λ r. g (f r)) (g x)
+        → g (if c then f (l .1) else settle ls f x) ≡ (if c then g (f (l .1)) else settle ls (λ r. g (f r)) (g x))
+    go true e = refl
+    go false e = e
+
+turn-is : (c : Call) (b : Bytes) → turn c b ≡ (record { answered = answer c b; lent = bufferAfter c b }, after c b)
+unfolding turn answer bufferAfter after
+turn-is c b =
+    let stays : Refusal → Result c × Bytes = λ f. (record { answered = refused f; lent = bufferBefore c }, b) in
+    let goes : Result c × Bytes = (record { answered = granted (told c (treeOf b)); lent = filled c (treeOf b) }, effect c b) in
+    let p : turn c b .0 .answered ≡ answer c b = settle-through (λ (r : Result c × Bytes). r .0 .answered) (lines c b) stays goes in
+    let q : turn c b .0 .lent ≡ bufferAfter c b = settle-through (λ (r : Result c × Bytes). r .0 .lent) (lines c b) stays goes in
+    let r : turn c b .1 ≡ after c b = settle-through (λ (r : Result c × Bytes). r .1) (lines c b) stays goes in
+    λ i. (record { answered = p i; lent = q i }, r i)
+
+turns-are : (cs : List Call) (b : Bytes) → turns cs b ≡ (results cs b, run cs b)
+unfolding turns results run
+turns-are [] b = refl
+turns-are (c ∷ cs) b =
+    ap (λ (s : Result c × Bytes). ((s .0, turns cs (s .1) .0), turns cs (s .1) .1)) (turn-is c b)
+    ∙ ap (λ (r : Results cs × Bytes). ((record { answered = answer c b; lent = bufferAfter c b }, r .0), r .1)) (turns-are cs (after c b))
+
 -- Everything that a list of calls computes with: to unfold this is to unfold them all.
 unfoldable pub computing : Unit {0}
-unfolding flatMap same all any keep lastOr distinct countFrom first chain beyond spread On.pageBit On.zeroBits On.lowestFree On.mark On.unmark On.taken On.released On.grown On.gained On.jointOf On.written pagesFor validLength validHeader legalByte legalRest legalName legalText padded unpadded isBcd bcd between goodDate entries entryAt newEntry pagesOf goodEntry isNamed sameName namesApart goodDirectory reachedBy reached soundTo sound owners emptyRow width held needs freeNumber lookup before texts namesFrom pathTo pathOf isNoPath isRoot contentOf entryRow rowOf rowAt treeOf enter walk nodeNamed inWalked walkTo entryNamed enterOn walkOn arrivedOr formatted isVacant lowestVacant made rewritten written removed isMissing isBlocked stoppedAt isThere isDirectoryNode contentIn rowIn wanted makeLines earlier later refusals settle foundAt listed told filled isFormat brokenLine lines effect answer after bufferAfter text run results
+unfolding flatMap same all any keep lastOr distinct countFrom first chain beyond spread On.pageBit On.zeroBits On.lowestFree On.mark On.unmark On.taken On.released On.grown On.gained On.jointOf On.written pagesFor validLength validHeader legalByte legalRest legalName legalText padded unpadded isBcd bcd between goodDate entries entryAt newEntry pagesOf goodEntry isNamed sameName namesApart goodDirectory reachedBy reached soundTo sound owners emptyRow width held needs freeNumber lookup before texts namesFrom pathTo pathOf isNoPath isRoot contentOf entryRow rowOf rowAt treeOf enter walk nodeNamed inWalked walkTo entryNamed enterOn walkOn arrivedOr formatted isVacant lowestVacant made rewritten written removed isMissing isBlocked stoppedAt isThere isDirectoryNode contentIn rowIn wanted makeLines earlier later refusals settle foundAt listed told filled isFormat brokenLine lines effect answer after bufferAfter text run results turn turns
 computing = tt
 
 -- ---- cases
@@ -99,7 +142,7 @@ Outcomes (c ∷ cs) = Results (calls (c .steps)) × c .Seen × Outcomes cs
 
 unfoldable pub computed : (cs : List Case) → Outcomes cs
 computed [] = tt
-computed (c ∷ cs) = (results (calls (c .steps)) (c .start), c .look (run (calls (c .steps)) (c .start)), computed cs)
+computed (c ∷ cs) = let done = turns (calls (c .steps)) (c .start) in (done .0, c .look (done .1), computed cs)
 
 unfoldable pub stated : (cs : List Case) → Outcomes cs
 stated [] = tt
@@ -108,7 +151,12 @@ stated (c ∷ cs) = (given (c .steps), c .seen, stated cs)
 pub hold : (cs : List Case) → computed cs ≡ stated cs → Hold cs
 unfolding Hold computed stated
 hold [] e = tt
-hold (c ∷ cs) e = (ap (λ (o : Outcomes (c ∷ cs)). o .0) e, ap (λ (o : Outcomes (c ∷ cs)). o .1) e, hold cs (ap (λ (o : Outcomes (c ∷ cs)). o .2) e))
+hold (c ∷ cs) e =
+    let t = turns-are (calls (c .steps)) (c .start) in (
+      sym (ap (λ (d : Results (calls (c .steps)) × Bytes). d .0) t) ∙ ap (λ (o : Outcomes (c ∷ cs)). o .0) e,
+      sym (ap (λ (d : Results (calls (c .steps)) × Bytes). c .look (d .1)) t) ∙ ap (λ (o : Outcomes (c ∷ cs)). o .1) e,
+      hold cs (ap (λ (o : Outcomes (c ∷ cs)). o .2) e),
+    )
 
 pub hold-append : (cs ds : List Case) → Hold cs → Hold ds → Hold (cs ++ ds)
 unfolding Hold

@@ -106,6 +106,7 @@ facts =
     ∷ unsound (put 82 (0xFD ∷ 0x02 ∷ []) (set (set two 96 0) 256 2)) (badChain 0 0 2)
     -- a page owned twice, by two files, a file and a directory, two directories; nothing is lost
     ∷ unsound (put 3 (6 ∷ 0b11 ∷ []) (set two 113 1)) (ownedTwice 1)
+    ∷ unsound (put 128 (stored 0x80 (text "C" ++ replicate 15 0) 2 0xFF 0x00 day1) two) (ownedTwice 2)
     ∷ unsound (put 96 (stored 0x80 (text "B" ++ replicate 15 0) 1 0xFF 0x00 day1) box) (ownedTwice 1)
     ∷ unsound (put 96 (stored 0x81 (text "B" ++ replicate 15 0) 1 0x00 0x01 day1) box) (ownedTwice 1)
     -- a chain that returns to itself

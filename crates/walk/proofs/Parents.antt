@@ -4,7 +4,7 @@ use Prim.Native.Nat.{ℕ, _+_, _-_, _≤_, _<_}
 use native.Mathlib.Omega.{arith}
 use mathlib.Core.Bool.{Bool, true, false, not, _&&_}
 use mathlib.Core.Option.{Option, none, some, Option·map}
-use mathlib.Core.List.{List, [], _∷_}
+use mathlib.Core.List.{List, [], _∷_, dropLast}
 use lib.ListN.{length, take, drop, length-take, length-drop}
 use lib.Dec.{T, eqb, leb, leb→le}
 use Rattle.volume.specs.Bytes.{Bytes, if_then_else_}
@@ -96,6 +96,15 @@ path-names (c ∷ d ∷ r) l h = go (eqb c 0x2F) (all legalText (texts (d ∷ r)
     go true true q k = (tt, refl)
     go true false q k = absurd k
     go false y q k = absurd k
+
+-- a path of two bytes or more has a last name
+pub path-below : (path : Bytes) → 2 ≤ length path → T (not (isNoPath (pathOf path))) → (ns : List Name) × (n : Name) × (pathOf path ≡ below ns n)
+unfolding pathTo
+path-below path l h = go (namesFrom 1 (texts (drop 1 path))) (names-one 1 (texts (drop 1 path)) (texts-one (drop 1 path))) (path-names path l h .1)
+  where
+    go : (ms : List Name) → 1 ≤ length ms → pathTo ms ≡ pathOf path → (ns : List Name) × (n : Name) × (pathOf path ≡ below ns n)
+    go [] k e = absurd (omega arith)
+    go (m ∷ ms) k e = (dropLast (m ∷ ms), lastOr m ms, sym e)
 
 pub standing-first : (b path : Bytes) → 2 ≤ length path → T (not (isNoPath (pathOf path))) → Standing b path 0 1
 standing-first b path l h =

@@ -1,3 +1,6 @@
 pub mod Formats
 pub mod Verdicts
+pub mod Finds
+pub mod Lists
+pub mod Readings
 pub mod Injective

@@ -1,0 +1,4 @@
+pub mod Places
+pub mod Arrivals
+pub mod Settled
+pub mod Entries
