@@ -1,0 +1,5 @@
+pub mod Windows
+pub mod Digits
+pub mod Paths
+pub mod Rows
+pub mod Images
