@@ -7,6 +7,7 @@ use mathlib.Core.Option.{Option, none, some}
 use mathlib.Core.List.{List, [], _∷_}
 use lib.ListN.{length}
 use lib.Dec.{T, eqb}
+use borrow.Author.Tests.{not-true, not-false}
 use Rattle.volume.specs.Bytes.{Bytes, if_then_else_}
 use Rattle.model.specs.Layout.{pageSize, pageCount, validLength, validHeader}
 use Rattle.model.specs.Entry.{Entry, vacant, aFile, aDirectory, entryAt}
@@ -19,7 +20,7 @@ use Rattle.model.specs.Judge.{Judged, fault, clean, judge, isClean}
 use Rattle.judge.specs.Answers as found
 use Rattle.judge.specs.Answers.{Finding, judgedAs, concluded}
 use Rattle.laws.proofs.Judged.{judge-sound}
-use Rattle.laws.proofs.Facts.{valid-sized}
+use Rattle.laws.proofs.Facts.{valid-sized, sound-facts}
 use Rattle.walk.specs.Steps.{walkedParent}
 use Rattle.walk.proofs.Parents.{path-below}
 use Rattle.refusals.specs.declared.Refusal.{Refusal}
@@ -87,35 +88,28 @@ place-below b ns n = go (walkOn b ns 0)
     go (missing i) = refl
     go (blocked i) = refl
 
+pub path-root : (q : Bytes) → not (isNoPath (pathOf q)) ≡ true → length q ≡ 1 → pathOf q ≡ root
+unfolding pathOf isNoPath
+path-root [] e l = absurd (omega (arith, l))
+path-root (c ∷ []) e l = go (eqb c 0x2F) e
+  where
+    go : (z : Bool) → not (isNoPath (if z then root else noPath)) ≡ true → (if z then root else noPath) ≡ root
+    go true e = refl
+    go false e = let bad : _≡_ {A = Bool} true false = sym e in absurd (true≢false bad)
+path-root (c ∷ d ∷ r) e l = absurd (omega (arith, l))
+
 module _ (b path : Bytes) where
   pub no-path : not (isNoPath (pathOf path)) ≡ false → refused (refusal 4) ≡ placeWalked b path
   unfolding placeWalked settle
-  no-path e = go (isNoPath (pathOf path)) e
-    where
-      go : (c : Bool) → not c ≡ false → refused (refusal 4) ≡ (if c then refused (refusal 4) else walkedAnswer (located b (pathOf path)))
-      go true e = refl
-      go false e = let bad : _≡_ {A = Bool} true false = e in absurd (true≢false bad)
+  no-path e = rw (not-false (isNoPath (pathOf path)) e)
 
   past-line : not (isNoPath (pathOf path)) ≡ true → walkedAnswer (located b (pathOf path)) ≡ placeWalked b path
   unfolding placeWalked settle
-  past-line e = go (isNoPath (pathOf path)) e
-    where
-      go : (c : Bool) → not c ≡ true → walkedAnswer (located b (pathOf path)) ≡ (if c then refused (refusal 4) else walkedAnswer (located b (pathOf path)))
-      go true e = let bad : _≡_ {A = Bool} true false = sym e in absurd (true≢false bad)
-      go false e = refl
+  past-line e = rw (not-true (isNoPath (pathOf path)) e)
 
   pub at-root : not (isNoPath (pathOf path)) ≡ true → length path ≡ 1 → granted theRoot ≡ placeWalked b path
-  unfolding pathOf isNoPath located walkedAnswer
-  at-root e l = one path e l ∙ past-line e
-    where
-      either : (c : Bool) → not (isNoPath (if c then root else noPath)) ≡ true → granted theRoot ≡ walkedAnswer (located b (if c then root else noPath))
-      either true e = refl
-      either false e = let bad : _≡_ {A = Bool} true false = sym e in absurd (true≢false bad)
-
-      one : (q : Bytes) → not (isNoPath (pathOf q)) ≡ true → length q ≡ 1 → granted theRoot ≡ walkedAnswer (located b (pathOf q))
-      one [] e l = absurd (omega (arith, l))
-      one (c ∷ []) e l = either (eqb c 0x2F) e
-      one (c ∷ d ∷ r) e l = absurd (omega (arith, l))
+  unfolding located walkedAnswer
+  at-root e l = ap (λ (p : Path). walkedAnswer (located b p)) (sym (path-root path e l)) ∙ past-line e
 
   -- a path that is not `/` alone has two bytes or more
   pub two : not (isNoPath (pathOf path)) ≡ true → (length path ≡ 1 → ⊥) → 2 ≤ length path
@@ -168,11 +162,16 @@ module _ (b : Bytes) where
   unfolding placed placeWalked settle
   placed-judged path j e = ap (judgedTo refused (placeWalked b path)) e ∙ image-lines refused (placeWalked b path)
 
-  pub judged-whole : {pages free : ℕ} → found.isSound pages free ≡ judgedAs b → pageSize * pageCount b ≡ length b
-  unfolding judgedAs
-  judged-whole e = go (validLength (length b)) refl (ap (judgedTo (λ m. false) true) e)
+  -- an image that is judged sound is so
+  pub judged-sound : {pages free : ℕ} → found.isSound pages free ≡ judgedAs b → T (sound b)
+  unfolding settle
+  judged-sound e = go (validLength (length b)) (validHeader b) (sound b) (ap (judgedTo (λ m. false) true) e ∙ image-lines (λ m. false) true)
     where
-      go : (v : Bool) → validLength (length b) ≡ v → true ≡ judgedTo (λ m. false) true (if v then (if validHeader b then concluded b (judge b) else found.badHeader) else found.badLength)
-          → pageSize * pageCount b ≡ length b
-      go true v k = omega (arith, valid-sized b (subst T (sym v) tt) .whole)
-      go false v k = let bad : _≡_ {A = Bool} true false = k in absurd (true≢false bad)
+      go : (v h s : Bool) → true ≡ (if not v then false else if not h then false else if not s then false else true) → T s
+      go true true true k = tt
+      go true true false k = let bad : _≡_ {A = Bool} true false = k in absurd (true≢false bad)
+      go true false s k = let bad : _≡_ {A = Bool} true false = k in absurd (true≢false bad)
+      go false h s k = let bad : _≡_ {A = Bool} true false = k in absurd (true≢false bad)
+
+  pub judged-whole : {pages free : ℕ} → found.isSound pages free ≡ judgedAs b → pageSize * pageCount b ≡ length b
+  judged-whole e = omega (arith, valid-sized b (sound-facts b (judged-sound e) .fits) .whole)

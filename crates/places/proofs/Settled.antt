@@ -29,7 +29,7 @@ abbrev pub opened : {A B : Type 0} → (Refusal → B) → (A → B) → Answer 
 opened f y (refused m) = f m
 opened f y (granted x) = y x
 
-settle-opened : {A B : Type 0} (f : Refusal → B) (y : A → B) (ls : List Line) (a : Answer A) → opened f y (settle ls refused a) ≡ settle ls f (opened f y a)
+pub settle-opened : {A B : Type 0} (f : Refusal → B) (y : A → B) (ls : List Line) (a : Answer A) → opened f y (settle ls refused a) ≡ settle ls f (opened f y a)
 unfolding settle
 settle-opened f y [] a = refl
 settle-opened f y (l ∷ ls) a = go (l .0) (settle-opened f y ls a)
@@ -41,7 +41,7 @@ settle-opened f y (l ∷ ls) a = go (l .0) (settle-opened f y ls a)
 
 -- ---- a place that was granted
 
-settle-granted : {A : Type 0} (ls : List Line) (a : Answer A) (x : A) → granted x ≡ settle ls refused a → Passes ls × (granted x ≡ a)
+pub settle-granted : {A : Type 0} (ls : List Line) (a : Answer A) (x : A) → granted x ≡ settle ls refused a → Passes ls × (granted x ≡ a)
 unfolding settle
 settle-granted [] a x e = (refl, e)
 settle-granted (l ∷ ls) a x e = go (l .0) e (settle-granted ls a x)

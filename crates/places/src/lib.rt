@@ -10,7 +10,6 @@ ghost use mathlib.Core.Path.{_≡_};
 ghost use Prim.Native.Nat.{_*_, _-_, _<_, _≤_};
 ghost use lib.ListN.{length};
 ghost use Rattle.model.specs.Layout.{pageSize, pageCount};
-ghost use Rattle.model.specs.Path.{pathOf};
 ghost use Rattle.walk.specs.Steps.{nameIn};
 ghost use Rattle.refusals.specs.Told.{told};
 ghost use Rattle.places.specs.Places.{arrivalOf, why, placeNamed, placeWalked, placed};

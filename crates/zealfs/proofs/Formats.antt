@@ -1,6 +1,6 @@
 -- Format: page 0 zeroed and then its first five bytes put is the header page, and the call's one line is the length's.
-use mathlib.Core.Path.{_≡_, refl, sym, ap, _∙_}
-use mathlib.Core.Bool.{Bool, true, false, true≢false}
+use mathlib.Core.Path.{_≡_, refl, sym, ap, subst, _∙_}
+use mathlib.Core.Bool.{true, false}
 use mathlib.Core.List.{[], _∷_}
 use Prim.Native.Nat.{ℕ, _-_, _/_, _%_, _<_}
 use native.Mathlib.Omega.{arith}
@@ -15,12 +15,8 @@ use Rattle.model.specs.Meaning.{told, isFormat, lines, effect, answer, after}
 use Rattle.laws.proofs.Facts.{Sized, valid-sized}
 use Rattle.pages.specs.Zeros.{zeros}
 
-true-T : (c : Bool) → c ≡ true → T c
-true-T true e = tt
-true-T false e = let bad : _≡_ {A = Bool} true false = sym e in true≢false bad
-
 pub allowed : (b : Bytes) → validLength (length b) ≡ true → Sized b
-allowed b e = valid-sized b (true-T (validLength (length b)) e)
+allowed b e = valid-sized b (subst T (sym e) tt)
 
 pub inside : (b : Bytes) → validLength (length b) ≡ true → 0 < pageCount b
 inside b e = let s = allowed b e in omega (arith, s .low)

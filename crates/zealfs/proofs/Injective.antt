@@ -4,9 +4,9 @@ use Prim.Native.Nat.{ℕ}
 use Rattle.volume.specs.Bytes.{Bytes}
 use Rattle.model.specs.Call.{Kind, isFile, isDirectory, Verdict, Found as Finding, Listed as Listing, empty, holds, Answer, refused, granted}
 use Rattle.refusals.proofs.Injective.{case, case-told}
-use Rattle.zealfs.specs.Answers.{formatAnswer, verdictAnswer, findAnswer, FindSays, listAnswer, ListSays, readAnswer}
-use Rattle.zealfs.specs.declared.FormatAnswer.{FormatAnswer}
-use Rattle.zealfs.specs.declared.FormatAnswer.the-variants as format
+use Rattle.zealfs.specs.Answers.{changeAnswer, verdictAnswer, findAnswer, FindSays, listAnswer, ListSays, readAnswer}
+use Rattle.zealfs.specs.declared.ChangeAnswer.{ChangeAnswer}
+use Rattle.zealfs.specs.declared.ChangeAnswer.the-variants as change
 use Rattle.zealfs.specs.declared.VerdictAnswer.{VerdictAnswer}
 use Rattle.zealfs.specs.declared.VerdictAnswer.the-variants as verdict
 use Rattle.zealfs.specs.declared.FindAnswer.{FindAnswer}
@@ -18,17 +18,17 @@ use Rattle.zealfs.specs.declared.Listed.{Listed}
 use Rattle.zealfs.specs.declared.ReadAnswer.{ReadAnswer}
 use Rattle.zealfs.specs.declared.ReadAnswer.the-variants as read
 
-unfoldable formatCase : Answer (Unit {0}) → FormatAnswer
-formatCase (refused m) = format.Refused (case m)
-formatCase (granted x) = format.Done
+unfoldable changeCase : Answer (Unit {0}) → ChangeAnswer
+changeCase (refused m) = change.Refused (case m)
+changeCase (granted x) = change.Done
 
-format-case : (r : FormatAnswer) → formatCase (formatAnswer r) ≡ r
-unfolding formatCase
-format-case format.Done = refl
-format-case (format.Refused r) = ap format.Refused (case-told r)
+change-case : (r : ChangeAnswer) → changeCase (changeAnswer r) ≡ r
+unfolding changeCase
+change-case change.Done = refl
+change-case (change.Refused r) = ap change.Refused (case-told r)
 
-pub format-injective : (r s : FormatAnswer) → formatAnswer r ≡ formatAnswer s → r ≡ s
-format-injective r s e = sym (format-case r) ∙ ap formatCase e ∙ format-case s
+pub change-injective : (r s : ChangeAnswer) → changeAnswer r ≡ changeAnswer s → r ≡ s
+change-injective r s e = sym (change-case r) ∙ ap changeCase e ∙ change-case s
 
 unfoldable verdictCase : Answer Verdict → VerdictAnswer
 verdictCase (refused m) = verdict.Refused (case m)

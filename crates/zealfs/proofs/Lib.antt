@@ -2,5 +2,9 @@ pub mod Formats
 pub mod Verdicts
 pub mod Finds
 pub mod Lists
+pub mod Files
 pub mod Readings
+pub mod Writings
+pub mod Removes
+pub mod Makes
 pub mod Injective

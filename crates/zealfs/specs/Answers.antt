@@ -8,8 +8,8 @@ use Rattle.model.specs.Layout.{pageSize}
 use Rattle.model.specs.Entry.{entryCount, entriesStart, Entry, vacant, aFile, aDirectory, entryAt}
 use Rattle.model.specs.Call.{isFile, isDirectory, Verdict, Found as Finding, Listed as Listing, empty, holds, refusal, Answer, refused, granted}
 use Rattle.refusals.specs.Told.{told}
-use Rattle.zealfs.specs.declared.FormatAnswer.{FormatAnswer}
-use Rattle.zealfs.specs.declared.FormatAnswer.the-variants as format
+use Rattle.zealfs.specs.declared.ChangeAnswer.{ChangeAnswer}
+use Rattle.zealfs.specs.declared.ChangeAnswer.the-variants as change
 use Rattle.zealfs.specs.declared.VerdictAnswer.{VerdictAnswer}
 use Rattle.zealfs.specs.declared.VerdictAnswer.the-variants as verdict
 use Rattle.zealfs.specs.declared.FindAnswer.{FindAnswer}
@@ -21,9 +21,9 @@ use Rattle.zealfs.specs.declared.Listed.{Listed}
 use Rattle.zealfs.specs.declared.ReadAnswer.{ReadAnswer}
 use Rattle.zealfs.specs.declared.ReadAnswer.the-variants as read
 
-abbrev pub formatAnswer : FormatAnswer → Answer (Unit {0})
-formatAnswer format.Done = granted tt
-formatAnswer (format.Refused r) = refused (told r)
+abbrev pub changeAnswer : ChangeAnswer → Answer (Unit {0})
+changeAnswer change.Done = granted tt
+changeAnswer (change.Refused r) = refused (told r)
 
 abbrev pub verdictAnswer : VerdictAnswer → Answer Verdict
 verdictAnswer (verdict.Sound pages free) = granted (record { pages = pages; free = free })

@@ -4,35 +4,39 @@ use fields::Entry;
 use fields::Page;
 use fields::Position;
 use judge::Judgement;
+use openings::Opening;
 use places::Arrival;
 use places::Place;
 use refusals::Refusal;
 ghost use mathlib.Core.Path.{_≡_};
-ghost use Prim.Native.Nat.{_+_, _*_, _<_, _≤_};
+ghost use Prim.Native.Nat.{_+_, _*_, _-_, _<_, _≤_, max};
 ghost use lib.ListN.{length, replicate};
-ghost use Rattle.model.specs.Layout.{pageSize};
-ghost use Rattle.model.specs.Call.{format, verdict, find, list, read};
+ghost use lib.Dec.{ltb};
+ghost use Rattle.model.specs.Layout.{pageSize, pagesFor, freeCount};
+ghost use Rattle.model.specs.Call.{format, verdict, find, list, read, makeFile, makeDirectory, write, remove};
 ghost use Rattle.model.specs.Meaning.{answer, after, bufferAfter};
-ghost use Rattle.zealfs.specs.Answers.{formatAnswer, verdictAnswer, FindSays, ListSays, entryListed, readAnswer};
+ghost use Rattle.zealfs.specs.Makes.{makeAnswer, makeAfter};
+ghost use Rattle.zealfs.specs.Answers.{changeAnswer, verdictAnswer, FindSays, ListSays, entryListed, readAnswer};
 
-pub enum FormatAnswer {
+// A call that changes an image tells only that it was done.
+pub enum ChangeAnswer {
     Done,
     Refused(Refusal),
 }
 
 // Writes page 0, whatever it held; every other byte stays.
-pub fn format(image: &mut [u8]) -> FormatAnswer
-    ensures { λ r. ⌜ (formatAnswer r ≡ answer format (now (image .entry))) × (now (image .exit) ≡ after format (now (image .entry))) ⌝ }
+pub fn format(image: &mut [u8]) -> ChangeAnswer
+    ensures { λ r. ⌜ (changeAnswer r ≡ answer format (now (image .entry))) × (now (image .exit) ≡ after format (now (image .entry))) ⌝ }
 {
     let bytes = image.len();
     if !fields::length_is_allowed(bytes) {
-        return FormatAnswer::Refused(Refusal::BadLength);
+        return ChangeAnswer::Refused(Refusal::BadLength);
     }
     let n = fields::page_count(bytes);
     let header = [0x5A, 1, (n / 8 % 256) as u8, ((n - 1) % 256) as u8, 1];
     pages::zero_page(image, Page(0));
     pages::fill_page(image, Page(0), 0, &header);
-    FormatAnswer::Done
+    ChangeAnswer::Done
 }
 
 // A sound image has so many pages, of which so many are free.
@@ -201,4 +205,122 @@ pub fn read(image: &[u8], path: &[u8], position: Position, buffer: &mut [u8]) ->
     let pages = fields::pages_for(size);
     chains::read_chain(image, target.start, pages, position, buffer, count);
     ReadAnswer::Copied(count)
+}
+
+// Makes an entry with these flags, this size and so many pages, in the lowest vacant one of the directory that the path names it in. Nothing is
+// written before the last refusal that can be given.
+fn make(
+    image: &mut [u8],
+    path: &[u8],
+    date: &[u8],
+    flags: u8,
+    size: usize,
+    pages: usize,
+) -> ChangeAnswer
+    requires { ⌜ size < 65536 ⌝ }
+    ensures { λ r. ⌜ changeAnswer r ≡ makeAnswer (now (image .entry)) (now (path .entry)) (now (date .entry)) pages ⌝ }
+    ensures { λ _. ⌜ now (image .exit) ≡ makeAfter flags size pages (now (image .entry)) (now (path .entry)) (now (date .entry)) ⌝ }
+{
+    let opening = openings::find_opening(image, path, date);
+    let Opening::At(entry, begins) = opening else {
+        return ChangeAnswer::Refused(openings::refusal_of(opening));
+    };
+    if fields::free_count(image) < pages {
+        return ChangeAnswer::Refused(Refusal::NoFreePages);
+    }
+    let end = path.len();
+    let name = names::pad(&path[begins..end]);
+    changes::make_entry(image, entry, flags, size, pages, &name, date);
+    ChangeAnswer::Done
+}
+
+// Makes an empty file, which has the pages of one.
+pub fn make_file(image: &mut [u8], path: &[u8], date: &[u8]) -> ChangeAnswer
+    ensures { λ r. ⌜ changeAnswer r ≡ answer (makeFile (now (path .entry)) (now (date .entry))) (now (image .entry)) ⌝ }
+    ensures { λ _. ⌜ now (image .exit) ≡ after (makeFile (now (path .entry)) (now (date .entry))) (now (image .entry)) ⌝ }
+{
+    make(image, path, date, 0x80, 0, fields::pages_for(0))
+}
+
+// Makes a directory without entries, on a page of its own.
+pub fn make_directory(image: &mut [u8], path: &[u8], date: &[u8]) -> ChangeAnswer
+    ensures { λ r. ⌜ changeAnswer r ≡ answer (makeDirectory (now (path .entry)) (now (date .entry))) (now (image .entry)) ⌝ }
+    ensures { λ _. ⌜ now (image .exit) ≡ after (makeDirectory (now (path .entry)) (now (date .entry))) (now (image .entry)) ⌝ }
+{
+    make(image, path, date, 0x81, 0x0100, 1)
+}
+
+// Fewer pages are free than a write wants. What no image has room for is told at once, so that no sum is made that could wrap.
+fn lacks_pages(image: &[u8], size: usize, position: Position, bytes: usize) -> bool
+    requires { ⌜ (4 ≤ length (now image)) × (position .0 ≤ size) × (size < 65536) × (freeCount (now image) + pagesFor size ≤ 255) ⌝ }
+    ensures { λ r. ⌜ r ≡ ltb (freeCount (now (image .entry))) (pagesFor (max size (position .0 + bytes)) - pagesFor size) ⌝ }
+{
+    if 65025 < bytes {
+        return true;
+    }
+    let end = position.0 + bytes;
+    let held = fields::pages_for(size);
+    if end <= size {
+        return false;
+    }
+    fields::free_count(image) < fields::pages_for(end) - held
+}
+
+// Puts bytes over a file's content from a position on. The file grows where they reach past its end.
+pub fn write(image: &mut [u8], path: &[u8], position: Position, bytes: &[u8]) -> ChangeAnswer
+    ensures { λ r. ⌜ changeAnswer r ≡ answer (write (now (path .entry)) (position .0) (now (bytes .entry))) (now (image .entry)) ⌝ }
+    ensures { λ _. ⌜ now (image .exit) ≡ after (write (now (path .entry)) (position .0) (now (bytes .entry))) (now (image .entry)) ⌝ }
+{
+    let arrival = places::arrive(image, path);
+    let Arrival::At(place) = arrival else {
+        return ChangeAnswer::Refused(places::refusal_of(arrival));
+    };
+    let Place::File(target) = place else {
+        return ChangeAnswer::Refused(Refusal::IsADirectory);
+    };
+    if target.size < position.0 {
+        return ChangeAnswer::Refused(Refusal::PastEnd);
+    }
+    if lacks_pages(image, target.size, position, bytes.len()) {
+        return ChangeAnswer::Refused(Refusal::NoFreePages);
+    }
+    // A write of no bytes is judged like any other, and then changes nothing.
+    if bytes.len() == 0 {
+        return ChangeAnswer::Done;
+    }
+    changes::write_entry(
+        image,
+        target.entry,
+        target.start,
+        target.size,
+        position,
+        bytes,
+    );
+    ChangeAnswer::Done
+}
+
+// Removes a file, or a directory that holds nothing. Its pages are free from then on, and keep their bytes.
+pub fn remove(image: &mut [u8], path: &[u8]) -> ChangeAnswer
+    ensures { λ r. ⌜ changeAnswer r ≡ answer (remove (now (path .entry))) (now (image .entry)) ⌝ }
+    ensures { λ _. ⌜ now (image .exit) ≡ after (remove (now (path .entry))) (now (image .entry)) ⌝ }
+{
+    let arrival = places::arrive(image, path);
+    let Arrival::At(place) = arrival else {
+        return ChangeAnswer::Refused(places::refusal_of(arrival));
+    };
+    match place {
+        Place::Root => ChangeAnswer::Refused(Refusal::IsRoot),
+        Place::File(target) => {
+            let pages = fields::pages_for(target.size);
+            changes::remove_entry(image, target.entry, target.start, pages);
+            ChangeAnswer::Done
+        }
+        Place::Directory(target) => {
+            if !changes::holds_nothing(image, target.start) {
+                return ChangeAnswer::Refused(Refusal::NotEmpty);
+            }
+            changes::remove_entry(image, target.entry, target.start, 1);
+            ChangeAnswer::Done
+        }
+    }
 }

@@ -1,0 +1,88 @@
+-- Read and write: both walk to a file, refuse a directory and a position past its size, and then ask for pages. What is left at a file's place is
+-- the call's own.
+use mathlib.Core.Path.{_≡_, sym, ap, _∙_}
+use mathlib.Core.Logic.{_⊎_, inl, inr}
+use Prim.Native.Nat.{ℕ, _≤_, _<_}
+use native.Mathlib.Omega.{arith}
+use mathlib.Core.Bool.{false}
+use mathlib.Core.List.{List, [], _∷_, _++_}
+use lib.ListN.{length}
+use lib.Dec.{ltb}
+use borrow.Author.Tests.{lt-ltb, le-ltb}
+use denote.Enum.Declared.{tagOf}
+use Rattle.volume.specs.Bytes.{Bytes}
+use Rattle.volume.specs.Chain.{chain}
+use Rattle.model.specs.Layout.{pagesFor, link}
+use Rattle.model.specs.Entry.{dateAt}
+use Rattle.model.specs.Tree.{Node, fileNode}
+use Rattle.model.specs.Path.{pathOf}
+use Rattle.model.specs.Image.{contentOf, treeOf}
+use Rattle.model.specs.Call.{Call, Refusal, refusal, refused, granted}
+use Rattle.model.specs.Refusal.{Line, pathLine, walkLines, isDirectoryNode, contentIn, walked, node, refusals, settle}
+use Rattle.model.specs.Meaning.{isFormat, lines}
+use Rattle.places.specs.Places.{Spot, theRoot, theFile, placed, spotOf}
+use Rattle.places.specs.declared.Place.{Place}
+use Rattle.places.specs.declared.Place.the-variants as place
+use Rattle.places.proofs.Place.{the-type}
+use Rattle.places.proofs.Arrivals.{nodeAt, file-node, directory-node}
+use Rattle.places.proofs.Entries.{file-size}
+use Rattle.places.proofs.Settled.{opened, Arrived, placed-arrived, node-settled}
+
+-- the lines of a call on a file, with that of number 10
+abbrev pub fileCall : (from : ℕ) → (Node → Line) → Node → List Line
+fileCall from space n = (isDirectoryNode n, refusal 7) ∷ (ltb (length (contentIn n)) from, refusal 12) ∷ space n ∷ []
+
+-- what is left of a file's node: its content is as long as its size
+pub record Content (b path : Bytes) (entry begins start k : ℕ) : Type 0 where
+  pub arrived : Arrived b path (theFile entry begins start k)
+  pub long : length (contentOf b k (chain (link b) (pagesFor k) start)) ≡ k
+
+pub content-at : (b path : Bytes) {entry begins start k : ℕ} → granted (theFile entry begins start k) ≡ placed b path → Content b path entry begins start k
+content-at b path {entry} {begins} {start} {k} e =
+    let a = placed-arrived b path (theFile entry begins start k) e in
+    record { arrived = a; long = file-size b (a .facts) (pathOf path) entry begins (a .at .0) (a .at .1) }
+
+-- what a call does: f of a refusal, or x of what the path leads to
+module _ {A : Type 0} (b path : Bytes) (from : ℕ) (c : Call) (other : isFormat c ≡ false) (space : Node → Line)
+    (is : refusals c (treeOf b) ≡ pathLine path ∷ (walkLines (walked path (treeOf b)) ++ fileCall from space (node path (treeOf b))))
+    (f : Refusal → A) (x : Node → A) where
+  abbrev does : A
+  does = settle (lines c b) f (x (node path (treeOf b)))
+
+  abbrev left : Spot → A
+  left s = settle (fileCall from space (nodeAt b s)) f (x (nodeAt b s))
+
+  by-place : does ≡ opened f left (placed b path)
+  by-place = node-settled b path f c other (fileCall from space) x is
+
+  pub refused-does : {m : Refusal} → refused m ≡ placed b path → f m ≡ does
+  refused-does e = ap (opened f left) e ∙ sym by-place
+
+  at-place : (s : Spot) → granted s ≡ placed b path → left s ≡ does
+  at-place s e = ap (opened f left) e ∙ sym by-place
+
+  -- the root and a directory
+  pub directory-does : (p : Place) → (tagOf the-type p ≡ 0) ⊎ (tagOf the-type p ≡ 2) → granted (spotOf p) ≡ placed b path → f (refusal 7) ≡ does
+  unfolding settle isDirectoryNode
+  directory-does place.Root k e = at-place theRoot e
+  directory-does (place.File t) k e = elim k [ inl u ↦ absurd (omega (arith, u)) | inr u ↦ absurd (omega (arith, u)) ]
+  directory-does (place.Directory t) k e =
+      ap (λ (n : Node). settle (fileCall from space n) f (x n)) (sym (directory-node b (t .entry) (t .begins) (t .start .0) (t .size) (placed-arrived b path (spotOf (place.Directory t)) e .at .1)))
+      ∙ at-place (spotOf (place.Directory t)) e
+
+  module _ {entry begins start k : ℕ} (e : granted (theFile entry begins start k) ≡ placed b path) where
+    abbrev there : Node
+    there = fileNode (dateAt b entry) (contentOf b k (chain (link b) (pagesFor k) start))
+
+    file-at : settle (fileCall from space there) f (x there) ≡ does
+    file-at =
+        ap (λ (n : Node). settle (fileCall from space n) f (x n)) (sym (file-node b entry begins start k (placed-arrived b path (theFile entry begins start k) e .at .1)))
+        ∙ at-place (theFile entry begins start k) e
+
+    pub past-does : k < from → f (refusal 12) ≡ does
+    unfolding settle isDirectoryNode contentIn
+    past-does h = rw (content-at b path e .long, lt-ltb k from h) at file-at
+
+    pub file-does : from ≤ k → settle (space there ∷ []) f (x there) ≡ does
+    unfolding settle isDirectoryNode contentIn
+    file-does h = rw (content-at b path e .long, le-ltb k from h) at file-at

@@ -1,0 +1,129 @@
+-- Write: at a file's place the pages wanted are counted against byte 3, which is the free number of a sound image; what is granted fits.
+use mathlib.Core.Path.{_≡_, refl, sym, ap, _∙_}
+use mathlib.Core.Logic.{_⊎_}
+use Prim.Native.Nat.{ℕ, _+_, _-_, _≤_, _<_, max}
+use native.Mathlib.Omega.{arith}
+use mathlib.Core.Bool.{true, false}
+use mathlib.Core.List.{_∷_, _++_}
+use lib.ListN.{length}
+use lib.Dec.{ltb}
+use borrow.Author.Tests.{lt-ltb, le-ltb, ltb-false}
+use denote.Enum.Declared.{tagOf}
+use Rattle.volume.specs.Bytes.{Bytes}
+use Rattle.volume.specs.Chain.{chain}
+use Rattle.volume.proofs.Chains.{chain-length}
+use Rattle.model.specs.Layout.{pagesFor, freeCount, link}
+use Rattle.model.specs.Tree.{Node, freeNumber}
+use Rattle.model.specs.Path.{pathOf}
+use Rattle.model.specs.Image.{treeOf}
+use Rattle.model.specs.Effect.{rewritten, written}
+use Rattle.model.specs.Call.{write, Refusal, refusal, refused, granted}
+use Rattle.model.specs.Refusal.{Line, pathLine, walkLines, contentIn, walked, node, wanted, earlier, later, refusals, settle}
+use Rattle.model.specs.Meaning.{told, isFormat, effect, answer, after}
+use Rattle.laws.proofs.Facts.{Facts}
+use Rattle.laws.proofs.Counting.{fill-up, free-number}
+use Rattle.laws.proofs.Slots.{size}
+use Rattle.places.specs.Places.{theFile, placed, spotOf}
+use Rattle.places.specs.declared.Place.{Place}
+use Rattle.places.proofs.Place.{the-type}
+use Rattle.places.proofs.Entries.{file-owned}
+use Rattle.changes.specs.Asked.{Writing}
+use Rattle.changes.proofs.Entries.{own-few}
+use Rattle.changes.proofs.Writable.{writing, bytes-written, none-written}
+use Rattle.zealfs.proofs.Files.{fileCall, Content, content-at, refused-does, directory-does, past-does, file-does}
+
+-- ---- the pages that a write wants
+
+abbrev pub more : (k from n : ℕ) → ℕ
+more k from n = pagesFor (max k (from + n)) - pagesFor k
+
+-- more than 255 pages of 255 bytes no image has
+pub too-long : (free k from n : ℕ) → 65025 < n → free + pagesFor k ≤ 255 → true ≡ ltb free (more k from n)
+too-long free k from n h l = sym (lt-ltb free (more k from n) (omega (arith, fill-up (max k (from + n)))))
+
+pub no-longer : (free k from n : ℕ) → from + n ≤ k → false ≡ ltb free (more k from n)
+no-longer free k from n h = let e : max k (from + n) ≡ k = omega arith in sym (le-ltb free (more k from n) (rw e (omega arith)))
+
+pub longer : (free k from n : ℕ) → k < from + n → ltb free (pagesFor (from + n) - pagesFor k) ≡ ltb free (more k from n)
+longer free k from n h = let e : from + n ≡ max k (from + n) = omega arith in ap (λ (m : ℕ). ltb free (pagesFor m - pagesFor k)) e
+
+pub pages-rise : (k n : ℕ) → k ≤ n → pagesFor k ≤ pagesFor n
+unfolding pagesFor
+pages-rise k n h = omega arith
+
+-- ---- the answer and the image
+
+module _ (b path : Bytes) (from : ℕ) (v : Bytes) where
+  -- a refusal leaves the image as it is
+  abbrev Refuses : Refusal → Type 0
+  Refuses m = (refused m ≡ answer (write path from v) b) × (b ≡ after (write path from v) b)
+
+  abbrev space : Node → Line
+  space n = (ltb (freeNumber (treeOf b)) (more (length (contentIn n)) from (length v)), refusal 10)
+
+  its-lines : refusals (write path from v) (treeOf b) ≡ pathLine path ∷ (walkLines (walked path (treeOf b)) ++ fileCall from space (node path (treeOf b)))
+  unfolding refusals earlier later wanted
+  its-lines = refl
+
+  abbrev result : Node → Bytes
+  result n = written (pathOf path) from v b
+
+  pub write-refused : {m : Refusal} → refused m ≡ placed b path → Refuses m
+  unfolding answer after told effect isFormat
+  write-refused e =
+      (refused-does b path from (write path from v) refl space its-lines refused (λ n. granted (tt {0})) e, refused-does b path from (write path from v) refl space its-lines (λ m. b) result e)
+
+  pub write-directory : (p : Place) → (tagOf the-type p ≡ 0) ⊎ (tagOf the-type p ≡ 2) → granted (spotOf p) ≡ placed b path → Refuses (refusal 7)
+  unfolding answer after told effect isFormat
+  write-directory p k e =
+      (directory-does b path from (write path from v) refl space its-lines refused (λ n. granted (tt {0})) p k e, directory-does b path from (write path from v) refl space its-lines (λ m. b) result p k e)
+
+  module _ {entry begins start k : ℕ} (e : granted (theFile entry begins start k) ≡ placed b path) where
+    content : Content b path entry begins start k
+    content = content-at b path e
+
+    facts : Facts b
+    facts = content .arrived .facts
+
+    pub write-past : k < from → Refuses (refusal 12)
+    unfolding answer after told effect isFormat
+    write-past h =
+        (past-does b path from (write path from v) refl space its-lines refused (λ n. granted (tt {0})) e h, past-does b path from (write path from v) refl space its-lines (λ m. b) result e h)
+
+    -- its pages and the free ones are fewer than 256
+    pub few : freeCount b + pagesFor k ≤ 255
+    few =
+        let o = file-owned b facts (pathOf path) entry begins (content .arrived .at .0) (content .arrived .at .1) in
+        omega (arith, own-few b facts (chain (link b) (pagesFor k) start) o, chain-length (link b) (pagesFor k) start, facts .counted, size b facts .high)
+
+    pub small : k < 65536
+    small = omega (arith, fill-up k, few)
+
+    pub long : 4 ≤ length b
+    long = omega (arith, size b facts .low, size b facts .whole)
+
+    module _ (h : from ≤ k) where
+      pub write-lacking : ltb (freeCount b) (more k from (length v)) ≡ true → Refuses (refusal 10)
+      unfolding answer after told effect isFormat settle contentIn
+      write-lacking l = (
+        rw (content .long, free-number b facts, l) at (file-does b path from (write path from v) refl space its-lines refused (λ n. granted (tt {0})) e h),
+        rw (content .long, free-number b facts, l) at (file-does b path from (write path from v) refl space its-lines (λ m. b) result e h),
+      )
+
+      module _ (l : ltb (freeCount b) (more k from (length v)) ≡ false) where
+        done : (granted (tt {0}) ≡ answer (write path from v) b) × (written (pathOf path) from v b ≡ after (write path from v) b)
+        unfolding answer after told effect isFormat settle contentIn
+        done = (
+          rw (content .long, free-number b facts, l) at (file-does b path from (write path from v) refl space its-lines refused (λ n. granted (tt {0})) e h),
+          rw (content .long, free-number b facts, l) at (file-does b path from (write path from v) refl space its-lines (λ m. b) result e h),
+        )
+
+        pub write-nothing : length v ≡ 0 → (granted (tt {0}) ≡ answer (write path from v) b) × (b ≡ after (write path from v) b)
+        write-nothing z = (done .0, none-written b (pathOf path) from v z ∙ done .1)
+
+        pub writable : Writing entry start k from v b
+        writable = writing b facts (pathOf path) entry begins (content .arrived .at .0) (content .arrived .at .1) from v
+            (omega (arith, ltb-false (freeCount b) (more k from (length v)) l, facts .counted))
+
+        pub write-done : 0 < length v → {b′ : Bytes} → b′ ≡ rewritten entry from v b → (granted (tt {0}) ≡ answer (write path from v) b) × (b′ ≡ after (write path from v) b)
+        write-done z w = (done .0, w ∙ bytes-written b (pathOf path) entry begins (content .arrived .at .0) from v z ∙ done .1)
