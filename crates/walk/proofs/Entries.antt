@@ -1,12 +1,10 @@
 -- The entry of a name: an occupied one has its name and a vacant one none, and the first of a directory that has it is found in order.
 use mathlib.Core.Path.{_≡_, refl, sym, ap, _∙_}
 use mathlib.Core.Logic.{_⊎_, inl, inr}
-use Prim.Native.Nat.{ℕ, zero, suc, _+_, _*_, _-_, _≤_, _<_}
-use native.Mathlib.Nat.{sub-zero}
-use native.Mathlib.Numerals.{add-one}
+use Prim.Native.Nat.{ℕ, zero, suc, _+_, _*_, _≤_, _<_}
 use native.Mathlib.Omega.{arith}
 use mathlib.Core.Bool.{true, false}
-use mathlib.Core.Option.{Option, none, some}
+use mathlib.Core.Option.{none, some}
 use mathlib.Core.List.{map}
 use denote.Enum.Declared.{tagOf}
 use lib.ListN.{length, List·getD-eq-default}
@@ -19,6 +17,7 @@ use Rattle.model.specs.Path.{Name}
 use Rattle.model.specs.Walk.{arrived, missing, blocked, entryNamed, enterOn}
 use Rattle.walk.specs.Steps.{entered}
 use Rattle.fields.proofs.Entry.{the-type}
+use Rattle.fields.proofs.Searches.{Sought, sought-here, sought-none}
 use Rattle.fields.specs.declared.Entry.{Entry}
 use Rattle.fields.specs.declared.Entry.the-variants.{Vacant, File, Directory}
 use Rattle.fields.specs.Read.{entryOf}
@@ -37,36 +36,19 @@ module _ (b n : Bytes) (at : ℕ) (r : Entry) (read : entryOf r (nameAt b at) (d
       named (File start size) k = refl
       named (Directory start size) k = refl
 
--- ---- the entries of a directory, from entry i on
+-- ---- the entries of a directory, from entry i on: those before it have another name
 
-abbrev namedFrom : Bytes → (p : ℕ) → Bytes → ℕ → Option ℕ
-namedFrom b p n i = first (λ at. isNamed n (entryAt b at)) (map (λ j. entriesStart p + 32 * j) (countFrom i (entryCount p - i)))
+abbrev pub Looked : Bytes → (p : ℕ) → Bytes → (i : ℕ) → Type 0
+Looked b p n i = Sought (λ at. isNamed n (entryAt b at)) p i
 
--- the entries before entry i have another name
-pub record Looked (b : Bytes) (p : ℕ) (n : Bytes) (i : ℕ) : Type 0 where
-  pub low : i ≤ entryCount p
-  pub left : entryNamed b p n ≡ namedFrom b p n i
+module _ (b n : Bytes) {p i : ℕ} (l : Looked b p n i) where
+  pub looked-named : i < entryCount p → isNamed n (entryAt b (entriesStart p + 32 * i)) ≡ true → some (entriesStart p + 32 * i) ≡ entryNamed b p n
+  unfolding entryNamed
+  looked-named h e = sought-here l h e
 
-module _ {b n : Bytes} {p : ℕ} where
-  pub looked-first : Looked b p n 0
-  unfolding entryNamed entries
-  looked-first = record { low = omega arith; left = rw (sub-zero (entryCount p)) }
-
-  module _ {i : ℕ} (l : Looked b p n i) where
-    split : i < entryCount p → entryCount p - i ≡ suc (entryCount p - (i + 1))
-    split h = omega arith
-
-    pub looked-named : i < entryCount p → isNamed n (entryAt b (entriesStart p + 32 * i)) ≡ true → some (entriesStart p + 32 * i) ≡ entryNamed b p n
-    unfolding first countFrom
-    looked-named h e = sym (l .left ∙ rw (split h, e))
-
-    pub looked-next : i < entryCount p → isNamed n (entryAt b (entriesStart p + 32 * i)) ≡ false → Looked b p n (i + 1)
-    unfolding first countFrom
-    looked-next h e = record { low = omega arith; left = l .left ∙ rw (split h, e, add-one) }
-
-    pub looked-last : entryCount p ≤ i → none ≡ entryNamed b p n
-    unfolding first countFrom
-    looked-last h = let z : entryCount p - i ≡ 0 = omega arith in sym (l .left ∙ rw z)
+  pub looked-last : entryCount p ≤ i → none ≡ entryNamed b p n
+  unfolding entryNamed
+  looked-last h = sought-none l h
 
 -- ---- a page past the image
 

@@ -1,6 +1,7 @@
 -- `holds_nothing` passes a vacant entry a turn, and an occupied one settles the answer.
 use Rattle.model.specs.Entry.{entryCount}
-use Rattle.changes.proofs.Vacancies.{vacancy, Tested, tested-first, tested-failed, tested-next, tested-all}
+use Rattle.fields.proofs.Searches.{Tested, tested-first, tested-failed, tested-next, tested-all}
+use Rattle.changes.proofs.Vacancies.{vacancy}
 use borrow.Author.Needs.{needs}
 use native.Mathlib.Omega.{arith}
 use mathlib.Core.Path.{_≡_, sym, _∙_}

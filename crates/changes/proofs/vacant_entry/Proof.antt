@@ -1,7 +1,8 @@
 -- `vacant_entry` passes an occupied entry a turn, so the first vacant one that it comes to is the lowest.
 use mathlib.Core.Option.{some}
 use Rattle.model.specs.Entry.{entryCount}
-use Rattle.changes.proofs.Vacancies.{vacancy, Sought, sought-first, sought-here, sought-next, sought-none}
+use Rattle.fields.proofs.Searches.{Sought, sought-first, sought-here, sought-next, sought-none}
+use Rattle.changes.proofs.Vacancies.{vacancy}
 use borrow.Author.Needs.{needs}
 use native.Mathlib.Omega.{arith}
 use mathlib.Core.Path.{_≡_, sym, ap, _∙_}
