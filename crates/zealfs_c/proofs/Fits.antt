@@ -1,0 +1,146 @@
+-- A refusal fits its code: its number is one of the table, and its place is the byte at which a walk stopped, or none.
+use mathlib.Core.Path.{_≡_, refl, sym, subst}
+use Prim.Native.Nat.{_+_, _*_, _%_, _≤_, _<_}
+use native.Mathlib.Omega.{arith}
+use mathlib.Core.Bool.{Bool, true, false, not}
+use mathlib.Core.List.{List, [], _∷_, _++_}
+use lib.ListN.{length}
+use lib.Dec.{T, eqb, leb, ltb, leb→le, ltb→lt}
+use borrow.Author.Tests.{lt-ltb}
+use Rattle.volume.specs.Bytes.{Bytes, if_then_else_}
+use Rattle.volume.specs.Lists.{all, conditions}
+use Rattle.volume.proofs.Tests.{and-both, conditions-cons}
+use Rattle.model.specs.Layout.{pageCount, validLength, validHeader}
+use Rattle.model.specs.Sound.{sound}
+use Rattle.model.specs.Path.{Path, pathOf, noPath, root, below, parents, names}
+use Rattle.model.specs.Image.{treeOf}
+use Rattle.model.specs.Call.{Call, format, verdict, find, list, read, makeFile, makeDirectory, write, remove, Told, Refusal, refusal, Answer, refused, granted}
+use Rattle.model.specs.Refusal.{Line, stoppedAt, walked, walkedParent, walkedDirectory, makeLines, earlier, later, refusals, settle}
+use Rattle.model.specs.Meaning.{told, isFormat, brokenLine, lines, answer}
+use Rattle.zealfs_c.specs.Codes.{refusalCode, codeOf, Apart, placeByte}
+use Rattle.zealfs_c.proofs.Stops.{height, height-at, Spaced, spaced-left, path-spaced, walk-stops, walk-to-stops}
+
+-- ---- where a walk in an image stops
+
+module _ (b : Bytes) (n : pageCount b ≤ 256) (path : Bytes) where
+  height-tree : height (treeOf b .root) ≤ 256
+  unfolding treeOf
+  height-tree = omega (arith, height-at (pageCount b) b 0)
+
+  to-stops : stoppedAt (walked path (treeOf b)) < 65536
+  to-stops = omega (arith, height-tree, walk-to-stops 1 (pathOf path) (treeOf b .root) (path-spaced path))
+
+  directory-stops : stoppedAt (walkedDirectory path (treeOf b)) < 65536
+  directory-stops = omega (arith, height-tree, walk-stops 1 (names (pathOf path)) (treeOf b .root) (path-spaced path))
+
+  parent-stops : stoppedAt (walkedParent path (treeOf b)) < 65536
+  parent-stops = omega (arith, height-tree, walk-stops 1 (parents (pathOf path)) (treeOf b .root) (of (pathOf path) (path-spaced path)))
+    where
+      of : (p : Path) → Spaced 1 (names p) → Spaced 1 (parents p)
+      of noPath s = s
+      of root s = s
+      of (below ns m) s = spaced-left 1 ns (m ∷ []) s
+
+-- ---- what fits a code
+
+-- a number that is not 0, and three numbers of a place that have room
+unfoldable inCode : Refusal → Bool
+inCode m = conditions (leb 1 (m .number) ∷ ltb (m .number) 256 ∷ ltb (m .place .0) 65536 ∷ ltb (m .place .1) 65536 ∷ ltb (m .place .2) 65536 ∷ [])
+
+answerIn : {A : Type 0} → Answer A → Bool
+answerIn (refused m) = inCode m
+answerIn (granted x) = true
+
+settle-in : {A : Type 0} (ls : List Line) (x : A) → T (all (λ (l : Line). inCode (l .1)) ls) → T (answerIn (settle ls refused (granted x)))
+unfolding settle all answerIn
+settle-in [] x h = tt
+settle-in {A} (l ∷ ls) x h =
+    let two = and-both (inCode (l .1)) (all (λ (m : Line). inCode (m .1)) ls) h in
+    go (l .0) (settle ls refused (granted x)) (two .0) (settle-in ls x (two .1))
+  where
+    go : (c : Bool) (rest : Answer A) → T (inCode (l .1)) → T (answerIn rest) → T (answerIn (if c then refused (l .1) else rest))
+    go true rest t next = t
+    go false rest t next = next
+
+-- the lines below the first, which judges the length
+abbrev further : Call → Bytes → List Line
+further c b = if isFormat c then [] else (
+    (not (validHeader b), refusal 2)
+    ∷ (not (sound b), refusal 3)
+    ∷ (refusals c (treeOf b) ++ brokenLine c b))
+
+further-in : (c : Call) (b : Bytes) → pageCount b ≤ 256 → T (all (λ (l : Line). inCode (l .1)) (further c b))
+unfolding isFormat refusals earlier later makeLines brokenLine all inCode
+further-in format b n = tt
+further-in verdict b n = tt
+further-in (find path) b n = rw (lt-ltb _ _ (to-stops b n path)) tt
+further-in (list path i) b n = rw (lt-ltb _ _ (directory-stops b n path)) tt
+further-in (read path at room) b n = rw (lt-ltb _ _ (to-stops b n path)) tt
+further-in (makeFile path date) b n = rw (lt-ltb _ _ (parent-stops b n path)) tt
+further-in (makeDirectory path date) b n = rw (lt-ltb _ _ (parent-stops b n path)) tt
+further-in (write path at v) b n = rw (lt-ltb _ _ (to-stops b n path)) tt
+further-in (remove path) b n = rw (lt-ltb _ _ (to-stops b n path)) tt
+
+few-pages : (b : Bytes) → T (validLength (length b)) → pageCount b ≤ 256
+unfolding validLength
+few-pages b h =
+    let two = conditions-cons (eqb (length b % 2048) 0) (leb 2048 (length b) ∷ leb (length b) 65536 ∷ []) h .1 in
+    let three = conditions-cons (leb 2048 (length b)) (leb (length b) 65536 ∷ []) two .1 in
+    omega (arith, leb→le (length b) 65536 (conditions-cons (leb (length b) 65536) [] three .0))
+
+answer-in : (c : Call) (b : Bytes) → T (answerIn (answer c b))
+unfolding answer lines settle answerIn inCode all
+answer-in c b = go (validLength (length b)) (few-pages b)
+  where
+    go : (v : Bool) → (T v → pageCount b ≤ 256) → T (answerIn (if not v then refused (refusal 1) else settle (further c b) refused (granted (told c (treeOf b)))))
+    go true n = settle-in (further c b) (told c (treeOf b)) (further-in c b (n tt))
+    go false n = tt
+
+-- ---- what the code tells
+
+record InCode (m : Refusal) : Type 0 where
+  pub refuses : 1 ≤ m .number
+  pub number : m .number < 256
+  pub first : m .place .0 < 65536
+  pub second : m .place .1 < 65536
+  pub third : m .place .2 < 65536
+
+in-code : (m : Refusal) → T (inCode m) → InCode m
+unfolding inCode all
+in-code m h =
+    let a = and-both (leb 1 (m .number)) _ h in
+    let b = and-both (ltb (m .number) 256) _ (a .1) in
+    let c = and-both (ltb (m .place .0) 65536) _ (b .1) in
+    let d = and-both (ltb (m .place .1) 65536) _ (c .1) in
+    let e = and-both (ltb (m .place .2) 65536) _ (d .1) in
+    record {
+      refuses = leb→le 1 (m .number) (a .0);
+      number = ltb→lt (m .number) 256 (b .0);
+      first = ltb→lt (m .place .0) 65536 (c .0);
+      second = ltb→lt (m .place .1) 65536 (d .0);
+      third = ltb→lt (m .place .2) 65536 (e .0);
+    }
+
+refused-in : (c : Call) (b : Bytes) (m : Refusal) → answer c b ≡ refused m → InCode m
+unfolding answerIn
+refused-in c b m e = in-code m (subst (λ (a : Answer (Told c)). T (answerIn a)) e (answer-in c b))
+
+-- The code of a refused call is not 0, and it tells number and place.
+pub code-apart : (c : Call) (b : Bytes) (m : Refusal) → answer c b ≡ refused m → Apart (codeOf (answer c b)) m
+unfolding codeOf refusalCode
+code-apart c b m e =
+    let i = refused-in c b m e in
+    let k : codeOf (answer c b) ≡ m .number + 256 * (m .place .0 + 65536 * (m .place .1 + 65536 * m .place .2)) = rw e in
+    record { refuses = omega arith; number = omega arith; first = omega arith; second = omega arith; third = omega arith }
+
+-- the same of the place alone, as the code's functions ask it
+pub refused-fits : (c : Call) (b : Bytes) {m : Refusal} → refused m ≡ answer c b → m .place .0 < 65536
+refused-fits c b {m} e = refused-in c b m (sym e) .first
+
+pub place-fits : (c : Call) (b : Bytes) → placeByte (answer c b) < 65536
+unfolding placeByte
+place-fits c b = go (answer c b) (refused-in c b)
+  where
+    go : (a : Answer (Told c)) → ((m : Refusal) → a ≡ refused m → InCode m) → placeByte a < 65536
+    go (refused m) i = i m refl .first
+    go (granted x) i = omega arith

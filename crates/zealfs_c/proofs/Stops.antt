@@ -1,0 +1,164 @@
+-- Where a walk stops: each name that it passes leads one directory down and takes at most 17 bytes of the path, so it stops at most 17 bytes for
+-- each level of the tree past the first name. The tree of an image is read to a depth of N, so this holds of a path of any length.
+use mathlib.Core.Path.{_≡_, refl, ap}
+use Prim.Native.Nat.{ℕ, zero, suc, _+_, _*_, _≤_, max}
+use native.Mathlib.Omega.{arith}
+use mathlib.Core.Bool.{Bool, true, false, _&&_}
+use mathlib.Core.Option.{Option, none, some}
+use mathlib.Core.List.{List, [], _∷_, _++_, dropLast}
+use lib.ListN.{length}
+use lib.Dec.{T, eqb, leb, leb→le}
+use Rattle.volume.specs.Bytes.{Bytes, same, if_then_else_}
+use Rattle.volume.specs.Lists.{all, lastOr}
+use Rattle.volume.proofs.Tests.{and-both, conditions-cons}
+use Rattle.model.specs.Name.{legalByte, legalText}
+use Rattle.model.specs.Entry.{entries, Entry, vacant, aFile, aDirectory, entryAt}
+use Rattle.model.specs.Tree.{Row, end, free, file, dir, Node, fileNode, directoryNode, lookup}
+use Rattle.model.specs.Path.{Name, Path, noPath, root, below, texts, namesFrom, pathTo, pathOf, names}
+use Rattle.model.specs.Image.{entryRow, rowOf, rowAt}
+use Rattle.model.specs.Walk.{enter, walk, nodeNamed, inWalked, walkTo}
+use Rattle.model.specs.Refusal.{stoppedAt}
+
+-- ---- the levels of a tree
+
+-- the directories that stand within one another below a row
+unfoldable pub height : Row → ℕ
+height end = 0
+height (free r) = height r
+height (file n d v r) = height r
+height (dir n d s r) = max (suc (height s)) (height r)
+
+height-entry : (k : ℕ) (b : Bytes) (g : ℕ → Row) → ((p : ℕ) → height (g p) ≤ k) → (x : Entry) (rest : Row) → height rest ≤ suc k
+    → height (entryRow b g x rest) ≤ suc k
+unfolding height entryRow
+height-entry k b g h vacant rest r = r
+height-entry k b g h (aFile name date start size) rest r = r
+height-entry k b g h (aDirectory name date start size) rest r = omega (arith, h start)
+
+height-row : (k : ℕ) (b : Bytes) (g : ℕ → Row) → ((p : ℕ) → height (g p) ≤ k) → (ats : List ℕ) → height (rowOf b g ats) ≤ suc k
+unfolding height rowOf
+height-row k b g h [] = omega arith
+height-row k b g h (at ∷ ats) = height-entry k b g h (entryAt b at) (rowOf b g ats) (height-row k b g h ats)
+
+pub height-at : (k : ℕ) (b : Bytes) (p : ℕ) → height (rowAt k b p) ≤ k
+unfolding height rowAt
+height-at zero b p = omega arith
+height-at (suc k) b p = height-row k b (rowAt k b) (λ q. height-at k b q) (entries p)
+
+-- a directory that a row holds has a level less
+abbrev Lower : Option Node → ℕ → Type 0
+Lower none k = Unit {0}
+Lower (some (fileNode d v)) k = Unit {0}
+Lower (some (directoryNode d r)) k = suc (height r) ≤ k
+
+lower-more : (o : Option Node) (k j : ℕ) → k ≤ j → Lower o k → Lower o j
+lower-more none k j h l = tt
+lower-more (some (fileNode d v)) k j h l = tt
+lower-more (some (directoryNode d r)) k j h l = omega arith
+
+lookup-lower : (n : Bytes) (r : Row) → Lower (lookup n r) (height r)
+unfolding lookup height
+lookup-lower n end = tt
+lookup-lower n (free r) = lookup-lower n r
+lookup-lower n (file m d v r) = go (same m n) (lookup n r) (lookup-lower n r)
+  where
+    go : (c : Bool) (o : Option Node) → Lower o (height r) → Lower (if c then some (fileNode d v) else o) (height r)
+    go true o l = tt
+    go false o l = l
+lookup-lower n (dir m d s r) = go (same m n) (lookup n r) (lookup-lower n r)
+  where
+    go : (c : Bool) (o : Option Node) → Lower o (height r) → Lower (if c then some (directoryNode d s) else o) (max (suc (height s)) (height r))
+    go true o l = omega arith
+    go false o l = lower-more o (height r) (max (suc (height s)) (height r)) (omega arith) l
+
+-- ---- the names of a path
+
+-- the first begins at byte k at the latest, and each at most 17 bytes later than the one before it may
+unfoldable pub Spaced : ℕ → List Name → Type 0
+Spaced k [] = Unit {0}
+Spaced k (n ∷ ns) = (n .begins ≤ k) × Spaced (k + 17) ns
+
+spaced-later : (k j : ℕ) (ns : List Name) → k ≤ j → Spaced k ns → Spaced j ns
+unfolding Spaced
+spaced-later k j [] h s = tt
+spaced-later k j (n ∷ ns) h s = (omega (arith, s .0), spaced-later (k + 17) (j + 17) ns (omega arith) (s .1))
+
+pub spaced-left : (k : ℕ) (ns ms : List Name) → Spaced k (ns ++ ms) → Spaced k ns
+unfolding Spaced
+spaced-left k [] ms s = tt
+spaced-left k (n ∷ ns) ms s = (s .0, spaced-left (k + 17) ns ms (s .1))
+
+text-short : (v : Bytes) → T (legalText v) → length v ≤ 16
+unfolding legalText
+text-short v h =
+    let rest = conditions-cons (leb 1 (length v)) (leb (length v) 16 ∷ all legalByte v ∷ []) h .1 in
+    leb→le (length v) 16 (conditions-cons (leb (length v) 16) (all legalByte v ∷ []) rest .0)
+
+names-spaced : (i : ℕ) (vs : List Bytes) → T (all legalText vs) → Spaced i (namesFrom i vs)
+unfolding Spaced namesFrom all
+names-spaced i [] h = tt
+names-spaced i (v ∷ vs) h =
+    let two = and-both (legalText v) (all legalText vs) h in
+    (omega arith, spaced-later (i + length v + 1) (i + 17) (namesFrom (i + length v + 1) vs) (omega (arith, text-short v (two .0))) (names-spaced (i + length v + 1) vs (two .1)))
+
+last-joined : (n : Name) (ns : List Name) → dropLast (n ∷ ns) ++ (lastOr n ns ∷ []) ≡ n ∷ ns
+unfolding lastOr
+last-joined n [] = refl
+last-joined n (m ∷ ns) = ap (λ (l : List Name). n ∷ l) (last-joined m ns)
+
+path-to-spaced : (k : ℕ) (ns : List Name) → Spaced k ns → Spaced k (names (pathTo ns))
+unfolding pathTo Spaced
+path-to-spaced k [] s = tt
+path-to-spaced k (n ∷ ns) s = rw (last-joined n ns) s
+
+pub path-spaced : (path : Bytes) → Spaced 1 (names (pathOf path))
+unfolding pathOf Spaced
+path-spaced [] = tt
+path-spaced (c ∷ []) = go (eqb c 0x2F)
+  where
+    go : (t : Bool) → Spaced 1 (names (if t then root else noPath))
+    go true = tt
+    go false = tt
+path-spaced (c ∷ d ∷ r) = go (eqb c 0x2F) (all legalText (texts (d ∷ r))) (names-spaced 1 (texts (d ∷ r)))
+  where
+    go : (t u : Bool) → (T u → Spaced 1 (namesFrom 1 (texts (d ∷ r)))) → Spaced 1 (names (if t && u then pathTo (namesFrom 1 (texts (d ∷ r))) else noPath))
+    go true true s = path-to-spaced 1 (namesFrom 1 (texts (d ∷ r))) (s tt)
+    go true false s = tt
+    go false u s = tt
+
+-- ---- the walk
+
+pub walk-stops : (k : ℕ) (ns : List Name) (r : Row) → Spaced k ns → stoppedAt (walk ns r) ≤ k + 17 * height r
+unfolding walk enter Spaced stoppedAt
+walk-stops k [] r s = omega arith
+walk-stops k (n ∷ ns) r s = go (lookup (n .bytes) r) (lookup-lower (n .bytes) r) (λ q. walk-stops (k + 17) ns q (s .1))
+  where
+    go : (o : Option Node) → Lower o (height r) → ((q : Row) → stoppedAt (walk ns q) ≤ k + 17 + 17 * height q)
+        → stoppedAt (enter n o (walk ns)) ≤ k + 17 * height r
+    go none l next = omega (arith, s .0)
+    go (some (fileNode d v)) l next = omega (arith, s .0)
+    go (some (directoryNode d q)) l next = omega (arith, next q)
+
+-- with the last name, which is looked up in the directory that the others lead to
+below-stops : (k : ℕ) (ns : List Name) (n : Name) (r : Row) → Spaced k (ns ++ (n ∷ []))
+    → stoppedAt (inWalked (walk ns r) (λ s. nodeNamed n (lookup (n .bytes) s))) ≤ k + 17 * height r
+unfolding walk enter nodeNamed inWalked Spaced stoppedAt
+below-stops k [] n r s = go (lookup (n .bytes) r)
+  where
+    go : (o : Option Node) → stoppedAt (nodeNamed n o) ≤ k + 17 * height r
+    go none = omega (arith, s .0)
+    go (some x) = omega arith
+below-stops k (m ∷ ns) n r s = go (lookup (m .bytes) r) (lookup-lower (m .bytes) r) (λ q. below-stops (k + 17) ns n q (s .1))
+  where
+    go : (o : Option Node) → Lower o (height r)
+        → ((q : Row) → stoppedAt (inWalked (walk ns q) (λ s. nodeNamed n (lookup (n .bytes) s))) ≤ k + 17 + 17 * height q)
+        → stoppedAt (inWalked (enter m o (walk ns)) (λ s. nodeNamed n (lookup (n .bytes) s))) ≤ k + 17 * height r
+    go none l next = omega (arith, s .0)
+    go (some (fileNode d v)) l next = omega (arith, s .0)
+    go (some (directoryNode d q)) l next = omega (arith, next q)
+
+pub walk-to-stops : (k : ℕ) (p : Path) (r : Row) → Spaced k (names p) → stoppedAt (walkTo p r) ≤ k + 17 * height r
+unfolding walkTo stoppedAt
+walk-to-stops k noPath r s = omega arith
+walk-to-stops k root r s = omega arith
+walk-to-stops k (below ns n) r s = below-stops k ns n r s

@@ -1,0 +1,205 @@
+// The calls of `zealfs` for C, one function for each; include/zealfs.h declares them. None has a `requires`: whatever the bytes, a function
+// returns the code of the model's `answer`, puts what the answer tells into the out arrays, zeros beside a refusal, and leaves the image and
+// the reader's buffer as `after` and `bufferAfter` say. To C a slice is a pointer and then a length, and a reference to an array a pointer.
+use fields::Position;
+use refusals::Refusal;
+use zealfs::ChangeAnswer;
+use zealfs::FindAnswer;
+use zealfs::ListAnswer;
+use zealfs::ReadAnswer;
+use zealfs::VerdictAnswer;
+ghost use mathlib.Core.Path.{_≡_};
+ghost use Prim.Native.Nat.{_<_};
+ghost use Rattle.model.specs.Call.{format, verdict, find, list, read, makeFile, makeDirectory, write, remove};
+ghost use Rattle.model.specs.Meaning.{answer, after, bufferAfter};
+ghost use Rattle.refusals.specs.Told.{told};
+ghost use Rattle.zealfs.specs.Answers.{changeAnswer, findDate, listName, listDate};
+ghost use Rattle.zealfs_c.specs.Codes.{refusalCode, codeOf, placeByte, verdictOut, findOut, listOut, readOut};
+
+// The byte of the path that a refusal points at, 0 where there is none.
+fn place(r: Refusal) -> u64
+    ensures { λ n. ⌜ n ≡ told r .place .0 ⌝ }
+{
+    match r {
+        Refusal::NoSuchName(byte) => byte as u64,
+        Refusal::NotADirectory(byte) => byte as u64,
+        _ => 0,
+    }
+}
+
+// A refusal as C gets it. A walk stops within the first 65,536 bytes of a path of any length, so the place has room: law `place-fits`.
+fn code(r: Refusal) -> u64
+    requires { ⌜ told r .place .0 < 65536 ⌝ }
+    ensures { λ n. ⌜ n ≡ refusalCode (told r) ⌝ }
+{
+    refusals::number(r) as u64 + 256 * place(r)
+}
+
+// The code of a call that tells nothing else.
+fn change_code(a: ChangeAnswer) -> u64
+    requires { ⌜ placeByte (changeAnswer a) < 65536 ⌝ }
+    ensures { λ n. ⌜ n ≡ codeOf (changeAnswer a) ⌝ }
+{
+    match a {
+        ChangeAnswer::Done => 0,
+        ChangeAnswer::Refused(r) => code(r),
+    }
+}
+
+// ---- the calls
+
+#[no_mangle]
+pub extern "C" fn zealfs_format(image: &mut [u8]) -> u64
+    ensures { λ r. ⌜ r ≡ codeOf (answer format (now (image .entry))) ⌝ }
+    ensures { λ _. ⌜ now (image .exit) ≡ after format (now (image .entry)) ⌝ }
+{
+    change_code(zealfs::format(image))
+}
+
+// out: the pages, the free number.
+#[no_mangle]
+pub extern "C" fn zealfs_verdict(image: &[u8], out: &mut [u64; 2]) -> u64
+    ensures { λ r. ⌜ r ≡ codeOf (answer verdict (now (image .entry))) ⌝ }
+    ensures { λ _. ⌜ now (out .exit) ≡ verdictOut (answer verdict (now (image .entry))) ⌝ }
+{
+    match zealfs::verdict(image) {
+        VerdictAnswer::Sound(pages, free) => {
+            *out = [pages as u64, free as u64];
+            0
+        }
+        VerdictAnswer::Refused(r) => {
+            *out = [0; 2];
+            code(r)
+        }
+    }
+}
+
+// out: the kind (0 a file, 1 a directory), the size.
+#[no_mangle]
+pub extern "C" fn zealfs_find(
+    image: &[u8],
+    path: &[u8],
+    out: &mut [u64; 2],
+    date: &mut [u8; 8],
+) -> u64
+    ensures { λ r. ⌜ r ≡ codeOf (answer (find (now (path .entry))) (now (image .entry))) ⌝ }
+    ensures { λ _. ⌜ now (out .exit) ≡ findOut (answer (find (now (path .entry))) (now (image .entry))) ⌝ }
+    ensures { λ _. ⌜ now (date .exit) ≡ findDate (answer (find (now (path .entry))) (now (image .entry))) ⌝ }
+{
+    let found = zealfs::find(image, path);
+    let found_date = found.date;
+    *date = found_date;
+    let answer = found.answer;
+    match answer {
+        FindAnswer::File(size) => {
+            *out = [0, size as u64];
+            0
+        }
+        FindAnswer::Directory => {
+            *out = [1, 256];
+            0
+        }
+        FindAnswer::Refused(r) => {
+            *out = [0; 2];
+            code(r)
+        }
+    }
+}
+
+// out: 1 if the entry is occupied, its kind (0 a file, 1 a directory), its size. All are 0 for an empty one.
+#[no_mangle]
+pub extern "C" fn zealfs_list(
+    image: &[u8],
+    path: &[u8],
+    entry: u64,
+    out: &mut [u64; 3],
+    name: &mut [u8; 16],
+    date: &mut [u8; 8],
+) -> u64
+    ensures { λ r. ⌜ r ≡ codeOf (answer (list (now (path .entry)) entry) (now (image .entry))) ⌝ }
+    ensures { λ _. ⌜ now (out .exit) ≡ listOut (answer (list (now (path .entry)) entry) (now (image .entry))) ⌝ }
+    ensures { λ _. ⌜ now (name .exit) ≡ listName (answer (list (now (path .entry)) entry) (now (image .entry))) ⌝ }
+    ensures { λ _. ⌜ now (date .exit) ≡ listDate (answer (list (now (path .entry)) entry) (now (image .entry))) ⌝ }
+{
+    let listed = zealfs::list(image, path, entry as usize);
+    let listed_name = listed.name;
+    *name = listed_name;
+    let listed_date = listed.date;
+    *date = listed_date;
+    let answer = listed.answer;
+    match answer {
+        ListAnswer::Empty => {
+            *out = [0; 3];
+            0
+        }
+        ListAnswer::File(size) => {
+            *out = [1, 0, size as u64];
+            0
+        }
+        ListAnswer::Directory => {
+            *out = [1, 1, 256];
+            0
+        }
+        ListAnswer::Refused(r) => {
+            *out = [0; 3];
+            code(r)
+        }
+    }
+}
+
+// out: the number of bytes copied.
+#[no_mangle]
+pub extern "C" fn zealfs_read(
+    image: &[u8],
+    path: &[u8],
+    position: u64,
+    buffer: &mut [u8],
+    out: &mut [u64; 1],
+) -> u64
+    ensures { λ r. ⌜ r ≡ codeOf (answer (read (now (path .entry)) position (now (buffer .entry))) (now (image .entry))) ⌝ }
+    ensures { λ _. ⌜ now (out .exit) ≡ readOut (answer (read (now (path .entry)) position (now (buffer .entry))) (now (image .entry))) ⌝ }
+    ensures { λ _. ⌜ now (buffer .exit) ≡ bufferAfter (read (now (path .entry)) position (now (buffer .entry))) (now (image .entry)) ⌝ }
+{
+    match zealfs::read(image, path, Position(position as usize), buffer) {
+        ReadAnswer::Copied(count) => {
+            *out = [count as u64];
+            0
+        }
+        ReadAnswer::Refused(r) => {
+            *out = [0; 1];
+            code(r)
+        }
+    }
+}
+
+#[no_mangle]
+pub extern "C" fn zealfs_make_file(image: &mut [u8], path: &[u8], date: &[u8]) -> u64
+    ensures { λ r. ⌜ r ≡ codeOf (answer (makeFile (now (path .entry)) (now (date .entry))) (now (image .entry))) ⌝ }
+    ensures { λ _. ⌜ now (image .exit) ≡ after (makeFile (now (path .entry)) (now (date .entry))) (now (image .entry)) ⌝ }
+{
+    change_code(zealfs::make_file(image, path, date))
+}
+
+#[no_mangle]
+pub extern "C" fn zealfs_make_directory(image: &mut [u8], path: &[u8], date: &[u8]) -> u64
+    ensures { λ r. ⌜ r ≡ codeOf (answer (makeDirectory (now (path .entry)) (now (date .entry))) (now (image .entry))) ⌝ }
+    ensures { λ _. ⌜ now (image .exit) ≡ after (makeDirectory (now (path .entry)) (now (date .entry))) (now (image .entry)) ⌝ }
+{
+    change_code(zealfs::make_directory(image, path, date))
+}
+
+#[no_mangle]
+pub extern "C" fn zealfs_write(image: &mut [u8], path: &[u8], position: u64, bytes: &[u8]) -> u64
+    ensures { λ r. ⌜ r ≡ codeOf (answer (write (now (path .entry)) position (now (bytes .entry))) (now (image .entry))) ⌝ }
+    ensures { λ _. ⌜ now (image .exit) ≡ after (write (now (path .entry)) position (now (bytes .entry))) (now (image .entry)) ⌝ }
+{
+    change_code(zealfs::write(image, path, Position(position as usize), bytes))
+}
+
+#[no_mangle]
+pub extern "C" fn zealfs_remove(image: &mut [u8], path: &[u8]) -> u64
+    ensures { λ r. ⌜ r ≡ codeOf (answer (remove (now (path .entry))) (now (image .entry))) ⌝ }
+    ensures { λ _. ⌜ now (image .exit) ≡ after (remove (now (path .entry))) (now (image .entry)) ⌝ }
+{
+    change_code(zealfs::remove(image, path))
+}

@@ -1,0 +1,69 @@
+/*
+ * ZealFS version 1 over an image in memory: the functions of libzealfs_c.a (crates/zealfs_c, built by `rt staticlib zealfs_c`).
+ *
+ * Whatever the bytes, each function answers, and always returns. The result is 0 when the call is granted, else the code of a refusal:
+ *
+ *     number + 256 * (a + 65536 * (b + 65536 * c))
+ *
+ * a, b, c being its place. For 5 and 6, a is the byte of the path at which the name begins; every other place is 0.
+ *
+ *      1  the image's length is not one of the allowed         8  make: the name is there already, or the path is "/"
+ *      2  byte 0, 1 or 2 of the image is wrong                 9  make: no empty entry
+ *      3  the image is not sound                              10  make or write: more pages wanted than are free
+ *      4  the path is no path                                 11  make: the date is not good
+ *      5  a name of the path isn't in its directory           12  position past the size, or entry past the directory's last
+ *      6  a file stands where a directory is needed           13  remove: the directory holds something
+ *      7  read or write: the path is a directory              14  remove: the path is "/"
+ *
+ * (15, a broken chain, is never given: such an image is not sound.) A refused call sets its out arrays to zeros and changes no other byte.
+ *
+ * What the caller sees to: a pointer is not null and points to as many initialized elements as the length after it or the array's bound
+ * says, and what a function may write overlaps nothing else that it is handed. A path has a length and no final 0.
+ */
+#ifndef ZEALFS_H
+#define ZEALFS_H
+
+#include <stddef.h>
+#include <stdint.h>
+
+#ifdef __cplusplus
+extern "C" {
+#endif
+
+/* Writes page 0; every other byte stays. It judges only the image's length. */
+uint64_t zealfs_format(uint8_t *image, size_t image_len);
+
+/* out: pages, free pages. */
+uint64_t zealfs_verdict(const uint8_t *image, size_t image_len, uint64_t out[2]);
+
+/* out: kind (0 file, 1 directory), size. The root's date is zeros. */
+uint64_t zealfs_find(const uint8_t *image, size_t image_len, const uint8_t *path, size_t path_len, uint64_t out[2], uint8_t date[8]);
+
+/* out: occupied (0 or 1), kind, size. The name is padded with zeros; for an empty entry all is 0. Entries count from 0. */
+uint64_t zealfs_list(const uint8_t *image, size_t image_len, const uint8_t *path, size_t path_len, uint64_t entry, uint64_t out[3],
+                     uint8_t name[16], uint8_t date[8]);
+
+/* out: the number of bytes copied to the front of the buffer, which stays behind them. */
+uint64_t zealfs_read(const uint8_t *image, size_t image_len, const uint8_t *path, size_t path_len, uint64_t position, uint8_t *buffer,
+                     size_t buffer_len, uint64_t out[1]);
+
+/* A date has 8 bytes of two BCD digits: century, year, month, day, weekday, hour, minute, second. */
+uint64_t zealfs_make_file(uint8_t *image, size_t image_len, const uint8_t *path, size_t path_len, const uint8_t *date, size_t date_len);
+uint64_t zealfs_make_directory(uint8_t *image, size_t image_len, const uint8_t *path, size_t path_len, const uint8_t *date, size_t date_len);
+
+/* Replaces bytes from a position on that is at most the size, and lengthens the file where they reach past its end. */
+uint64_t zealfs_write(uint8_t *image, size_t image_len, const uint8_t *path, size_t path_len, uint64_t position, const uint8_t *bytes,
+                      size_t bytes_len);
+
+/* Removes a file or an empty directory. */
+uint64_t zealfs_remove(uint8_t *image, size_t image_len, const uint8_t *path, size_t path_len);
+
+/* The parts of a code: the number, 0 when the call was granted, and number i of the place, i being 0, 1 or 2. */
+static inline unsigned zealfs_number(uint64_t code) { return (unsigned)(code & 0xff); }
+static inline unsigned zealfs_place(uint64_t code, int i) { return (unsigned)(code >> (8 + 16 * i) & 0xffff); }
+
+#ifdef __cplusplus
+}
+#endif
+
+#endif
