@@ -1,0 +1,169 @@
+//! The boundary to the C library `libzealfs_c.a`. All unsafe code is here.
+
+use crate::calls::{Answer, Calls, DATE_BYTES, NAME_BYTES};
+
+/// Declares and calls functions of the library. The arguments after the
+/// semicolon are arrays of fixed length that the library fills; these two
+/// macros alone decide how they are passed. With a length beside each pointer
+/// the marked lines become `$($array: *mut $of, _: usize),*` and
+/// `$($array.as_mut_ptr(), $array.len()),*`.
+macro_rules! declare {
+    ($($function:ident($($lent:ident: $type:ty),*; $($array:ident: $of:ty),*);)*) => {
+        extern "C" {
+            $(fn $function(
+                $($lent: $type,)*
+                $($array: *mut $of),* // how arrays are declared
+            ) -> u64;)*
+        }
+    };
+}
+
+macro_rules! call {
+    ($function:ident($($lent:expr),*; $($array:expr),*)) => {
+        // SAFETY: every pointer comes from a slice or an array that is lent
+        // for the time of the call, together with its length, and the arrays
+        // have the lengths that the header states.
+        unsafe {
+            $function(
+                $($lent,)*
+                $($array.as_mut_ptr()),* // how arrays are passed
+            )
+        }
+    };
+}
+
+declare! {
+    zealfs_format(image: *mut u8, image_len: usize;);
+    zealfs_verdict(image: *const u8, image_len: usize; out: u64);
+    zealfs_find(image: *const u8, image_len: usize, path: *const u8, path_len: usize;
+        out: u64, date: u8);
+    zealfs_list(image: *const u8, image_len: usize, path: *const u8, path_len: usize, entry: u64;
+        out: u64, name: u8, date: u8);
+    zealfs_read(image: *const u8, image_len: usize, path: *const u8, path_len: usize,
+        position: u64, buffer: *mut u8, buffer_len: usize; out: u64);
+    zealfs_make_file(image: *mut u8, image_len: usize, path: *const u8, path_len: usize,
+        date: *const u8, date_len: usize;);
+    zealfs_make_directory(image: *mut u8, image_len: usize, path: *const u8, path_len: usize,
+        date: *const u8, date_len: usize;);
+    zealfs_write(image: *mut u8, image_len: usize, path: *const u8, path_len: usize,
+        position: u64, bytes: *const u8, bytes_len: usize;);
+    zealfs_remove(image: *mut u8, image_len: usize, path: *const u8, path_len: usize;);
+}
+
+/// The C library.
+pub struct Library;
+
+/// What the out arrays hold before a call, so that one the library forgets to
+/// set is seen.
+const UNSET: u64 = 0xA5A5_A5A5_A5A5_A5A5;
+const UNSET_BYTE: u8 = 0xA5;
+
+/// Bytes after an out array that the library has to leave alone.
+const REST: usize = 8;
+
+fn check_rest<T: PartialEq>(rest: &[T], unset: T) {
+    let is_kept = rest.iter().all(|item| *item == unset);
+    assert!(is_kept, "the library writes past an out array");
+}
+
+/// An array without the rest after it.
+fn first<const LENGTH: usize>(bytes: &[u8]) -> [u8; LENGTH] {
+    bytes[..LENGTH].try_into().expect("an array and its rest")
+}
+
+/// An answer whose number and place are those that the library returned.
+fn answer(returned: u64) -> Answer {
+    Answer {
+        number: returned as u8,
+        place: [
+            returned >> 8 & 0xFFFF,
+            returned >> 24 & 0xFFFF,
+            returned >> 40,
+        ],
+        ..Answer::default()
+    }
+}
+
+impl Calls for Library {
+    fn format(&self, image: &mut [u8]) -> Answer {
+        answer(call!(zealfs_format(image.as_mut_ptr(), image.len();)))
+    }
+
+    fn verdict(&self, image: &[u8]) -> Answer {
+        let mut values = [UNSET; 3];
+        let returned = call!(zealfs_verdict(image.as_ptr(), image.len(); values[..2]));
+        check_rest(&values[2..], UNSET);
+        Answer {
+            values: [values[0], values[1], 0],
+            ..answer(returned)
+        }
+    }
+
+    fn find(&self, image: &[u8], path: &[u8]) -> Answer {
+        let mut values = [UNSET; 3];
+        let mut date = [UNSET_BYTE; DATE_BYTES + REST];
+        let returned = call!(zealfs_find(
+            image.as_ptr(), image.len(), path.as_ptr(), path.len();
+            values[..2], date[..DATE_BYTES]));
+        check_rest(&values[2..], UNSET);
+        check_rest(&date[DATE_BYTES..], UNSET_BYTE);
+        Answer {
+            values: [values[0], values[1], 0],
+            date: first(&date),
+            ..answer(returned)
+        }
+    }
+
+    fn list(&self, image: &[u8], path: &[u8], entry: u64) -> Answer {
+        let mut values = [UNSET; 4];
+        let mut name = [UNSET_BYTE; NAME_BYTES + REST];
+        let mut date = [UNSET_BYTE; DATE_BYTES + REST];
+        let returned = call!(zealfs_list(
+            image.as_ptr(), image.len(), path.as_ptr(), path.len(), entry;
+            values[..3], name[..NAME_BYTES], date[..DATE_BYTES]));
+        check_rest(&values[3..], UNSET);
+        check_rest(&name[NAME_BYTES..], UNSET_BYTE);
+        check_rest(&date[DATE_BYTES..], UNSET_BYTE);
+        Answer {
+            values: [values[0], values[1], values[2]],
+            name: first(&name),
+            date: first(&date),
+            ..answer(returned)
+        }
+    }
+
+    fn read(&self, image: &[u8], path: &[u8], position: u64, buffer: &mut [u8]) -> Answer {
+        let mut values = [UNSET; 2];
+        let returned = call!(zealfs_read(
+            image.as_ptr(), image.len(), path.as_ptr(), path.len(), position,
+            buffer.as_mut_ptr(), buffer.len(); values[..1]));
+        check_rest(&values[1..], UNSET);
+        Answer {
+            values: [values[0], 0, 0],
+            ..answer(returned)
+        }
+    }
+
+    fn make_file(&self, image: &mut [u8], path: &[u8], date: &[u8]) -> Answer {
+        answer(call!(zealfs_make_file(
+            image.as_mut_ptr(), image.len(), path.as_ptr(), path.len(),
+            date.as_ptr(), date.len();)))
+    }
+
+    fn make_directory(&self, image: &mut [u8], path: &[u8], date: &[u8]) -> Answer {
+        answer(call!(zealfs_make_directory(
+            image.as_mut_ptr(), image.len(), path.as_ptr(), path.len(),
+            date.as_ptr(), date.len();)))
+    }
+
+    fn write(&self, image: &mut [u8], path: &[u8], position: u64, bytes: &[u8]) -> Answer {
+        answer(call!(zealfs_write(
+            image.as_mut_ptr(), image.len(), path.as_ptr(), path.len(), position,
+            bytes.as_ptr(), bytes.len();)))
+    }
+
+    fn remove(&self, image: &mut [u8], path: &[u8]) -> Answer {
+        answer(call!(zealfs_remove(
+            image.as_mut_ptr(), image.len(), path.as_ptr(), path.len();)))
+    }
+}

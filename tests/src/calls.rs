@@ -1,0 +1,234 @@
+//! The nine calls on raw bytes, as a trait, and the form of their answers.
+
+use std::fmt;
+
+/// Bytes of a stored date.
+pub const DATE_BYTES: usize = 8;
+/// Bytes of a stored name, padding included.
+pub const NAME_BYTES: usize = 16;
+/// The size that a directory answers.
+pub const DIRECTORY_SIZE: u64 = 256;
+
+/// A number of the refusal table, with its place.
+#[derive(Clone, Copy, Debug, PartialEq, Eq)]
+pub struct Refusal {
+    pub number: u8,
+    pub place: [u64; 3],
+}
+
+impl Refusal {
+    /// A refusal that has no place: every number but 5 and 6.
+    pub fn number(number: u8) -> Refusal {
+        Refusal {
+            number,
+            place: [0; 3],
+        }
+    }
+
+    /// 5 or 6, with the byte of the path at which the name begins.
+    pub fn at_name(number: u8, begins: usize) -> Refusal {
+        Refusal {
+            number,
+            place: [begins as u64, 0, 0],
+        }
+    }
+}
+
+/// What an entry is.
+#[derive(Clone, Copy, Debug, PartialEq, Eq)]
+pub enum Kind {
+    File,
+    Directory,
+}
+
+impl Kind {
+    /// The number that stands for the kind in an answer.
+    pub fn value(self) -> u64 {
+        match self {
+            Kind::File => 0,
+            Kind::Directory => 1,
+        }
+    }
+}
+
+/// Everything that a call answers, in one form for all nine: what a call has
+/// no use for is zero, and so is all of it on a refusal.
+#[derive(Clone, Debug, Default, PartialEq, Eq)]
+pub struct Answer {
+    /// 0 when granted, else the number that says no.
+    pub number: u8,
+    pub place: [u64; 3],
+    /// verdict: pages, free; find: kind, size; list: occupied, kind, size;
+    /// read: count.
+    pub values: [u64; 3],
+    pub name: [u8; NAME_BYTES],
+    pub date: [u8; DATE_BYTES],
+}
+
+impl Answer {
+    /// A granted call that has nothing to tell.
+    pub fn granted() -> Answer {
+        Answer::default()
+    }
+
+    pub fn refused(refusal: Refusal) -> Answer {
+        Answer {
+            number: refusal.number,
+            place: refusal.place,
+            ..Answer::default()
+        }
+    }
+
+    pub fn verdict(pages: u64, free: u64) -> Answer {
+        Answer {
+            values: [pages, free, 0],
+            ..Answer::default()
+        }
+    }
+
+    pub fn found(kind: Kind, size: u64, date: [u8; DATE_BYTES]) -> Answer {
+        Answer {
+            values: [kind.value(), size, 0],
+            date,
+            ..Answer::default()
+        }
+    }
+
+    /// An occupied entry of a directory.
+    pub fn occupied(
+        kind: Kind,
+        name: [u8; NAME_BYTES],
+        size: u64,
+        date: [u8; DATE_BYTES],
+    ) -> Answer {
+        Answer {
+            values: [1, kind.value(), size],
+            name,
+            date,
+            ..Answer::default()
+        }
+    }
+
+    /// An empty entry of a directory: nothing of it is told.
+    pub fn empty_entry() -> Answer {
+        Answer::default()
+    }
+
+    /// The number of bytes that a read copied.
+    pub fn count(count: u64) -> Answer {
+        Answer {
+            values: [count, 0, 0],
+            ..Answer::default()
+        }
+    }
+
+    pub fn is_granted(&self) -> bool {
+        self.number == 0
+    }
+}
+
+impl From<Result<Answer, Refusal>> for Answer {
+    fn from(result: Result<Answer, Refusal>) -> Answer {
+        result.unwrap_or_else(Answer::refused)
+    }
+}
+
+impl fmt::Display for Answer {
+    /// Short, and complete: what is zero is left out.
+    fn fmt(&self, out: &mut fmt::Formatter) -> fmt::Result {
+        match self.number {
+            0 => write!(out, "granted")?,
+            number => write!(out, "refused {number}")?,
+        }
+        if self.place != [0; 3] {
+            write!(out, ", place {:?}", self.place)?;
+        }
+        if self.values != [0; 3] {
+            write!(out, ", values {:?}", self.values)?;
+        }
+        if self.name != [0; NAME_BYTES] {
+            write!(out, ", name \"{}\"", self.name.escape_ascii())?;
+        }
+        if self.date != [0; DATE_BYTES] {
+            write!(out, ", date {:02X?}", self.date)?;
+        }
+        Ok(())
+    }
+}
+
+/// An implementation of the nine calls over a lent image.
+pub trait Calls {
+    fn format(&self, image: &mut [u8]) -> Answer;
+    fn verdict(&self, image: &[u8]) -> Answer;
+    fn find(&self, image: &[u8], path: &[u8]) -> Answer;
+    fn list(&self, image: &[u8], path: &[u8], entry: u64) -> Answer;
+    fn read(&self, image: &[u8], path: &[u8], position: u64, buffer: &mut [u8]) -> Answer;
+    fn make_file(&self, image: &mut [u8], path: &[u8], date: &[u8]) -> Answer;
+    fn make_directory(&self, image: &mut [u8], path: &[u8], date: &[u8]) -> Answer;
+    fn write(&self, image: &mut [u8], path: &[u8], position: u64, bytes: &[u8]) -> Answer;
+    fn remove(&self, image: &mut [u8], path: &[u8]) -> Answer;
+}
+
+/// One call with its arguments. The bytes of a read are what the reader's
+/// buffer holds beforehand.
+#[derive(Clone, Debug, PartialEq, Eq)]
+pub enum Call {
+    Format,
+    Verdict,
+    Find(Vec<u8>),
+    List(Vec<u8>, u64),
+    Read(Vec<u8>, u64, Vec<u8>),
+    MakeFile(Vec<u8>, Vec<u8>),
+    MakeDirectory(Vec<u8>, Vec<u8>),
+    Write(Vec<u8>, u64, Vec<u8>),
+    Remove(Vec<u8>),
+}
+
+/// The names of the calls, in the order of [`Call::index`].
+pub const CALL_NAMES: [&str; 9] = [
+    "format",
+    "verdict",
+    "find",
+    "list",
+    "read",
+    "make_file",
+    "make_directory",
+    "write",
+    "remove",
+];
+
+impl Call {
+    /// Which of the nine it is.
+    pub fn index(&self) -> usize {
+        match self {
+            Call::Format => 0,
+            Call::Verdict => 1,
+            Call::Find(..) => 2,
+            Call::List(..) => 3,
+            Call::Read(..) => 4,
+            Call::MakeFile(..) => 5,
+            Call::MakeDirectory(..) => 6,
+            Call::Write(..) => 7,
+            Call::Remove(..) => 8,
+        }
+    }
+
+    pub fn name(&self) -> &'static str {
+        CALL_NAMES[self.index()]
+    }
+
+    /// Performs the call with `calls`; a read fills the buffer in `self`.
+    pub fn perform(&mut self, calls: &dyn Calls, image: &mut [u8]) -> Answer {
+        match self {
+            Call::Format => calls.format(image),
+            Call::Verdict => calls.verdict(image),
+            Call::Find(path) => calls.find(image, path),
+            Call::List(path, entry) => calls.list(image, path, *entry),
+            Call::Read(path, position, buffer) => calls.read(image, path, *position, buffer),
+            Call::MakeFile(path, date) => calls.make_file(image, path, date),
+            Call::MakeDirectory(path, date) => calls.make_directory(image, path, date),
+            Call::Write(path, position, bytes) => calls.write(image, path, *position, bytes),
+            Call::Remove(path) => calls.remove(image, path),
+        }
+    }
+}

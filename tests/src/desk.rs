@@ -1,0 +1,82 @@
+//! An implementation and the image it works on, with short forms of the calls
+//! for tests that state what each answers.
+
+use crate::calls::{Answer, Calls};
+
+/// A good date.
+pub const DATE: [u8; 8] = [0x20, 0x26, 0x11, 0x15, 0x07, 0x20, 0x30, 0x59];
+
+pub struct Desk<'a> {
+    pub calls: &'a dyn Calls,
+    pub image: Vec<u8>,
+}
+
+impl<'a> Desk<'a> {
+    /// A freshly formatted image over old bytes.
+    pub fn fresh(calls: &'a dyn Calls, length: usize) -> Desk<'a> {
+        let mut image = vec![0xE5; length];
+        assert_eq!(calls.format(&mut image), Answer::granted());
+        Desk { calls, image }
+    }
+
+    /// Makes a file; answers the number, 0 when granted.
+    pub fn make_file(&mut self, path: &str) -> u8 {
+        let answer = self
+            .calls
+            .make_file(&mut self.image, path.as_bytes(), &DATE);
+        answer.number
+    }
+
+    pub fn make_directory(&mut self, path: &str) -> u8 {
+        let path = path.as_bytes();
+        let answer = self.calls.make_directory(&mut self.image, path, &DATE);
+        answer.number
+    }
+
+    /// Writes `length` bytes of a pattern.
+    pub fn write(&mut self, path: &str, position: u64, length: usize) -> u8 {
+        let bytes = pattern(length);
+        let path = path.as_bytes();
+        let answer = self.calls.write(&mut self.image, path, position, &bytes);
+        answer.number
+    }
+
+    pub fn remove(&mut self, path: &str) -> u8 {
+        self.calls.remove(&mut self.image, path.as_bytes()).number
+    }
+
+    pub fn find(&self, path: &str) -> Answer {
+        self.calls.find(&self.image, path.as_bytes())
+    }
+
+    pub fn list(&self, path: &str, entry: u64) -> Answer {
+        self.calls.list(&self.image, path.as_bytes(), entry)
+    }
+
+    /// The whole content of a file.
+    pub fn content(&self, path: &str) -> Vec<u8> {
+        let size = self.find(path).values[1] as usize;
+        let mut buffer = vec![0; size];
+        let answer = self
+            .calls
+            .read(&self.image, path.as_bytes(), 0, &mut buffer);
+        assert_eq!(answer, Answer::count(size as u64));
+        buffer
+    }
+
+    /// The free number of a sound image.
+    pub fn free(&self) -> u64 {
+        let verdict = self.calls.verdict(&self.image);
+        let pages = self.image.len() as u64 / 256;
+        let free = verdict.values[1];
+        assert_eq!(verdict, Answer::verdict(pages, free));
+        free
+    }
+}
+
+/// Bytes that tell their place.
+pub fn pattern(length: usize) -> Vec<u8> {
+    (0..length)
+        .map(|place| (place * 7 + place / 251) as u8)
+        .collect()
+}

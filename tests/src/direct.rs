@@ -1,0 +1,518 @@
+//! The nine calls on the image bytes directly: judge, walk, do. No tree and no
+//! allocation; this is what the benchmark measures the library by.
+
+use crate::calls::{Answer, Calls, Kind, Refusal, DATE_BYTES, DIRECTORY_SIZE, NAME_BYTES};
+
+const PAGE: usize = 256;
+const CONTENT: usize = 255;
+const ENTRY: usize = 32;
+const ROOT_AT: usize = 64;
+const BITMAP_AT: usize = 4;
+const OCCUPIED: u8 = 0x80;
+const DIRECTORY: u8 = 0x01;
+const START: usize = 17;
+const SIZE: usize = 18;
+const DATE: usize = 20;
+
+type Padded = [u8; NAME_BYTES];
+
+/// The implementation on bytes.
+pub struct Direct;
+
+/// What the judge learns of a sound image.
+#[derive(Clone, Copy)]
+struct Sound {
+    pages: usize,
+    free: usize,
+}
+
+fn refuse<T>(number: u8) -> Result<T, Refusal> {
+    Err(Refusal::number(number))
+}
+
+// Judging
+
+fn pages_of(length: usize) -> Result<usize, Refusal> {
+    if length == 0 || length > 65_536 || !length.is_multiple_of(8 * PAGE) {
+        return refuse(1);
+    }
+    Ok(length / PAGE)
+}
+
+fn judge(image: &[u8]) -> Result<Sound, Refusal> {
+    let pages = pages_of(image.len())?;
+    let bitmap_bytes = pages / 8;
+    if image[0] != 0x5A || image[1] != 1 || usize::from(image[2]) != bitmap_bytes {
+        return refuse(2);
+    }
+    let bitmap = &image[BITMAP_AT..BITMAP_AT + bitmap_bytes];
+    let free: u32 = bitmap.iter().map(|byte| byte.count_zeros()).sum();
+    if bitmap[0] & 1 == 0 || free != u32::from(image[3]) {
+        return refuse(3);
+    }
+    let mut judge = Judge {
+        image,
+        pages,
+        owned: [0; 32],
+    };
+    judge.owned[0] = 1;
+    if !judge.directory(ROOT_AT, PAGE) || judge.owned[..bitmap_bytes] != *bitmap {
+        return refuse(3);
+    }
+    let free = free as usize;
+    Ok(Sound { pages, free })
+}
+
+struct Judge<'a> {
+    image: &'a [u8],
+    pages: usize,
+    /// A bitmap of the pages met so far.
+    owned: [u8; 32],
+}
+
+impl Judge<'_> {
+    fn own(&mut self, page: usize) -> bool {
+        if page >= self.pages {
+            return false;
+        }
+        let bit = 1 << (page % 8);
+        let was_free = self.owned[page / 8] & bit == 0;
+        self.owned[page / 8] |= bit;
+        was_free
+    }
+
+    /// Judges the entries from byte `from` to byte `to`.
+    fn directory(&mut self, from: usize, to: usize) -> bool {
+        let image = self.image;
+        let entries = &image[from..to];
+        for (number, entry) in entries.chunks_exact(ENTRY).enumerate() {
+            if entry[0] & OCCUPIED == 0 {
+                continue;
+            }
+            let name = &entry[1..=NAME_BYTES];
+            let before = entries[..number * ENTRY].chunks_exact(ENTRY);
+            let mut before = before.filter(|other| other[0] & OCCUPIED != 0);
+            if !is_padded_name(name) || before.any(|other| other[1..=NAME_BYTES] == *name) {
+                return false;
+            }
+            if !self.entry(entry) {
+                return false;
+            }
+        }
+        true
+    }
+
+    fn entry(&mut self, entry: &[u8]) -> bool {
+        let start = usize::from(entry[START]);
+        let size = size_of(entry);
+        if entry[0] & DIRECTORY == 0 {
+            return self.chain(start, size);
+        }
+        size == PAGE && self.own(start) && self.directory(start * PAGE, (start + 1) * PAGE)
+    }
+
+    fn chain(&mut self, start: usize, size: usize) -> bool {
+        let mut page = start;
+        for _ in 0..size.div_ceil(CONTENT) {
+            if !self.own(page) {
+                return false;
+            }
+            page = usize::from(self.image[page * PAGE]);
+        }
+        page == 0
+    }
+}
+
+fn is_padded_name(name: &[u8]) -> bool {
+    let length = name
+        .iter()
+        .position(|&byte| byte == 0)
+        .unwrap_or(name.len());
+    let (name, padding) = name.split_at(length);
+    !name.is_empty() && name.iter().all(is_name_byte) && padding.iter().all(|&byte| byte == 0)
+}
+
+fn is_name_byte(byte: &u8) -> bool {
+    matches!(byte, b' '..=b'.' | b'0'..=b'~')
+}
+
+fn size_of(entry: &[u8]) -> usize {
+    usize::from(u16::from_le_bytes([entry[SIZE], entry[SIZE + 1]]))
+}
+
+// Paths and dates
+
+/// A well formed path; the root has no names.
+#[derive(Clone, Copy)]
+struct Path<'a>(&'a [u8]);
+
+impl<'a> Path<'a> {
+    fn check(path: &'a [u8]) -> Result<Path<'a>, Refusal> {
+        match path {
+            [b'/'] => Ok(Path(&[])),
+            [b'/', rest @ ..] => {
+                let mut names = rest.split(|&byte| byte == b'/');
+                let legal = names.all(|name| {
+                    (1..=NAME_BYTES).contains(&name.len()) && name.iter().all(is_name_byte)
+                });
+                if legal {
+                    Ok(Path(path))
+                } else {
+                    refuse(4)
+                }
+            }
+            _ => refuse(4),
+        }
+    }
+
+    /// The path without its last name, and where that name begins.
+    fn split_last(self) -> Option<(Path<'a>, usize, Padded)> {
+        let slash = self.0.iter().rposition(|&byte| byte == b'/')?;
+        let name = pad(&self.0[slash + 1..]);
+        Some((Path(&self.0[..slash]), slash + 1, name))
+    }
+}
+
+fn pad(name: &[u8]) -> Padded {
+    let mut padded = [0; NAME_BYTES];
+    padded[..name.len()].copy_from_slice(name);
+    padded
+}
+
+fn check_date(date: &[u8]) -> Result<(), Refusal> {
+    let is_bcd = |byte: &u8| byte >> 4 <= 9 && byte & 15 <= 9;
+    if date.len() != DATE_BYTES || !date.iter().all(is_bcd) {
+        return refuse(11);
+    }
+    // BCD pairs stand in the order of the numbers they mean.
+    let month = (0x01..=0x12).contains(&date[2]);
+    let day = (0x01..=0x31).contains(&date[3]);
+    if month && day && date[5] <= 0x23 && date[6] <= 0x59 && date[7] <= 0x59 {
+        Ok(())
+    } else {
+        refuse(11)
+    }
+}
+
+// Walking
+
+/// The bytes that hold a directory's entries.
+#[derive(Clone, Copy)]
+struct Entries {
+    from: usize,
+    to: usize,
+}
+
+const ROOT: Entries = Entries {
+    from: ROOT_AT,
+    to: PAGE,
+};
+
+impl Entries {
+    fn of_page(page: u8) -> Entries {
+        let from = usize::from(page) * PAGE;
+        Entries {
+            from,
+            to: from + PAGE,
+        }
+    }
+
+    /// Where the entry of that name is.
+    fn position(self, image: &[u8], name: &Padded) -> Option<usize> {
+        (self.from..self.to)
+            .step_by(ENTRY)
+            .find(|&at| image[at] & OCCUPIED != 0 && image[at + 1..=at + NAME_BYTES] == *name)
+    }
+
+    fn lowest_empty(self, image: &[u8]) -> Option<usize> {
+        (self.from..self.to)
+            .step_by(ENTRY)
+            .find(|&at| image[at] & OCCUPIED == 0)
+    }
+}
+
+/// Walks all names of the path, each of which has to be a directory's.
+fn walk(image: &[u8], path: Path) -> Result<Entries, Refusal> {
+    let mut entries = ROOT;
+    if path.0.is_empty() {
+        return Ok(entries);
+    }
+    let mut begins = 1;
+    for name in path.0[1..].split(|&byte| byte == b'/') {
+        let at = entries.position(image, &pad(name));
+        let at = at.ok_or(Refusal::at_name(5, begins))?;
+        if image[at] & DIRECTORY == 0 {
+            return Err(Refusal::at_name(6, begins));
+        }
+        entries = Entries::of_page(image[at + START]);
+        begins += name.len() + 1;
+    }
+    Ok(entries)
+}
+
+/// Where the entry of the path is; None for the root.
+fn walk_to_entry(image: &[u8], path: Path) -> Result<Option<usize>, Refusal> {
+    let Some((parents, begins, name)) = path.split_last() else {
+        return Ok(None);
+    };
+    let at = walk(image, parents)?.position(image, &name);
+    at.map(Some).ok_or(Refusal::at_name(5, begins))
+}
+
+/// Where the entry of the file is, and its size.
+fn walk_to_file(image: &[u8], path: Path) -> Result<(usize, usize), Refusal> {
+    match walk_to_entry(image, path)? {
+        Some(at) if image[at] & DIRECTORY == 0 => Ok((at, size_of(&image[at..at + ENTRY]))),
+        _ => refuse(7),
+    }
+}
+
+// Pages
+
+/// Takes the lowest free page, which is there, and zeroes it.
+fn allocate(image: &mut [u8]) -> u8 {
+    let bitmap = &mut image[BITMAP_AT..BITMAP_AT + 32];
+    let byte = bitmap.iter().position(|&byte| byte != 0xFF);
+    let byte = byte.expect("a page is free");
+    let bit = bitmap[byte].trailing_ones() as usize;
+    bitmap[byte] |= 1 << bit;
+    image[3] -= 1;
+    let page = byte * 8 + bit;
+    image[page * PAGE..(page + 1) * PAGE].fill(0);
+    page as u8
+}
+
+fn release(image: &mut [u8], page: usize) {
+    image[BITMAP_AT + page / 8] &= !(1 << (page % 8));
+    image[3] += 1;
+}
+
+/// The page that carries the content at `position`, by the chain from `start`.
+fn page_at(image: &[u8], start: u8, position: usize) -> usize {
+    let mut page = usize::from(start);
+    for _ in 0..position / CONTENT {
+        page = usize::from(image[page * PAGE]);
+    }
+    page
+}
+
+/// Adds pages to the end of the chain of the file whose entry is at `at`.
+fn lengthen(image: &mut [u8], at: usize, old_pages: usize, added: usize) {
+    let mut link_at = match old_pages {
+        0 => at + START,
+        _ => page_at(image, image[at + START], (old_pages - 1) * CONTENT) * PAGE,
+    };
+    for _ in 0..added {
+        let page = allocate(image);
+        image[link_at] = page;
+        link_at = usize::from(page) * PAGE;
+    }
+}
+
+// Doing
+
+fn find(image: &[u8], path: &[u8]) -> Result<Answer, Refusal> {
+    judge(image)?;
+    let Some(at) = walk_to_entry(image, Path::check(path)?)? else {
+        let no_date = [0; DATE_BYTES];
+        return Ok(Answer::found(Kind::Directory, DIRECTORY_SIZE, no_date));
+    };
+    let entry = &image[at..at + ENTRY];
+    Ok(Answer::found(
+        kind_of(entry),
+        size_of(entry) as u64,
+        date_of(entry),
+    ))
+}
+
+fn kind_of(entry: &[u8]) -> Kind {
+    match entry[0] & DIRECTORY {
+        0 => Kind::File,
+        _ => Kind::Directory,
+    }
+}
+
+fn date_of(entry: &[u8]) -> [u8; DATE_BYTES] {
+    entry[DATE..DATE + DATE_BYTES].try_into().expect("8 bytes")
+}
+
+fn list(image: &[u8], path: &[u8], number: u64) -> Result<Answer, Refusal> {
+    judge(image)?;
+    let entries = walk(image, Path::check(path)?)?;
+    if number >= ((entries.to - entries.from) / ENTRY) as u64 {
+        return refuse(12);
+    }
+    let at = entries.from + number as usize * ENTRY;
+    let entry = &image[at..at + ENTRY];
+    if entry[0] & OCCUPIED == 0 {
+        return Ok(Answer::empty_entry());
+    }
+    Ok(Answer::occupied(
+        kind_of(entry),
+        entry[1..=NAME_BYTES].try_into().expect("16 bytes"),
+        size_of(entry) as u64,
+        date_of(entry),
+    ))
+}
+
+fn read(image: &[u8], path: &[u8], position: u64, buffer: &mut [u8]) -> Result<Answer, Refusal> {
+    judge(image)?;
+    let (at, size) = walk_to_file(image, Path::check(path)?)?;
+    if position > size as u64 {
+        return refuse(12);
+    }
+    let position = position as usize;
+    let count = buffer.len().min(size - position);
+    if count == 0 {
+        return Ok(Answer::count(0));
+    }
+    let mut page = page_at(image, image[at + START], position);
+    let mut within = position % CONTENT;
+    let mut rest = &mut buffer[..count];
+    while !rest.is_empty() {
+        let length = rest.len().min(CONTENT - within);
+        let (now, later) = rest.split_at_mut(length);
+        let from = page * PAGE + 1 + within;
+        now.copy_from_slice(&image[from..from + length]);
+        page = usize::from(image[page * PAGE]);
+        within = 0;
+        rest = later;
+    }
+    Ok(Answer::count(count as u64))
+}
+
+fn make(image: &mut [u8], path: &[u8], date: &[u8], kind: Kind) -> Result<Answer, Refusal> {
+    let sound = judge(image)?;
+    let path = Path::check(path)?;
+    check_date(date)?;
+    let Some((parents, _, name)) = path.split_last() else {
+        return refuse(8);
+    };
+    let entries = walk(image, parents)?;
+    if entries.position(image, &name).is_some() {
+        return refuse(8);
+    }
+    let Some(at) = entries.lowest_empty(image) else {
+        return refuse(9);
+    };
+    let mut entry = [0; ENTRY];
+    entry[0] = OCCUPIED;
+    if kind == Kind::Directory {
+        if sound.free == 0 {
+            return refuse(10);
+        }
+        entry[0] |= DIRECTORY;
+        entry[START] = allocate(image);
+        entry[SIZE + 1] = 1;
+    }
+    entry[1..=NAME_BYTES].copy_from_slice(&name);
+    entry[DATE..DATE + DATE_BYTES].copy_from_slice(date);
+    image[at..at + ENTRY].copy_from_slice(&entry);
+    Ok(Answer::granted())
+}
+
+fn write(image: &mut [u8], path: &[u8], position: u64, bytes: &[u8]) -> Result<Answer, Refusal> {
+    let sound = judge(image)?;
+    let (at, size) = walk_to_file(image, Path::check(path)?)?;
+    if position > size as u64 {
+        return refuse(12);
+    }
+    let position = position as usize;
+    let new_size = size.max(position + bytes.len());
+    let old_pages = size.div_ceil(CONTENT);
+    let added = new_size.div_ceil(CONTENT) - old_pages;
+    if added > sound.free {
+        return refuse(10);
+    }
+    if bytes.is_empty() {
+        return Ok(Answer::granted());
+    }
+    lengthen(image, at, old_pages, added);
+    image[at + SIZE..at + SIZE + 2].copy_from_slice(&(new_size as u16).to_le_bytes());
+    fill(image, image[at + START], position, bytes);
+    Ok(Answer::granted())
+}
+
+/// Puts bytes into the content of a chain that is long enough.
+fn fill(image: &mut [u8], start: u8, position: usize, bytes: &[u8]) {
+    let mut page = page_at(image, start, position);
+    let mut within = position % CONTENT;
+    let mut rest = bytes;
+    while !rest.is_empty() {
+        let (now, later) = rest.split_at(rest.len().min(CONTENT - within));
+        let from = page * PAGE + 1 + within;
+        image[from..from + now.len()].copy_from_slice(now);
+        page = usize::from(image[page * PAGE]);
+        within = 0;
+        rest = later;
+    }
+}
+
+fn remove(image: &mut [u8], path: &[u8]) -> Result<Answer, Refusal> {
+    judge(image)?;
+    let path = Path::check(path)?;
+    let Some(at) = walk_to_entry(image, path)? else {
+        return refuse(14);
+    };
+    let mut page = usize::from(image[at + START]);
+    if image[at] & DIRECTORY != 0 {
+        let flags = image[page * PAGE..(page + 1) * PAGE].iter().step_by(ENTRY);
+        if flags.into_iter().any(|flags| flags & OCCUPIED != 0) {
+            return refuse(13);
+        }
+        release(image, page);
+    } else {
+        while page != 0 {
+            release(image, page);
+            page = usize::from(image[page * PAGE]);
+        }
+    }
+    image[at] = 0;
+    Ok(Answer::granted())
+}
+
+impl Calls for Direct {
+    fn format(&self, image: &mut [u8]) -> Answer {
+        let granted = pages_of(image.len()).map(|pages| {
+            image[..PAGE].fill(0);
+            image[..5].copy_from_slice(&[0x5A, 1, (pages / 8) as u8, (pages - 1) as u8, 1]);
+            Answer::granted()
+        });
+        granted.into()
+    }
+
+    fn verdict(&self, image: &[u8]) -> Answer {
+        let sound = judge(image);
+        sound
+            .map(|sound| Answer::verdict(sound.pages as u64, sound.free as u64))
+            .into()
+    }
+
+    fn find(&self, image: &[u8], path: &[u8]) -> Answer {
+        find(image, path).into()
+    }
+
+    fn list(&self, image: &[u8], path: &[u8], entry: u64) -> Answer {
+        list(image, path, entry).into()
+    }
+
+    fn read(&self, image: &[u8], path: &[u8], position: u64, buffer: &mut [u8]) -> Answer {
+        read(image, path, position, buffer).into()
+    }
+
+    fn make_file(&self, image: &mut [u8], path: &[u8], date: &[u8]) -> Answer {
+        make(image, path, date, Kind::File).into()
+    }
+
+    fn make_directory(&self, image: &mut [u8], path: &[u8], date: &[u8]) -> Answer {
+        make(image, path, date, Kind::Directory).into()
+    }
+
+    fn write(&self, image: &mut [u8], path: &[u8], position: u64, bytes: &[u8]) -> Answer {
+        write(image, path, position, bytes).into()
+    }
+
+    fn remove(&self, image: &mut [u8], path: &[u8]) -> Answer {
+        remove(image, path).into()
+    }
+}

@@ -1,0 +1,473 @@
+//! Random lists of calls, biased to the boundaries of the paper's rules. The
+//! tree is replayed while the list is made, so that paths hit what is there.
+
+use crate::assemble::{assemble, nest, Order};
+use crate::calls::{Call, DATE_BYTES};
+use crate::harness::Scenario;
+use crate::plain::tree::{Entry, Node, Tree};
+use crate::plain::{pages_of_file, Replay, CONTENT, PAGE};
+use crate::random::Random;
+
+/// Names that are easily confused, and the limits of length and of bytes.
+const NAMES: [&[u8]; 20] = [
+    b"0042",
+    b"42",
+    b"042",
+    b"00042",
+    b".",
+    b"..",
+    b"A",
+    b"a",
+    b"AB",
+    b"7",
+    b" ",
+    b"  ",
+    b"~",
+    b"!",
+    b"0",
+    b"00",
+    b"AAAAAAAAAAAAAAA",
+    b"AAAAAAAAAAAAAAAA",
+    b"AAAAAAAAAAAAAAAB",
+    b"read me.txt",
+];
+
+/// Lengths of content at which pages are gained.
+const LENGTHS: [usize; 14] = [
+    0, 1, 2, 253, 254, 255, 256, 257, 509, 510, 511, 512, 765, 1785,
+];
+
+/// What a list is mostly about: how often each of the nine calls comes.
+const PROFILES: [[usize; 9]; 5] = [
+    // Everything.
+    [1, 3, 6, 8, 10, 14, 10, 22, 12],
+    // Filling up and making room.
+    [0, 1, 1, 1, 3, 8, 3, 30, 8],
+    // Nesting.
+    [0, 1, 3, 4, 1, 4, 24, 3, 6],
+    // Making and removing.
+    [0, 1, 2, 3, 1, 14, 14, 3, 16],
+    // Looking.
+    [0, 3, 10, 14, 16, 4, 2, 6, 2],
+];
+
+/// A random list of calls from a random sound image.
+pub fn scenario(seed: u64) -> Scenario {
+    let mut random = Random::new(seed);
+    let length = image_length(&mut random);
+    let image = starting_image(length, &mut random);
+    let replay = Replay::of(&image).expect("the starting image is sound");
+    let longest = if length > 8192 { 40 } else { 60 };
+    let count = random.between(1, longest);
+    let mut generator = Generator::new(replay, &mut random);
+    let calls = (0..count).map(|_| generator.next_call()).collect();
+    Scenario { image, calls }
+}
+
+fn image_length(random: &mut Random) -> usize {
+    match random.weighted(&[50, 25, 8, 9, 8]) {
+        0 => 2048,
+        1 => 8192,
+        2 => 32_768,
+        3 => 65_536,
+        _ => 2048 * random.between(1, 32),
+    }
+}
+
+/// A sound image: fresh, nested to the page limit, with one file on all pages,
+/// or with a random tree.
+pub fn starting_image(length: usize, random: &mut Random) -> Vec<u8> {
+    let pages = length / PAGE;
+    let tree = match random.weighted(&[40, 4, 4, 52]) {
+        0 => Tree::empty(pages),
+        1 => {
+            let depth = pages - 1 - random.below(2);
+            nest(pages, depth, *random.pick(&[1, 2, 16]))
+        }
+        2 => one_file(pages, random),
+        _ => random_tree(pages, random),
+    };
+    let order = *random.pick(&[Order::Rising, Order::Scattered]);
+    assemble(&tree, order, random)
+}
+
+/// A tree whose only file has every page, or all but one.
+fn one_file(pages: usize, random: &mut Random) -> Tree {
+    let mut tree = Tree::empty(pages);
+    let size = (pages - 1) * CONTENT - *random.pick(&[0, 0, 1, 254, 255]);
+    let entry = Entry {
+        name: random.pick(&NAMES).to_vec(),
+        date: good_date(random),
+        node: Node::File(random.bytes(size)),
+    };
+    let position = random.below(tree.root.entries.len());
+    tree.root.entries[position] = Some(entry);
+    tree
+}
+
+/// The tree that a random list of calls leaves, with any stored dates.
+pub fn random_tree(pages: usize, random: &mut Random) -> Tree {
+    let replay = Replay::formatted(pages * PAGE);
+    let count = random.between(1, 12 + pages / 2);
+    let mut generator = Generator::new(replay, random);
+    for _ in 0..count {
+        generator.next_call();
+    }
+    let mut tree = generator.replay.tree;
+    scramble_dates(&mut tree.root.entries, random);
+    tree
+}
+
+/// The verdict does not judge stored dates, so that any may stand there.
+fn scramble_dates(entries: &mut [Option<Entry>], random: &mut Random) {
+    for entry in entries.iter_mut().flatten() {
+        if random.chance(1, 3) {
+            random.fill(&mut entry.date);
+        }
+        if let Node::Directory(below) = &mut entry.node {
+            scramble_dates(&mut below.entries, random);
+        }
+    }
+}
+
+/// Makes calls that suit the tree so far, and replays them on it.
+pub struct Generator<'r> {
+    pub replay: Replay,
+    random: &'r mut Random,
+    weights: [usize; 9],
+}
+
+impl<'r> Generator<'r> {
+    pub fn new(replay: Replay, random: &'r mut Random) -> Generator<'r> {
+        let weights = PROFILES[random.weighted(&[5, 3, 2, 2, 1])];
+        Generator {
+            replay,
+            random,
+            weights,
+        }
+    }
+
+    /// The next call; the tree follows it.
+    pub fn next_call(&mut self) -> Call {
+        let mut which = self.random.weighted(&self.weights);
+        if matches!(which, 4 | 7) && !self.has_file() && self.random.chance(9, 10) {
+            // Nothing to read or write yet.
+            which = 5;
+        }
+        let call = match which {
+            0 => Call::Format,
+            1 => Call::Verdict,
+            2 => Call::Find(self.path()),
+            3 => Call::List(self.directory_path(), self.entry_number()),
+            4 => self.read_call(),
+            5 => Call::MakeFile(self.new_path(), self.date()),
+            6 => Call::MakeDirectory(self.new_path(), self.date()),
+            7 => self.write_call(),
+            _ => Call::Remove(self.path()),
+        };
+        self.replay.step(&mut call.clone());
+        call
+    }
+
+    fn has_file(&self) -> bool {
+        let paths = self.replay.tree.paths();
+        paths.iter().any(|(_, entry)| is_file(entry))
+    }
+
+    fn read_call(&mut self) -> Call {
+        let path = self.file_path();
+        let size = self.size_at(&path);
+        let position = self.position(size);
+        let rest = size.saturating_sub(position as usize);
+        let room = match self.random.below(6) {
+            0 => rest,
+            1 => rest + 1,
+            2 => rest.saturating_sub(1),
+            3 => self.random.below(600),
+            4 if self.random.chance(1, 8) => 66_000,
+            _ => *self.random.pick(&LENGTHS),
+        };
+        Call::Read(path, position, self.random.bytes(room))
+    }
+
+    fn write_call(&mut self) -> Call {
+        let path = self.file_path();
+        let size = self.size_at(&path);
+        let position = self.position(size);
+        let length = self.write_length(size, position);
+        Call::Write(path, position, self.random.bytes(length))
+    }
+
+    /// Lengths at page boundaries, and those that fill the image exactly or
+    /// want one page more.
+    fn write_length(&mut self, size: usize, position: u64) -> usize {
+        let pages = pages_of_file(size) + self.replay.tree.free();
+        let room = (pages * CONTENT).saturating_sub(position as usize);
+        match self.random.weighted(&[60, 14, 12, 4, 4, 6, 1]) {
+            0 => *self.random.pick(&LENGTHS),
+            1 => self.random.below(1200),
+            2 => room,
+            3 => room + 1,
+            4 => room.saturating_sub(self.random.below(300)),
+            5 => size.saturating_sub(position as usize) + self.random.below(3),
+            _ => *self.random.pick(&[65_025, 65_026, 65_535, 65_536, 70_000]),
+        }
+    }
+
+    /// Positions in, at and past a size, up to the largest.
+    fn position(&mut self, size: usize) -> u64 {
+        let inside = self.random.below(size + 1) as u64;
+        let size = size as u64;
+        match self.random.weighted(&[24, 20, 10, 8, 12, 3, 3]) {
+            0 => size,
+            1 => 0,
+            2 => inside,
+            3 => inside / CONTENT as u64 * CONTENT as u64,
+            4 => size.saturating_sub(1),
+            5 => size + 1,
+            _ => self.far_position(inside),
+        }
+    }
+
+    /// Positions that become good ones if they are cut to fewer bits, or if a
+    /// sum with them wraps.
+    fn far_position(&mut self, inside: u64) -> u64 {
+        match self.random.below(7) {
+            0 => u64::MAX,
+            1 => u64::MAX - self.random.below(600) as u64,
+            2 => inside + (1 << 16),
+            3 => inside + (1 << 32),
+            4 => inside.wrapping_sub(1),
+            5 => inside + (1 << 63),
+            _ => self.random.number(),
+        }
+    }
+
+    fn entry_number(&mut self) -> u64 {
+        let near = self.random.below(9) as u64;
+        match self.random.weighted(&[40, 30, 2, 2, 2, 2]) {
+            0 => near,
+            1 => self.random.between(5, 8) as u64,
+            2 => near + 256,
+            3 => near + (1 << 32),
+            4 => u64::MAX - near,
+            _ => self.random.number(),
+        }
+    }
+
+    /// The size of the file at the path, 0 if there is none.
+    fn size_at(&self, path: &[u8]) -> usize {
+        match self.replay.tree.find(path) {
+            Ok(found) => found.values[1] as usize,
+            Err(_) => 0,
+        }
+    }
+
+    /// The path of anything, or of nothing.
+    fn path(&mut self) -> Vec<u8> {
+        match self.random.weighted(&[60, 12, 10, 10, 4]) {
+            0 => self.entry_path(|_| true),
+            1 => self.missing_path(),
+            2 => self.confused_path(),
+            3 => self.malformed_path(),
+            _ => b"/".to_vec(),
+        }
+    }
+
+    fn file_path(&mut self) -> Vec<u8> {
+        if self.random.chance(4, 5) {
+            self.entry_path(is_file)
+        } else {
+            self.path()
+        }
+    }
+
+    fn directory_path(&mut self) -> Vec<u8> {
+        match self.random.weighted(&[5, 2, 2]) {
+            0 => self.entry_path(is_directory),
+            1 => b"/".to_vec(),
+            _ => self.path(),
+        }
+    }
+
+    /// The path of one of the entries that `wanted` holds of; the root's if
+    /// there is none.
+    fn entry_path(&mut self, wanted: fn(&Entry) -> bool) -> Vec<u8> {
+        let mut paths = self.replay.tree.paths();
+        paths.retain(|(_, entry)| wanted(entry));
+        if paths.is_empty() {
+            return b"/".to_vec();
+        }
+        // The last path is often the deepest or the newest one.
+        let index = match self.random.chance(1, 4) {
+            true => paths.len() - 1,
+            false => self.random.below(paths.len()),
+        };
+        paths.swap_remove(index).0
+    }
+
+    /// A path whose last name may be made, mostly.
+    fn new_path(&mut self) -> Vec<u8> {
+        if self.random.chance(1, 8) {
+            return self.path();
+        }
+        let parent = match self.random.weighted(&[3, 4, 1]) {
+            0 => b"/".to_vec(),
+            1 => self.entry_path(is_directory),
+            _ => self.entry_path(|_| true),
+        };
+        let name = self.name();
+        below(&parent, &name)
+    }
+
+    fn name(&mut self) -> Vec<u8> {
+        if self.random.chance(2, 3) {
+            return self.random.pick(&NAMES).to_vec();
+        }
+        let length = *self.random.pick(&[1, 1, 2, 3, 8, 15, 16]);
+        let printable = |_| match self.random.between(0x20, 0x7E) as u8 {
+            b'/' => b'0',
+            byte => byte,
+        };
+        (0..length).map(printable).collect()
+    }
+
+    /// A name that is perhaps not there, below something that is, or two such
+    /// names.
+    fn missing_path(&mut self) -> Vec<u8> {
+        let above = self.entry_path(|_| true);
+        let mut path = below(&above, &self.name());
+        if self.random.chance(1, 3) {
+            path = below(&path, &self.name());
+        }
+        path
+    }
+
+    /// The path of an entry with one thing about its last name changed.
+    fn confused_path(&mut self) -> Vec<u8> {
+        let mut path = self.entry_path(|_| true);
+        let begins = path
+            .iter()
+            .rposition(|&byte| byte == b'/')
+            .map_or(0, |at| at + 1);
+        match self.random.below(5) {
+            0 => path.insert(begins, b'0'),
+            1 if path.len() > begins + 1 => drop(path.remove(begins)),
+            2 if path.len() > begins + 1 => drop(path.pop()),
+            3 => path.push(*self.random.pick(b" 0A")),
+            _ => {
+                if let Some(last) = path.last_mut() {
+                    *last ^= 0x20;
+                }
+            }
+        }
+        path
+    }
+
+    /// Bytes that are no path, mostly made from those of one that is.
+    fn malformed_path(&mut self) -> Vec<u8> {
+        let mut path = self.entry_path(|_| true);
+        match self.random.below(10) {
+            0 => path.clear(),
+            1 => path.push(b'/'),
+            2 => path.insert(0, b'/'),
+            3 => drop(path.remove(0)),
+            4 => path.push(0),
+            5 => path = below(&path, b"AAAAAAAAAAAAAAAAA"),
+            6 => path = below(&below(&path, b""), b"A"),
+            7 => {
+                let at = self.random.below(path.len());
+                path[at] = *self
+                    .random
+                    .pick(&[0, 1, 0x0A, 0x1F, 0x7F, 0x80, 0xAF, 0xFF, b'/']);
+            }
+            8 => path = self.long_path(),
+            _ => {
+                let length = self.random.below(24);
+                path = self.random.bytes(length);
+            }
+        }
+        path
+    }
+
+    /// A path of more bytes than any that is there, good or bad at its end.
+    fn long_path(&mut self) -> Vec<u8> {
+        let names = *self.random.pick(&[300, 4000]);
+        let mut path = b"/AAAAAAAAAAAAAAAA".repeat(names);
+        let ends: [&[u8]; 4] = [b"/A", b"/", b"A", b""];
+        let end: &[u8] = ends[self.random.below(ends.len())];
+        path.extend_from_slice(end);
+        path
+    }
+
+    /// Mostly a good date; else one with one field wrong, or of another length.
+    fn date(&mut self) -> Vec<u8> {
+        let good = good_date(self.random);
+        match self.random.weighted(&[30, 2, 1, 1]) {
+            0 => good.to_vec(),
+            1 => bad_date(good, self.random).to_vec(),
+            2 => self.random.bytes(DATE_BYTES),
+            _ => {
+                let length = *self.random.pick(&[0, 1, 7, 9, 16]);
+                good.iter().copied().cycle().take(length).collect()
+            }
+        }
+    }
+}
+
+fn is_file(entry: &Entry) -> bool {
+    matches!(entry.node, Node::File(_))
+}
+
+fn is_directory(entry: &Entry) -> bool {
+    !is_file(entry)
+}
+
+/// The path of `name` in the directory `parent`.
+fn below(parent: &[u8], name: &[u8]) -> Vec<u8> {
+    match parent {
+        b"/" => [b"/", name].concat(),
+        _ => [parent, b"/", name].concat(),
+    }
+}
+
+fn bcd(number: usize) -> u8 {
+    (number / 10 * 16 + number % 10) as u8
+}
+
+/// The lowest and the highest value of each field of a date.
+const FIELDS: [(usize, usize); DATE_BYTES] = [
+    (0, 99),
+    (0, 99),
+    (1, 12),
+    (1, 31),
+    (0, 99),
+    (0, 23),
+    (0, 59),
+    (0, 59),
+];
+
+fn good_date(random: &mut Random) -> [u8; DATE_BYTES] {
+    FIELDS.map(|(low, high)| {
+        let number = match random.below(4) {
+            0 => low,
+            1 => high,
+            _ => random.between(low, high),
+        };
+        bcd(number)
+    })
+}
+
+/// Makes one field of a good date wrong, by its digits or by its range.
+fn bad_date(mut date: [u8; DATE_BYTES], random: &mut Random) -> [u8; DATE_BYTES] {
+    let field = random.below(DATE_BYTES);
+    let (low, high) = FIELDS[field];
+    let digit = random.between(10, 15) as u8;
+    date[field] = match random.below(4) {
+        0 if high < 99 => bcd(high + 1),
+        1 if low > 0 => bcd(low - 1),
+        2 => date[field] & 0xF0 | digit,
+        _ => date[field] & 0x0F | digit << 4,
+    };
+    date
+}

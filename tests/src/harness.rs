@@ -1,0 +1,210 @@
+//! Runs a list of calls on two implementations and compares all they answer
+//! and all that was lent to them.
+
+use crate::calls::{Answer, Call, Calls};
+use crate::plain::reader::{is_allocated, judge};
+use crate::plain::Replay;
+use std::fmt::Write;
+
+/// A starting image and a list of calls.
+#[derive(Clone, Debug, PartialEq, Eq)]
+pub struct Scenario {
+    pub image: Vec<u8>,
+    pub calls: Vec<Call>,
+}
+
+/// Tells where a list comes from if an implementation panics in it.
+pub struct Origin(pub String);
+
+impl Drop for Origin {
+    fn drop(&mut self) {
+        if std::thread::panicking() {
+            eprintln!("in {}", self.0);
+        }
+    }
+}
+
+/// Where two implementations part.
+#[derive(Clone, Debug, PartialEq, Eq)]
+pub struct Difference {
+    /// The call after which it shows.
+    pub step: usize,
+    pub what: String,
+}
+
+/// Bytes between two stretches that nobody may change. The first one lies at
+/// any place of a word.
+struct Guarded {
+    all: Vec<u8>,
+    from: usize,
+    length: usize,
+}
+
+const GUARD: usize = 64;
+const GUARD_BYTE: u8 = 0xC3;
+
+impl Guarded {
+    fn new(bytes: &[u8], shift: usize) -> Guarded {
+        let from = GUARD + shift % 8;
+        let length = bytes.len();
+        let mut all = vec![GUARD_BYTE; from + length + GUARD];
+        all[from..from + length].copy_from_slice(bytes);
+        Guarded { all, from, length }
+    }
+
+    fn bytes(&self) -> &[u8] {
+        &self.all[self.from..self.from + self.length]
+    }
+
+    fn bytes_mut(&mut self) -> &mut [u8] {
+        &mut self.all[self.from..self.from + self.length]
+    }
+
+    fn check(&self, what: &mut String) {
+        let (before, rest) = self.all.split_at(self.from);
+        let after = &rest[self.length..];
+        if before.iter().chain(after).any(|&byte| byte != GUARD_BYTE) {
+            *what += "bytes outside the image or the buffer were written\n";
+        }
+    }
+}
+
+/// Performs the call with guards about the image and the reader's buffer.
+fn perform_guarded(
+    call: &mut Call,
+    calls: &dyn Calls,
+    image: &mut Guarded,
+    what: &mut String,
+) -> Answer {
+    let answer = match call {
+        Call::Read(path, position, buffer) => {
+            let mut guarded = Guarded::new(buffer, path.len());
+            let answer = calls.read(image.bytes(), path, *position, guarded.bytes_mut());
+            guarded.check(what);
+            buffer.copy_from_slice(guarded.bytes());
+            answer
+        }
+        _ => call.perform(calls, image.bytes_mut()),
+    };
+    image.check(what);
+    answer
+}
+
+/// What a comparison tells besides a difference, for counting.
+pub type Observer<'a> = &'a mut dyn FnMut(&Call, &Answer);
+
+/// Runs the list on both implementations, and on the tree alone where the
+/// starting image is sound; answers the first difference.
+pub fn compare(
+    scenario: &Scenario,
+    expected: &dyn Calls,
+    actual: &dyn Calls,
+    observe: Observer,
+) -> Option<Difference> {
+    let mut replay = Replay::of(&scenario.image);
+    let mut expected_image = scenario.image.clone();
+    let mut actual_image = Guarded::new(&scenario.image, scenario.calls.len());
+    for (step, call) in scenario.calls.iter().enumerate() {
+        let mut expected_call = call.clone();
+        let mut actual_call = call.clone();
+        let wanted = expected_call.perform(expected, &mut expected_image);
+        let mut what = String::new();
+        let got = perform_guarded(&mut actual_call, actual, &mut actual_image, &mut what);
+        describe_answers(&mut what, &wanted, &got);
+        describe_lent(&mut what, &expected_call, &actual_call);
+        describe_images(&mut what, &expected_image, actual_image.bytes());
+        advance_replay(&mut replay, call, &expected_image, &wanted, &mut what);
+        if !what.is_empty() {
+            return Some(Difference { step, what });
+        }
+        observe(call, &got);
+    }
+    let mut what = String::new();
+    if let Some(replay) = replay {
+        describe_end(&mut what, &replay, actual, actual_image.bytes());
+    }
+    let step = scenario.calls.len();
+    (!what.is_empty()).then_some(Difference { step, what })
+}
+
+/// Steps the tree, which has to answer as the expected implementation did. A
+/// granted format gives a tree where there was none.
+fn advance_replay(
+    replay: &mut Option<Replay>,
+    call: &Call,
+    image: &[u8],
+    expected: &Answer,
+    what: &mut String,
+) {
+    match replay {
+        Some(replay) => {
+            let replayed = replay.step(&mut call.clone());
+            if replayed != *expected {
+                let _ = writeln!(what, "expected {expected}\nreplayed {replayed}");
+            }
+        }
+        None if *call == Call::Format && expected.is_granted() => {
+            *replay = Some(Replay::formatted(image.len()));
+        }
+        None => {}
+    }
+}
+
+/// After the list the image means the replayed tree, and every count of free
+/// pages is the tree's.
+fn describe_end(what: &mut String, replay: &Replay, calls: &dyn Calls, image: &[u8]) {
+    if judge(image).as_ref() != Ok(&replay.tree) {
+        *what += "after the list: the image does not mean the replayed tree\n";
+        return;
+    }
+    let free = replay.tree.free();
+    let zero_bits = (0..replay.tree.pages).filter(|&page| !is_allocated(image, page));
+    let verdict = calls.verdict(image);
+    let counts = [usize::from(image[3]), zero_bits.count()];
+    if counts != [free, free] || verdict != replay.tree.verdict() {
+        let _ = writeln!(
+            what,
+            "after the list: free {free}, counted {counts:?}, {verdict}"
+        );
+    }
+}
+
+fn describe_answers(what: &mut String, wanted: &Answer, got: &Answer) {
+    if wanted != got {
+        let _ = writeln!(what, "expected {wanted}\n     got {got}");
+    }
+}
+
+fn describe_lent(what: &mut String, wanted: &Call, got: &Call) {
+    if wanted == got {
+        return;
+    }
+    match (wanted, got) {
+        (Call::Read(_, _, wanted), Call::Read(_, _, got)) if wanted != got => {
+            describe_bytes(what, "buffer", wanted, got);
+        }
+        _ => *what += "the path, date or bytes of the call were changed\n",
+    }
+}
+
+fn describe_images(what: &mut String, wanted: &[u8], got: &[u8]) {
+    if wanted != got {
+        describe_bytes(what, "image", wanted, got);
+    }
+}
+
+/// The first bytes that differ.
+fn describe_bytes(what: &mut String, name: &str, wanted: &[u8], got: &[u8]) {
+    let different: Vec<usize> = (0..wanted.len())
+        .filter(|&at| wanted[at] != got[at])
+        .collect();
+    let _ = writeln!(what, "{name}: {} bytes differ", different.len());
+    for &at in different.iter().take(12) {
+        let (page, place) = (at / 256, at % 256);
+        let (wanted, got) = (wanted[at], got[at]);
+        let _ = writeln!(
+            what,
+            "  {at} (page {page}, byte {place}): expected {wanted:02X}, got {got:02X}"
+        );
+    }
+}

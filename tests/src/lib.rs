@@ -1,0 +1,27 @@
+//! ZealFS version 1 a second and a third time, in plain Rust, and a harness
+//! that compares implementations call by call.
+//!
+//! * [`plain`] keeps a real tree and its own reader and writer of bytes. It is
+//!   written from the paper alone and is what the others are measured by.
+//! * [`direct`] works on the image bytes without a tree, as one would write it
+//!   for speed; the benchmark compares the library with it.
+//! * `c` (feature `library`) is the boundary to the C library.
+//! * [`harness`] runs a list of calls on two implementations and shrinks a
+//!   list that shows a difference.
+
+pub mod assemble;
+#[cfg(feature = "library")]
+pub mod c;
+pub mod calls;
+pub mod damage;
+pub mod desk;
+pub mod direct;
+pub mod generate;
+pub mod harness;
+pub mod listing;
+pub mod plain;
+pub mod random;
+pub mod settings;
+pub mod shrink;
+pub mod subjects;
+pub mod wrong;

@@ -1,0 +1,154 @@
+//! The plain implementation: an image is judged and read into a tree, the call
+//! is performed on the tree, and what it grants is then written to the bytes.
+
+pub mod path;
+pub mod reader;
+pub mod tree;
+pub mod writer;
+
+use crate::calls::{Answer, Call, Calls, Kind, Refusal};
+use tree::Tree;
+
+/// Bytes of a page.
+pub const PAGE: usize = 256;
+/// Bytes of content that a page of a file carries; the first byte is the link.
+pub const CONTENT: usize = PAGE - 1;
+/// Bytes of an entry.
+pub const ENTRY: usize = 32;
+/// Where the root's entries begin in the header page.
+pub const ROOT_ENTRIES_AT: usize = 64;
+pub const ROOT_ENTRIES: usize = 6;
+pub const DIRECTORY_ENTRIES: usize = 8;
+/// Where the bitmap begins in the header page.
+pub const BITMAP_AT: usize = 4;
+
+/// The pages that a file of `size` bytes has.
+pub fn pages_of_file(size: usize) -> usize {
+    size.div_ceil(CONTENT)
+}
+
+/// N of an image of `length` bytes, or refusal 1.
+pub fn pages_of_image(length: usize) -> Result<usize, Refusal> {
+    let allowed = (2048..=65_536).contains(&length) && length.is_multiple_of(2048);
+    if allowed {
+        Ok(length / PAGE)
+    } else {
+        Err(Refusal::number(1))
+    }
+}
+
+/// The implementation by way of the tree.
+pub struct Plain;
+
+impl Plain {
+    fn make(image: &mut [u8], path: &[u8], date: &[u8], kind: Kind) -> Result<Answer, Refusal> {
+        let mut tree = reader::judge(image)?;
+        tree.make(path, date, kind)?;
+        writer::make(image, path, date, kind);
+        Ok(Answer::granted())
+    }
+}
+
+impl Calls for Plain {
+    fn format(&self, image: &mut [u8]) -> Answer {
+        match pages_of_image(image.len()) {
+            Ok(pages) => {
+                writer::format(image, pages);
+                Answer::granted()
+            }
+            Err(refusal) => Answer::refused(refusal),
+        }
+    }
+
+    fn verdict(&self, image: &[u8]) -> Answer {
+        reader::judge(image).map(|tree| tree.verdict()).into()
+    }
+
+    fn find(&self, image: &[u8], path: &[u8]) -> Answer {
+        reader::judge(image).and_then(|tree| tree.find(path)).into()
+    }
+
+    fn list(&self, image: &[u8], path: &[u8], entry: u64) -> Answer {
+        reader::judge(image)
+            .and_then(|tree| tree.list(path, entry))
+            .into()
+    }
+
+    fn read(&self, image: &[u8], path: &[u8], position: u64, buffer: &mut [u8]) -> Answer {
+        reader::judge(image)
+            .and_then(|tree| tree.read(path, position, buffer))
+            .into()
+    }
+
+    fn make_file(&self, image: &mut [u8], path: &[u8], date: &[u8]) -> Answer {
+        Plain::make(image, path, date, Kind::File).into()
+    }
+
+    fn make_directory(&self, image: &mut [u8], path: &[u8], date: &[u8]) -> Answer {
+        Plain::make(image, path, date, Kind::Directory).into()
+    }
+
+    fn write(&self, image: &mut [u8], path: &[u8], position: u64, bytes: &[u8]) -> Answer {
+        let granted = reader::judge(image).and_then(|mut tree| tree.write(path, position, bytes));
+        if granted.is_ok() {
+            writer::write(image, path, position as usize, bytes);
+        }
+        granted.into()
+    }
+
+    fn remove(&self, image: &mut [u8], path: &[u8]) -> Answer {
+        let granted = reader::judge(image).and_then(|mut tree| tree.remove(path));
+        if granted.is_ok() {
+            writer::remove(image, path);
+        }
+        granted.into()
+    }
+}
+
+/// The replay of a list of calls on the tree alone: it sees the tree of the
+/// starting image, the image's length and the calls' arguments, and no byte of
+/// any later image.
+pub struct Replay {
+    pub tree: Tree,
+    length: usize,
+}
+
+impl Replay {
+    /// None if the starting image is not sound.
+    pub fn of(image: &[u8]) -> Option<Replay> {
+        let tree = reader::judge(image).ok()?;
+        Some(Replay {
+            tree,
+            length: image.len(),
+        })
+    }
+
+    /// An image of an allowed length, right after format.
+    pub fn formatted(length: usize) -> Replay {
+        let pages = pages_of_image(length).expect("an allowed length");
+        Replay {
+            tree: Tree::empty(pages),
+            length,
+        }
+    }
+
+    /// Performs one call on the tree.
+    pub fn step(&mut self, call: &mut Call) -> Answer {
+        let tree = &mut self.tree;
+        let result = match call {
+            Call::Format => pages_of_image(self.length).map(|pages| {
+                *tree = Tree::empty(pages);
+                Answer::granted()
+            }),
+            Call::Verdict => Ok(tree.verdict()),
+            Call::Find(path) => tree.find(path),
+            Call::List(path, entry) => tree.list(path, *entry),
+            Call::Read(path, position, buffer) => tree.read(path, *position, buffer),
+            Call::MakeFile(path, date) => tree.make(path, date, Kind::File),
+            Call::MakeDirectory(path, date) => tree.make(path, date, Kind::Directory),
+            Call::Write(path, position, bytes) => tree.write(path, *position, bytes),
+            Call::Remove(path) => tree.remove(path),
+        };
+        result.into()
+    }
+}

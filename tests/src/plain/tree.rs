@@ -1,0 +1,286 @@
+//! The plain tree and the calls on it. It knows N but no page numbers.
+
+use super::path::{good_date, parse, Name};
+use super::{pages_of_file, DIRECTORY_ENTRIES, ROOT_ENTRIES};
+use crate::calls::{Answer, Kind, Refusal, DATE_BYTES, DIRECTORY_SIZE, NAME_BYTES};
+
+/// What a sound image means.
+#[derive(Clone, Debug, PartialEq, Eq)]
+pub struct Tree {
+    /// N, with the header page.
+    pub pages: usize,
+    pub root: Directory,
+}
+
+/// A directory: its row of entries, empty ones included.
+#[derive(Clone, Debug, PartialEq, Eq)]
+pub struct Directory {
+    pub entries: Vec<Option<Entry>>,
+}
+
+#[derive(Clone, Debug, PartialEq, Eq)]
+pub struct Entry {
+    /// Without padding.
+    pub name: Vec<u8>,
+    pub date: [u8; DATE_BYTES],
+    pub node: Node,
+}
+
+#[derive(Clone, Debug, PartialEq, Eq)]
+pub enum Node {
+    File(Vec<u8>),
+    Directory(Directory),
+}
+
+impl Directory {
+    pub fn empty(entries: usize) -> Directory {
+        Directory {
+            entries: vec![None; entries],
+        }
+    }
+
+    /// The occupied entries, in order.
+    pub fn occupied(&self) -> impl Iterator<Item = &Entry> {
+        self.entries.iter().flatten()
+    }
+
+    /// The number of the entry of that name.
+    fn position(&self, name: &[u8]) -> Option<usize> {
+        let named = |entry: &Option<Entry>| entry.as_ref().is_some_and(|entry| entry.name == name);
+        self.entries.iter().position(named)
+    }
+
+    fn entry(&self, name: Name) -> Result<&Entry, Refusal> {
+        let missing = Refusal::at_name(5, name.begins);
+        let position = self.position(name.bytes).ok_or(missing)?;
+        self.entries[position].as_ref().ok_or(missing)
+    }
+
+    fn entry_mut(&mut self, name: Name) -> Result<&mut Entry, Refusal> {
+        let missing = Refusal::at_name(5, name.begins);
+        let position = self.position(name.bytes).ok_or(missing)?;
+        self.entries[position].as_mut().ok_or(missing)
+    }
+
+    /// The pages that everything in the directory needs, without its own.
+    fn pages_below(&self) -> usize {
+        self.occupied().map(|entry| entry.node.pages()).sum()
+    }
+}
+
+impl Entry {
+    /// The 16 name bytes.
+    pub fn padded_name(&self) -> [u8; NAME_BYTES] {
+        let mut padded = [0; NAME_BYTES];
+        padded[..self.name.len()].copy_from_slice(&self.name);
+        padded
+    }
+}
+
+impl Node {
+    pub fn kind(&self) -> Kind {
+        match self {
+            Node::File(_) => Kind::File,
+            Node::Directory(_) => Kind::Directory,
+        }
+    }
+
+    pub fn size(&self) -> u64 {
+        match self {
+            Node::File(content) => content.len() as u64,
+            Node::Directory(_) => DIRECTORY_SIZE,
+        }
+    }
+
+    /// The pages that the node and all below it need.
+    fn pages(&self) -> usize {
+        match self {
+            Node::File(content) => pages_of_file(content.len()),
+            Node::Directory(directory) => 1 + directory.pages_below(),
+        }
+    }
+}
+
+impl Tree {
+    pub fn empty(pages: usize) -> Tree {
+        Tree {
+            pages,
+            root: Directory::empty(ROOT_ENTRIES),
+        }
+    }
+
+    /// The free number.
+    pub fn free(&self) -> usize {
+        self.pages - 1 - self.root.pages_below()
+    }
+
+    /// The directory at the end of the walk over all `names`.
+    fn directory(&self, names: &[Name]) -> Result<&Directory, Refusal> {
+        let mut directory = &self.root;
+        for &name in names {
+            directory = match &directory.entry(name)?.node {
+                Node::Directory(below) => below,
+                Node::File(_) => return Err(Refusal::at_name(6, name.begins)),
+            };
+        }
+        Ok(directory)
+    }
+
+    fn directory_mut(&mut self, names: &[Name]) -> Result<&mut Directory, Refusal> {
+        let mut directory = &mut self.root;
+        for &name in names {
+            directory = match &mut directory.entry_mut(name)?.node {
+                Node::Directory(below) => below,
+                Node::File(_) => return Err(Refusal::at_name(6, name.begins)),
+            };
+        }
+        Ok(directory)
+    }
+
+    pub fn verdict(&self) -> Answer {
+        Answer::verdict(self.pages as u64, self.free() as u64)
+    }
+
+    pub fn find(&self, path: &[u8]) -> Result<Answer, Refusal> {
+        let names = parse(path)?;
+        let Some((&last, parents)) = names.split_last() else {
+            let no_date = [0; DATE_BYTES];
+            return Ok(Answer::found(Kind::Directory, DIRECTORY_SIZE, no_date));
+        };
+        let entry = self.directory(parents)?.entry(last)?;
+        let node = &entry.node;
+        Ok(Answer::found(node.kind(), node.size(), entry.date))
+    }
+
+    pub fn list(&self, path: &[u8], entry: u64) -> Result<Answer, Refusal> {
+        let directory = self.directory(&parse(path)?)?;
+        let past_the_last = entry >= directory.entries.len() as u64;
+        if past_the_last {
+            return Err(Refusal::number(12));
+        }
+        Ok(match &directory.entries[entry as usize] {
+            None => Answer::empty_entry(),
+            Some(entry) => Answer::occupied(
+                entry.node.kind(),
+                entry.padded_name(),
+                entry.node.size(),
+                entry.date,
+            ),
+        })
+    }
+
+    /// The content of the file at the end of the walk.
+    fn content(&self, path: &[u8]) -> Result<&Vec<u8>, Refusal> {
+        let names = parse(path)?;
+        let is_directory = Refusal::number(7);
+        let (&last, parents) = names.split_last().ok_or(is_directory)?;
+        match &self.directory(parents)?.entry(last)?.node {
+            Node::File(content) => Ok(content),
+            Node::Directory(_) => Err(is_directory),
+        }
+    }
+
+    fn content_mut(&mut self, path: &[u8]) -> Result<&mut Vec<u8>, Refusal> {
+        let names = parse(path)?;
+        let is_directory = Refusal::number(7);
+        let (&last, parents) = names.split_last().ok_or(is_directory)?;
+        match &mut self.directory_mut(parents)?.entry_mut(last)?.node {
+            Node::File(content) => Ok(content),
+            Node::Directory(_) => Err(is_directory),
+        }
+    }
+
+    pub fn read(&self, path: &[u8], position: u64, buffer: &mut [u8]) -> Result<Answer, Refusal> {
+        let content = self.content(path)?;
+        if position > content.len() as u64 {
+            return Err(Refusal::number(12));
+        }
+        let rest = &content[position as usize..];
+        let count = rest.len().min(buffer.len());
+        buffer[..count].copy_from_slice(&rest[..count]);
+        Ok(Answer::count(count as u64))
+    }
+
+    pub fn make(&mut self, path: &[u8], date: &[u8], kind: Kind) -> Result<Answer, Refusal> {
+        let names = parse(path)?;
+        let date = good_date(date)?;
+        let free = self.free();
+        let there_already = Refusal::number(8);
+        let (last, parents) = names.split_last().ok_or(there_already)?;
+        let parent = self.directory_mut(parents)?;
+        if parent.position(last.bytes).is_some() {
+            return Err(there_already);
+        }
+        let lowest_empty = parent.entries.iter().position(Option::is_none);
+        let position = lowest_empty.ok_or(Refusal::number(9))?;
+        let node = match kind {
+            Kind::File => Node::File(Vec::new()),
+            Kind::Directory => Node::Directory(Directory::empty(DIRECTORY_ENTRIES)),
+        };
+        if node.pages() > free {
+            return Err(Refusal::number(10));
+        }
+        parent.entries[position] = Some(Entry {
+            name: last.bytes.to_vec(),
+            date,
+            node,
+        });
+        Ok(Answer::granted())
+    }
+
+    pub fn write(&mut self, path: &[u8], position: u64, bytes: &[u8]) -> Result<Answer, Refusal> {
+        let size = self.content(path)?.len();
+        if position > size as u64 {
+            return Err(Refusal::number(12));
+        }
+        // No wrap: the position is at most a size, and sizes are below 65,536.
+        let position = position as usize;
+        let end = position + bytes.len();
+        let new_size = size.max(end);
+        if pages_of_file(new_size) - pages_of_file(size) > self.free() {
+            return Err(Refusal::number(10));
+        }
+        let content = self.content_mut(path)?;
+        content.resize(new_size, 0);
+        content[position..end].copy_from_slice(bytes);
+        Ok(Answer::granted())
+    }
+
+    pub fn remove(&mut self, path: &[u8]) -> Result<Answer, Refusal> {
+        let names = parse(path)?;
+        let (&last, parents) = names.split_last().ok_or(Refusal::number(14))?;
+        let parent = self.directory_mut(parents)?;
+        if let Node::Directory(directory) = &parent.entry(last)?.node {
+            if directory.occupied().next().is_some() {
+                return Err(Refusal::number(13));
+            }
+        }
+        let position = parent.position(last.bytes);
+        parent.entries[position.expect("the entry was found")] = None;
+        Ok(Answer::granted())
+    }
+
+    /// The paths of all entries, in the order of the listing.
+    pub fn paths(&self) -> Vec<(Vec<u8>, &Entry)> {
+        let mut paths = Vec::new();
+        collect_paths(&self.root, &[], &mut paths);
+        paths
+    }
+}
+
+/// Adds what is in `directory`, each directory's contents directly after it.
+fn collect_paths<'a>(
+    directory: &'a Directory,
+    above: &[u8],
+    paths: &mut Vec<(Vec<u8>, &'a Entry)>,
+) {
+    for entry in directory.occupied() {
+        let mut path = above.to_vec();
+        path.push(b'/');
+        path.extend_from_slice(&entry.name);
+        paths.push((path.clone(), entry));
+        if let Node::Directory(below) = &entry.node {
+            collect_paths(below, &path, paths);
+        }
+    }
+}

@@ -1,0 +1,268 @@
+//! Shrinks a list of calls that shows a difference: drops calls, simplifies
+//! the image, shortens the calls' bytes, and prints what is left.
+
+use crate::calls::{Call, Calls};
+use crate::harness::{compare, Difference, Scenario};
+use crate::plain::{Plain, PAGE};
+use std::fmt::Write;
+
+/// Comparisons that one shrinking may cost.
+const TRIALS: usize = 30_000;
+
+struct Shrinker<'a> {
+    expected: &'a dyn Calls,
+    actual: &'a dyn Calls,
+    best: Scenario,
+    trials: usize,
+}
+
+/// A list, as short as is found, on which the two implementations differ.
+pub fn shrink(scenario: &Scenario, expected: &dyn Calls, actual: &dyn Calls) -> Scenario {
+    let mut shrinker = Shrinker {
+        expected,
+        actual,
+        best: scenario.clone(),
+        trials: 0,
+    };
+    loop {
+        let before = shrinker.best.clone();
+        shrinker.cut_tail();
+        shrinker.drop_calls();
+        shrinker.simplify_image();
+        shrinker.simplify_calls();
+        if shrinker.best == before || shrinker.trials >= TRIALS {
+            return shrinker.best;
+        }
+    }
+}
+
+impl Shrinker<'_> {
+    /// Takes the scenario if it still shows a difference.
+    fn accept(&mut self, scenario: Scenario) -> bool {
+        if self.trials >= TRIALS || scenario == self.best {
+            return false;
+        }
+        self.trials += 1;
+        let difference = compare(&scenario, self.expected, self.actual, &mut |_, _| {});
+        if difference.is_some() {
+            self.best = scenario;
+        }
+        difference.is_some()
+    }
+
+    /// Nothing after the call that shows the difference is needed.
+    fn cut_tail(&mut self) {
+        let difference = compare(&self.best, self.expected, self.actual, &mut |_, _| {});
+        if let Some(difference) = difference {
+            let mut scenario = self.best.clone();
+            scenario.calls.truncate(difference.step + 1);
+            self.accept(scenario);
+        }
+    }
+
+    /// Delta debugging: drops stretches of calls, halving their length.
+    fn drop_calls(&mut self) {
+        let mut length = self.best.calls.len().max(1);
+        while length > 0 {
+            let mut from = 0;
+            while from < self.best.calls.len() {
+                let to = (from + length).min(self.best.calls.len());
+                let mut scenario = self.best.clone();
+                scenario.calls.drain(from..to);
+                if !self.accept(scenario) {
+                    from += length;
+                }
+            }
+            length /= 2;
+        }
+    }
+
+    /// A fresh image, a smaller fresh one, or the same with stretches zeroed.
+    fn simplify_image(&mut self) {
+        for length in [2048, self.best.image.len()] {
+            let mut fresh = vec![0; length];
+            Plain.format(&mut fresh);
+            if self.accept_image(fresh) {
+                return;
+            }
+        }
+        for length in [16 * PAGE, PAGE, 32, 1] {
+            let mut from = 0;
+            while from < self.best.image.len() {
+                let to = (from + length).min(self.best.image.len());
+                let mut image = self.best.image.clone();
+                image[from..to].fill(0);
+                self.accept_image(image);
+                from = to;
+            }
+        }
+    }
+
+    fn accept_image(&mut self, image: Vec<u8>) -> bool {
+        let calls = self.best.calls.clone();
+        self.accept(Scenario { image, calls })
+    }
+
+    fn simplify_calls(&mut self) {
+        for index in 0..self.best.calls.len() {
+            while simpler(&self.best.calls[index])
+                .into_iter()
+                .any(|call| self.accept_call(index, call))
+            {}
+        }
+    }
+
+    fn accept_call(&mut self, index: usize, call: Call) -> bool {
+        let mut scenario = self.best.clone();
+        scenario.calls[index] = call;
+        self.accept(scenario)
+    }
+}
+
+/// Calls that are a little simpler than this one.
+fn simpler(call: &Call) -> Vec<Call> {
+    match call {
+        Call::Format | Call::Verdict => Vec::new(),
+        Call::Find(path) => shorter(path).map(Call::Find).collect(),
+        Call::Remove(path) => shorter(path).map(Call::Remove).collect(),
+        Call::List(path, entry) => {
+            let paths = shorter(path).map(|path| Call::List(path, *entry));
+            let numbers = smaller(*entry).map(|entry| Call::List(path.clone(), entry));
+            paths.chain(numbers).collect()
+        }
+        Call::MakeFile(path, date) => shorter(path)
+            .map(|path| Call::MakeFile(path, date.clone()))
+            .collect(),
+        Call::MakeDirectory(path, date) => shorter(path)
+            .map(|path| Call::MakeDirectory(path, date.clone()))
+            .collect(),
+        Call::Read(path, position, buffer) => {
+            let with = |(path, position, bytes)| Call::Read(path, position, bytes);
+            simpler_transfer(path, *position, buffer)
+                .map(with)
+                .collect()
+        }
+        Call::Write(path, position, bytes) => {
+            let with = |(path, position, bytes)| Call::Write(path, position, bytes);
+            simpler_transfer(path, *position, bytes).map(with).collect()
+        }
+    }
+}
+
+type Transfer = (Vec<u8>, u64, Vec<u8>);
+
+fn simpler_transfer<'a>(
+    path: &'a [u8],
+    position: u64,
+    bytes: &'a [u8],
+) -> impl Iterator<Item = Transfer> + 'a {
+    let paths = shorter(path).map(move |path| (path, position, bytes.to_vec()));
+    let positions =
+        smaller(position).map(move |position| (path.to_vec(), position, bytes.to_vec()));
+    let contents = shorter(bytes)
+        .chain(plainer(bytes))
+        .map(move |bytes| (path.to_vec(), position, bytes));
+    contents.chain(positions).chain(paths)
+}
+
+/// The bytes without a stretch at their beginning, middle or end.
+fn shorter(bytes: &[u8]) -> impl Iterator<Item = Vec<u8>> + '_ {
+    let halvings = std::iter::successors(Some(bytes.len().div_ceil(2)), |cut| {
+        (*cut > 1).then_some(cut / 2)
+    });
+    let cuts = halvings.filter(|&cut| cut > 0);
+    cuts.flat_map(move |cut| {
+        let kept = bytes.len() - cut;
+        let middle = [&bytes[..kept / 2], &bytes[kept / 2 + cut..]].concat();
+        [bytes[..kept].to_vec(), middle, bytes[cut..].to_vec()]
+    })
+}
+
+/// The same number of bytes, all `x`, unless they are already.
+fn plainer(bytes: &[u8]) -> Option<Vec<u8>> {
+    let plain = vec![b'x'; bytes.len()];
+    (plain != bytes).then_some(plain)
+}
+
+/// Some smaller numbers, the smallest first.
+fn smaller(number: u64) -> impl Iterator<Item = u64> {
+    let candidates = [0, 1, 255, 256, number / 2, number.saturating_sub(1)];
+    candidates.into_iter().filter(move |&other| other < number)
+}
+
+/// The whole report of a difference: where the list comes from, the shortest
+/// one found, and where the implementations part.
+pub fn report(
+    origin: &str,
+    scenario: &Scenario,
+    expected: &dyn Calls,
+    actual: &dyn Calls,
+) -> String {
+    let shortest = shrink(scenario, expected, actual);
+    let difference = compare(&shortest, expected, actual, &mut |_, _| {});
+    let Difference { step, what } = difference.expect("shrinking keeps a difference");
+    let mut text = format!("{origin}\n");
+    let _ = writeln!(
+        text,
+        "{} calls, shortest list found has {}:",
+        scenario.calls.len(),
+        shortest.calls.len()
+    );
+    text += &image_text(&shortest.image);
+    for (index, call) in shortest.calls.iter().enumerate() {
+        let mark = if index == step { ">" } else { " " };
+        let _ = writeln!(text, "{mark} {}", call_text(call));
+    }
+    text + &what
+}
+
+/// An image as its length and the lines of 16 bytes that aren't all zero.
+fn image_text(image: &[u8]) -> String {
+    let mut fresh = vec![0; image.len()];
+    if Plain.format(&mut fresh).is_granted() && fresh == image {
+        return format!("  a fresh image of {} bytes\n", image.len());
+    }
+    let mut text = format!("  an image of {} bytes, zero but for:\n", image.len());
+    for (line, bytes) in image.chunks(16).enumerate() {
+        if bytes.iter().any(|&byte| byte != 0) {
+            let _ = writeln!(text, "    {:5}: {}", line * 16, hex(bytes));
+        }
+    }
+    text
+}
+
+fn call_text(call: &Call) -> String {
+    let name = call.name();
+    match call {
+        Call::Format | Call::Verdict => name.to_string(),
+        Call::Find(path) | Call::Remove(path) => format!("{name} {}", text(path)),
+        Call::List(path, entry) => format!("{name} {} entry {entry}", text(path)),
+        Call::MakeFile(path, date) | Call::MakeDirectory(path, date) => {
+            format!("{name} {} date {}", text(path), hex(date))
+        }
+        Call::Read(path, position, bytes) | Call::Write(path, position, bytes) => {
+            let length = bytes.len();
+            format!(
+                "{name} {} at {position} {length} bytes: {}",
+                text(path),
+                hex(bytes)
+            )
+        }
+    }
+}
+
+fn text(path: &[u8]) -> String {
+    format!("\"{}\"", path.escape_ascii())
+}
+
+/// Bytes in hexadecimal; a run of one byte is told by its length.
+fn hex(bytes: &[u8]) -> String {
+    let mut text = String::new();
+    for run in bytes.chunk_by(|left, right| left == right) {
+        let _ = match run.len() {
+            1..=3 => write!(text, "{}", format!("{:02X} ", run[0]).repeat(run.len())),
+            count => write!(text, "{:02X}*{count} ", run[0]),
+        };
+    }
+    text.trim_end().to_string()
+}

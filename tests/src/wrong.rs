@@ -1,0 +1,262 @@
+//! Copies of the plain implementation with one thing broken, to see that the
+//! harness tells of each.
+
+use crate::calls::{Answer, Call, Calls};
+use crate::plain::{Plain, BITMAP_AT, CONTENT, PAGE};
+
+/// What is broken.
+#[derive(Clone, Copy, Debug, PartialEq, Eq)]
+pub enum Fault {
+    /// Leading zeros of names do not count.
+    LeadingZeros,
+    /// Byte 3 is trusted without counting.
+    TrustedFreeCount,
+    /// Zero bits are counted over all 32 bitmap bytes.
+    WholeBitmap,
+    /// The pages of a write are marked before it is refused.
+    MarkedBeforeRefusal,
+    /// Only the first page of content is written.
+    FirstPageOnly,
+    /// A granted write also stamps the entry's date.
+    DateOnWrite,
+    /// Remove clears all of the entry.
+    WholeEntryCleared,
+    /// Remove clears the freed page.
+    FreedPageCleared,
+    /// Read zeroes the rest of the buffer.
+    BufferRestZeroed,
+    /// A position is cut to 32 bits.
+    ShortPosition,
+    /// An entry number is cut to 8 bits.
+    ShortEntryNumber,
+    /// The place of a refusal is the slash and not the name.
+    PlaceOfSlash,
+    /// A directory that isn't empty is removed as 7 and not as 13.
+    WrongNumber,
+    /// The root answers a date.
+    RootDate,
+    /// Format zeroes the whole image.
+    FormatAll,
+    /// The weekday is judged.
+    JudgedWeekday,
+    /// Reserved flag bits are cleared by a write.
+    ReservedFlagsCleared,
+    /// A bad date is told before a bad path.
+    DateBeforePath,
+}
+
+/// All faults.
+pub const FAULTS: [Fault; 18] = [
+    Fault::LeadingZeros,
+    Fault::TrustedFreeCount,
+    Fault::WholeBitmap,
+    Fault::MarkedBeforeRefusal,
+    Fault::FirstPageOnly,
+    Fault::DateOnWrite,
+    Fault::WholeEntryCleared,
+    Fault::FreedPageCleared,
+    Fault::BufferRestZeroed,
+    Fault::ShortPosition,
+    Fault::ShortEntryNumber,
+    Fault::PlaceOfSlash,
+    Fault::WrongNumber,
+    Fault::RootDate,
+    Fault::FormatAll,
+    Fault::JudgedWeekday,
+    Fault::ReservedFlagsCleared,
+    Fault::DateBeforePath,
+];
+
+/// The plain implementation with one fault.
+pub struct Wrong(pub Fault);
+
+impl Wrong {
+    fn has(&self, fault: Fault) -> bool {
+        self.0 == fault
+    }
+
+    /// Performs a call and breaks what the fault says.
+    fn perform(&self, image: &mut [u8], mut call: Call) -> (Answer, Call) {
+        let before = image.to_vec();
+        self.spoil_arguments(&mut call);
+        let mut answer = call.perform(&Plain, image);
+        match &mut call {
+            Call::Read(_, _, buffer)
+                if self.has(Fault::BufferRestZeroed) && answer.is_granted() =>
+            {
+                buffer[answer.values[0] as usize..].fill(0);
+            }
+            Call::Write(_, position, bytes) => {
+                self.spoil_write(image, &before, *position, bytes, &answer);
+            }
+            Call::Remove(_) if answer.is_granted() => self.spoil_remove(image, &before),
+            _ => {}
+        }
+        self.spoil_answer(&mut answer, &call);
+        (answer, call)
+    }
+
+    fn spoil_arguments(&self, call: &mut Call) {
+        match call {
+            Call::Find(path) | Call::Remove(path) | Call::List(path, _) => self.spoil_path(path),
+            _ => {}
+        }
+        match call {
+            Call::Read(_, position, _) | Call::Write(_, position, _)
+                if self.has(Fault::ShortPosition) =>
+            {
+                *position &= 0xFFFF_FFFF;
+            }
+            Call::List(_, entry) if self.has(Fault::ShortEntryNumber) => *entry &= 0xFF,
+            _ => {}
+        }
+    }
+
+    fn spoil_path(&self, path: &mut Vec<u8>) {
+        if self.has(Fault::LeadingZeros) && path.starts_with(b"/0") && path.len() > 2 {
+            path.remove(1);
+        }
+    }
+
+    fn spoil_write(
+        &self,
+        image: &mut [u8],
+        before: &[u8],
+        position: u64,
+        bytes: &[u8],
+        answer: &Answer,
+    ) {
+        match self.0 {
+            Fault::MarkedBeforeRefusal if answer.number == 10 => image[BITMAP_AT] = 0xFF,
+            Fault::FirstPageOnly if answer.is_granted() && bytes.len() > CONTENT => {
+                let all = image.to_vec();
+                image[PAGE..].copy_from_slice(&before[PAGE..]);
+                image[PAGE..2 * PAGE].copy_from_slice(&all[PAGE..2 * PAGE]);
+            }
+            Fault::DateOnWrite if answer.is_granted() && position > 0 => {
+                let entry = changed_entry(image, before);
+                image[entry + 27] ^= 1;
+            }
+            Fault::ReservedFlagsCleared if answer.is_granted() => {
+                let entry = changed_entry(image, before);
+                image[entry] &= 0x81;
+            }
+            _ => {}
+        }
+    }
+
+    fn spoil_remove(&self, image: &mut [u8], before: &[u8]) {
+        let entry = changed_entry(image, before);
+        match self.0 {
+            Fault::WholeEntryCleared => image[entry..entry + 32].fill(0),
+            Fault::FreedPageCleared => {
+                let page = usize::from(image[entry + 17]);
+                if page != 0 {
+                    image[page * PAGE..(page + 1) * PAGE].fill(0);
+                }
+            }
+            _ => {}
+        }
+    }
+
+    fn spoil_answer(&self, answer: &mut Answer, call: &Call) {
+        match self.0 {
+            Fault::PlaceOfSlash if answer.place[0] > 0 => answer.place[0] -= 1,
+            Fault::WrongNumber if answer.number == 13 => answer.number = 7,
+            Fault::RootDate if *call == Call::Find(b"/".to_vec()) && answer.is_granted() => {
+                answer.date[2] = 1;
+            }
+            _ => {}
+        }
+    }
+
+    /// The image as the faulty judge sees it.
+    fn judged(&self, image: &[u8]) -> Vec<u8> {
+        let mut seen = image.to_vec();
+        if image.len() < 2048 {
+            return seen;
+        }
+        let pages = (image.len() / PAGE).min(256);
+        let in_use = BITMAP_AT..BITMAP_AT + pages / 8;
+        let zeros = |bytes: &[u8]| bytes.iter().map(|byte| byte.count_zeros()).sum::<u32>() as u8;
+        match self.0 {
+            Fault::TrustedFreeCount => seen[3] = zeros(&image[in_use]),
+            Fault::WholeBitmap => {
+                let past = zeros(&image[in_use.end..BITMAP_AT + 32]);
+                seen[3] = seen[3].wrapping_sub(past);
+            }
+            _ => {}
+        }
+        seen
+    }
+
+    fn make(&self, image: &mut [u8], path: &[u8], date: &[u8], call: Call) -> Answer {
+        let mut answer = self.perform(image, call).0;
+        if self.has(Fault::JudgedWeekday) && answer.is_granted() && date[4] > 6 {
+            answer.number = 11;
+        }
+        let no_path = !path.starts_with(b"/");
+        if self.has(Fault::DateBeforePath) && no_path && date.len() != 8 && answer.number == 4 {
+            answer.number = 11;
+        }
+        answer
+    }
+}
+
+/// The first entry of which a byte has changed; the first of all if none has.
+fn changed_entry(image: &[u8], before: &[u8]) -> usize {
+    let is_changed = |&at: &usize| image[at..at + 32] != before[at..at + 32];
+    (64..image.len()).step_by(32).find(is_changed).unwrap_or(64)
+}
+
+impl Calls for Wrong {
+    fn format(&self, image: &mut [u8]) -> Answer {
+        let answer = Plain.format(image);
+        if self.has(Fault::FormatAll) && answer.is_granted() {
+            image[PAGE..].fill(0);
+        }
+        answer
+    }
+
+    fn verdict(&self, image: &[u8]) -> Answer {
+        Plain.verdict(&self.judged(image))
+    }
+
+    fn find(&self, image: &[u8], path: &[u8]) -> Answer {
+        let call = Call::Find(path.to_vec());
+        self.perform(&mut self.judged(image), call).0
+    }
+
+    fn list(&self, image: &[u8], path: &[u8], entry: u64) -> Answer {
+        let call = Call::List(path.to_vec(), entry);
+        self.perform(&mut self.judged(image), call).0
+    }
+
+    fn read(&self, image: &[u8], path: &[u8], position: u64, buffer: &mut [u8]) -> Answer {
+        let call = Call::Read(path.to_vec(), position, buffer.to_vec());
+        let (answer, call) = self.perform(&mut image.to_vec(), call);
+        if let Call::Read(_, _, filled) = call {
+            buffer.copy_from_slice(&filled);
+        }
+        answer
+    }
+
+    fn make_file(&self, image: &mut [u8], path: &[u8], date: &[u8]) -> Answer {
+        let call = Call::MakeFile(path.to_vec(), date.to_vec());
+        self.make(image, path, date, call)
+    }
+
+    fn make_directory(&self, image: &mut [u8], path: &[u8], date: &[u8]) -> Answer {
+        let call = Call::MakeDirectory(path.to_vec(), date.to_vec());
+        self.make(image, path, date, call)
+    }
+
+    fn write(&self, image: &mut [u8], path: &[u8], position: u64, bytes: &[u8]) -> Answer {
+        let call = Call::Write(path.to_vec(), position, bytes.to_vec());
+        self.perform(image, call).0
+    }
+
+    fn remove(&self, image: &mut [u8], path: &[u8]) -> Answer {
+        self.perform(image, Call::Remove(path.to_vec())).0
+    }
+}

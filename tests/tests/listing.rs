@@ -1,0 +1,82 @@
+//! The listing text, of the plain implementation, by the calls of each of the
+//! others, and by the program if one is given.
+
+use zealfs_tests::assemble::{assemble, nest, Order};
+use zealfs_tests::desk::Desk;
+use zealfs_tests::generate::starting_image;
+use zealfs_tests::plain::Plain;
+use zealfs_tests::random::Random;
+use zealfs_tests::subjects::compared;
+use zealfs_tests::{listing, settings};
+
+/// Checks all listings of the image, and answers the text.
+fn listed(image: &[u8]) -> Vec<u8> {
+    let expected = listing::plain(image);
+    for subject in compared() {
+        let text = listing::by_calls(subject.calls.as_ref(), image);
+        listing::assert_same(subject.name, &text, &expected);
+    }
+    if let Some(program) = settings::listing_program() {
+        let text = listing::by_program(&program, image);
+        listing::assert_same("the program", &text, &expected);
+    }
+    expected
+}
+
+#[test]
+fn the_worked_example() {
+    let mut desk = Desk::fresh(&Plain, 2048);
+    assert_eq!(desk.make_file("/0042"), 0);
+    assert_eq!(desk.write("/0042", 0, 256), 0);
+    assert_eq!(desk.make_directory("/A"), 0);
+    assert_eq!(desk.make_file("/A/7"), 0);
+    let text = "pages 8 free 4\nF 256 /0042\nD 256 /A\nF 0 /A/7\n";
+    assert_eq!(listed(&desk.image), text.as_bytes());
+}
+
+#[test]
+fn contents_come_directly_after_their_directory() {
+    let mut desk = Desk::fresh(&Plain, 8192);
+    for path in ["/A", "/A/B", "/A/B/C", "/D"] {
+        assert_eq!(desk.make_directory(path), 0);
+    }
+    for path in ["/A/x y", "/A/B/0", "/D/1", "/A/B/C/2", "/ "] {
+        assert_eq!(desk.make_file(path), 0);
+    }
+    let text = "pages 32 free 27\nD 256 /A\nD 256 /A/B\nD 256 /A/B/C\nF 0 /A/B/C/2\n\
+                F 0 /A/B/0\nF 0 /A/x y\nD 256 /D\nF 0 /D/1\nF 0 / \n";
+    assert_eq!(listed(&desk.image), text.as_bytes());
+}
+
+#[test]
+fn refused_images() {
+    let fresh = Desk::fresh(&Plain, 65_536).image;
+    let mut long = fresh.clone();
+    long.push(0);
+    let mut longer = fresh.clone();
+    longer.extend([0; 2048]);
+    for image in [&[][..], &fresh[..65_535], &long, &longer] {
+        assert_eq!(listed(image), b"refused 1\n");
+    }
+    assert_eq!(listed(&fresh[..2048]), b"refused 2\n");
+    let mut unsound = fresh;
+    unsound[3] = 254;
+    assert_eq!(listed(&unsound), b"refused 3\n");
+}
+
+#[test]
+fn the_deepest_nest() {
+    let tree = nest(256, 255, 16);
+    let image = assemble(&tree, Order::Scattered, &mut Random::new(1));
+    let text = listed(&image);
+    assert_eq!(text.iter().filter(|&&byte| byte == b'\n').count(), 256);
+}
+
+#[test]
+fn random_images() {
+    let mut random = Random::new(settings::seed());
+    for round in 0..300 {
+        let length = if round % 50 == 0 { 65_536 } else { 4096 };
+        listed(&starting_image(length, &mut random));
+    }
+}

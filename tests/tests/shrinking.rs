@@ -1,0 +1,60 @@
+//! The harness itself: each copy of the plain implementation with one thing
+//! broken is told of, with a short list of calls.
+
+use zealfs_tests::calls::Call;
+use zealfs_tests::damage::damage;
+use zealfs_tests::generate::{scenario, starting_image, Generator};
+use zealfs_tests::harness::{compare, Scenario};
+use zealfs_tests::plain::{Plain, Replay};
+use zealfs_tests::random::Random;
+use zealfs_tests::shrink::{report, shrink};
+use zealfs_tests::wrong::{Fault, Wrong, FAULTS};
+
+/// Lists among which a fault has to show.
+const LISTS: u64 = 4_000;
+
+fn damaged_scenario(seed: u64) -> Scenario {
+    let mut random = Random::new(seed);
+    let mut image = starting_image(2048, &mut random);
+    let replay = Replay::of(&image).expect("sound");
+    damage(&mut image, &mut random);
+    let mut generator = Generator::new(replay, &mut random);
+    let mut calls = vec![Call::Verdict];
+    calls.extend((0..4).map(|_| generator.next_call()));
+    Scenario { image, calls }
+}
+
+/// The first list that shows the fault, and its seed.
+fn first_shown(fault: Fault) -> Option<(u64, Scenario)> {
+    let wrong = Wrong(fault);
+    let shows = |scenario: &Scenario| compare(scenario, &Plain, &wrong, &mut |_, _| {}).is_some();
+    (0..LISTS).find_map(|seed| {
+        let candidates = [scenario(seed), damaged_scenario(seed)];
+        let found = candidates.into_iter().find(shows);
+        found.map(|scenario| (seed, scenario))
+    })
+}
+
+#[test]
+fn every_fault_is_told_and_shrunk() {
+    for fault in FAULTS {
+        let Some((seed, found)) = first_shown(fault) else {
+            panic!("{fault:?} does not show in {LISTS} lists");
+        };
+        let wrong = Wrong(fault);
+        let shortest = shrink(&found, &Plain, &wrong);
+        assert!(compare(&shortest, &Plain, &wrong, &mut |_, _| {}).is_some());
+        let (before, after) = (found.calls.len(), shortest.calls.len());
+        println!("{fault:?}: seed {seed}, {before} calls shrunk to {after}");
+        let origin = format!("seed {seed}");
+        println!("{}", report(&origin, &found, &Plain, &wrong));
+        assert!(after <= 4, "{fault:?} is left with {after} calls");
+    }
+}
+
+#[test]
+fn the_same_seed_gives_the_same_list() {
+    for seed in 0..50 {
+        assert_eq!(scenario(seed), scenario(seed));
+    }
+}
