@@ -1,0 +1,5 @@
+//! The target whose input is a list of calls.
+
+#![no_main]
+
+zealfs_fuzz::target!(zealfs_fuzz::lists::decode);

@@ -1,0 +1,5 @@
+//! The target whose input is an image.
+
+#![no_main]
+
+zealfs_fuzz::target!(zealfs_fuzz::images::decode);

@@ -1,0 +1,212 @@
+//! Inputs that are images.
+//!
+//! ```text
+//! byte 0   240 and above: the image follows byte 1 as it is;
+//!          else the number of a starting image, and edits follow byte 1
+//! byte 1   bit 0: bitmap and byte 3 are made to follow the pages that the
+//!          entries have; bits 1 to 7: with which path the calls begin
+//! edit     4 bytes: kind, a, b, value; see `edit`
+//! ```
+//!
+//! The calls are not part of the input. On a sound image they look at what
+//! there is and then change it; on any other all nine have to be refused, and
+//! the last, a format, is granted where the length is allowed.
+
+use crate::input::Input;
+use crate::pool;
+use zealfs_tests::calls::Call;
+use zealfs_tests::damage::{mend_bitmap, Survey};
+use zealfs_tests::desk::{pattern, DATE};
+use zealfs_tests::harness::Scenario;
+use zealfs_tests::plain::reader::judge;
+use zealfs_tests::plain::tree::{Node, Tree};
+use zealfs_tests::plain::{
+    pages_of_image, BITMAP_AT, CONTENT, DIRECTORY_ENTRIES, ENTRY, PAGE, ROOT_ENTRIES_AT,
+};
+
+/// From here on byte 0 says that the image itself follows.
+pub const WHOLE: u8 = 240;
+
+/// Edits that an input may ask for.
+const EDITS: usize = 40;
+
+/// Paths that the calls on a sound image go to.
+const PATHS: usize = 4;
+
+pub fn decode(bytes: &[u8]) -> Scenario {
+    let mut input = Input::new(bytes);
+    let first = input.byte();
+    let second = input.byte();
+    let mut image = match first {
+        WHOLE.. => input.rest().to_vec(),
+        _ => edited(pool::image(first.into()), &mut input),
+    };
+    if second & 1 != 0 && pages_of_image(image.len()).is_ok() {
+        mend_bitmap(&mut image);
+    }
+    let calls = match judge(&image) {
+        Ok(tree) => calls_on_sound(&tree, usize::from(second >> 1)),
+        Err(_) => calls_on_unsound(),
+    };
+    Scenario { image, calls }
+}
+
+fn edited(mut image: Vec<u8>, input: &mut Input) -> Vec<u8> {
+    for _ in 0..EDITS {
+        if input.is_used_up() || image.len() < 2048 {
+            break;
+        }
+        edit(&mut image, input);
+    }
+    image
+}
+
+/// One edit of an image of at least 2048 bytes.
+fn edit(image: &mut Vec<u8>, input: &mut Input) {
+    let [kind, a, b, value] = [(); 4].map(|()| input.byte());
+    let far = usize::from(a) + 256 * usize::from(b);
+    match kind % 8 {
+        // Any byte.
+        0 => {
+            let at = far % image.len();
+            image[at] = value;
+        }
+        // Byte b of entry a, counted over all that the directories have.
+        1 | 2 => {
+            let at = entry(image, a) + usize::from(b) % ENTRY;
+            image[at] = value;
+        }
+        // A bit of the same.
+        3 => {
+            let at = entry(image, a) + usize::from(b) % ENTRY;
+            image[at] ^= 1 << (value % 8);
+        }
+        // The link of page a.
+        4 => {
+            let pages = image.len() / PAGE;
+            image[usize::from(a) % pages * PAGE] = value;
+        }
+        // A byte of the bitmap, byte 3 following or not.
+        5 => {
+            let at = BITMAP_AT + usize::from(a) % 32;
+            let freed = value.count_zeros() as u8;
+            let was_free = image[at].count_zeros() as u8;
+            image[at] = value;
+            if b & 1 == 0 {
+                image[3] = image[3].wrapping_add(freed).wrapping_sub(was_free);
+            }
+        }
+        // Entry a becomes what entry b is.
+        6 => {
+            let (to, from) = (entry(image, a), entry(image, b));
+            image.copy_within(from..from + ENTRY, to);
+        }
+        // Another length, or one that byte 2 tells.
+        _ => match value {
+            0..=63 => image.resize(far, 0),
+            64..=127 => image.resize(8 * PAGE * (usize::from(a) % 34), 0),
+            _ => {
+                image.resize(8 * PAGE * (1 + usize::from(a) % 32), 0);
+                image[2] = (image.len() / (8 * PAGE)) as u8;
+            }
+        },
+    }
+}
+
+/// Where entry `number` is: the root's, then those of each directory.
+fn entry(image: &[u8], number: u8) -> usize {
+    let in_root = (ROOT_ENTRIES_AT..PAGE).step_by(ENTRY);
+    let below = Survey::of(image).directory_pages.into_iter();
+    let below = below.flat_map(|page| {
+        let of_page = 0..DIRECTORY_ENTRIES;
+        of_page.map(move |number| page * PAGE + number * ENTRY)
+    });
+    let places: Vec<usize> = in_root.chain(below).collect();
+    places[usize::from(number) % places.len()]
+}
+
+fn calls_on_unsound() -> Vec<Call> {
+    let path = || b"/A".to_vec();
+    vec![
+        Call::Verdict,
+        Call::Find(b"/".to_vec()),
+        Call::List(b"/".to_vec(), 0),
+        Call::Read(path(), 0, vec![0x55; 300]),
+        Call::MakeFile(path(), DATE.to_vec()),
+        Call::MakeDirectory(path(), DATE.to_vec()),
+        Call::Write(path(), 0, pattern(300)),
+        Call::Remove(path()),
+        // What a call takes for no path it takes so only on a sound image.
+        Call::Find(b"A".to_vec()),
+        Call::Format,
+        Call::MakeDirectory(path(), DATE.to_vec()),
+        Call::Verdict,
+    ]
+}
+
+/// Looks at the root and some entries from number `turn` on, then changes them.
+fn calls_on_sound(tree: &Tree, turn: usize) -> Vec<Call> {
+    let entries = tree.paths();
+    let chosen = (0..entries.len().min(PATHS)).map(|step| {
+        let (path, entry) = &entries[(turn + step) % entries.len()];
+        (path.as_slice(), &entry.node)
+    });
+    let chosen: Vec<(&[u8], &Node)> = chosen.collect();
+    let mut calls = vec![Call::Verdict, Call::Find(b"/".to_vec())];
+    look_into(&mut calls, b"/");
+    for (path, node) in &chosen {
+        look_at(&mut calls, path, node);
+    }
+    for (path, node) in &chosen {
+        change(&mut calls, path, node);
+    }
+    calls.extend([
+        Call::MakeFile(b"/0042".to_vec(), DATE.to_vec()),
+        Call::MakeDirectory(b"/042".to_vec(), DATE.to_vec()),
+        Call::Write(b"/0042".to_vec(), 0, pattern(CONTENT + 1)),
+        Call::Verdict,
+    ]);
+    calls
+}
+
+/// Lists every entry and one past the last.
+fn look_into(calls: &mut Vec<Call>, path: &[u8]) {
+    let numbers = 0..=DIRECTORY_ENTRIES as u64;
+    calls.extend(numbers.map(|number| Call::List(path.to_vec(), number)));
+}
+
+fn look_at(calls: &mut Vec<Call>, path: &[u8], node: &Node) {
+    calls.push(Call::Find(path.to_vec()));
+    match node {
+        Node::Directory(_) => look_into(calls, path),
+        Node::File(content) => {
+            let size = content.len();
+            let last_page = size / CONTENT * CONTENT;
+            for (position, room) in [(0, size + 1), (last_page, 2), (size, 1), (size + 1, 1)] {
+                let buffer = vec![0x55; room];
+                calls.push(Call::Read(path.to_vec(), position as u64, buffer));
+            }
+        }
+    }
+}
+
+/// Makes something below it, writes to it and removes it; before a directory
+/// what was made in it. What does not suit is refused.
+fn change(calls: &mut Vec<Call>, path: &[u8], node: &Node) {
+    let below = [path, b"/new".as_slice()].concat();
+    calls.push(Call::MakeFile(below.clone(), DATE.to_vec()));
+    calls.push(Call::MakeDirectory(below.clone(), DATE.to_vec()));
+    match node {
+        Node::File(content) => {
+            let size = content.len() as u64;
+            calls.push(Call::Write(path.to_vec(), size, pattern(CONTENT)));
+            calls.push(Call::Write(path.to_vec(), 0, pattern(1)));
+        }
+        Node::Directory(_) => {
+            calls.push(Call::Write(path.to_vec(), 0, pattern(1)));
+            calls.push(Call::Remove(path.to_vec()));
+            calls.push(Call::Remove(below));
+        }
+    }
+    calls.push(Call::Remove(path.to_vec()));
+}

@@ -1,0 +1,63 @@
+//! The sound images that inputs start from. They are always the same, so that
+//! an input means the same in every run.
+
+use std::sync::OnceLock;
+use zealfs_tests::assemble::{assemble, nest, Order};
+use zealfs_tests::desk::Desk;
+use zealfs_tests::generate::random_tree;
+use zealfs_tests::plain::{Plain, PAGE};
+use zealfs_tests::random::Random;
+
+/// The lengths of the images: mostly the smallest, where little has to be
+/// changed to reach a limit.
+const LENGTHS: [usize; 20] = [
+    2048, 2048, 2048, 2048, 2048, 2048, 2048, 2048, 2048, 2048, 2048, 2048, 4096, 4096, 4096, 8192,
+    8192, 16_384, 32_768, 65_536,
+];
+
+/// How many images there are.
+pub const COUNT: usize = 7 + LENGTHS.len();
+
+/// All images: three fresh ones, one with a bit of everything, deep ones,
+/// random ones.
+pub fn images() -> &'static [Vec<u8>] {
+    static IMAGES: OnceLock<Vec<Vec<u8>>> = OnceLock::new();
+    IMAGES.get_or_init(|| {
+        let fresh = [2048, 4096, 65_536].map(|length| Desk::fresh(&Plain, length).image);
+        let mut images = fresh.to_vec();
+        images.push(rich());
+        let mut random = Random::new(0x5A01);
+        // Deep, with room for a few more.
+        for (pages, depth) in [(16, 8), (64, 40), (256, 250)] {
+            images.push(assemble(
+                &nest(pages, depth, 1),
+                Order::Scattered,
+                &mut random,
+            ));
+        }
+        for length in LENGTHS {
+            let tree = random_tree(length / PAGE, &mut random);
+            images.push(assemble(&tree, Order::Scattered, &mut random));
+        }
+        images
+    })
+}
+
+/// The image of that number; the numbers go round.
+pub fn image(number: usize) -> Vec<u8> {
+    images()[number % COUNT].clone()
+}
+
+/// An image of 8 pages with a chain of two pages, one of one, empty files, a
+/// directory in a directory and a removed file.
+fn rich() -> Vec<u8> {
+    let mut desk = Desk::fresh(&Plain, 2048);
+    let directories = ["/D", "/D/E"].map(|path| desk.make_directory(path));
+    let files = ["/F", "/gone", "/0042", "/D/G", "/D/E/H", "/D/42"];
+    let files = files.map(|path| desk.make_file(path));
+    let lengths = [("/F", 256), ("/gone", 100), ("/D/G", 255)];
+    let writes = lengths.map(|(path, length)| desk.write(path, 0, length));
+    let numbers = [&directories[..], &files, &writes, &[desk.remove("/gone")]].concat();
+    assert!(numbers.iter().all(|&number| number == 0));
+    desk.image
+}

@@ -1,0 +1,199 @@
+//! A stand-in for the C library: the functions of include/zealfs.h over the
+//! plain implementation, with the fault that ZEALFS_FAULT names, one of
+//! tests/src/wrong.rs or of [`rare`], or with none. It is compiled without
+//! instrumentation, as the library is.
+
+mod rare;
+
+use rare::{Rarely, RARE};
+use std::sync::OnceLock;
+use std::{env, slice};
+use zealfs_tests::calls::{Answer, Calls};
+use zealfs_tests::plain::Plain;
+use zealfs_tests::wrong::{Wrong, FAULTS};
+
+/// What stands behind the functions.
+fn calls() -> &'static dyn Calls {
+    static CALLS: OnceLock<Box<dyn Calls + Send + Sync>> = OnceLock::new();
+    let calls = CALLS.get_or_init(|| match env::var("ZEALFS_FAULT") {
+        Ok(name) => named(&name).expect("ZEALFS_FAULT names a fault"),
+        Err(_) => Box::new(Plain),
+    });
+    calls.as_ref()
+}
+
+/// The plain implementation with the fault of that name.
+fn named(name: &str) -> Option<Box<dyn Calls + Send + Sync>> {
+    for fault in FAULTS {
+        if format!("{fault:?}") == name {
+            return Some(Box::new(Wrong(fault)));
+        }
+    }
+    let rare = RARE.into_iter().find(|rare| format!("{rare:?}") == name);
+    Some(Box::new(Rarely(rare?)))
+}
+
+/// The number and the place of an answer, as the header says.
+fn code(answer: &Answer) -> u64 {
+    let [a, b, c] = answer.place;
+    u64::from(answer.number) + 256 * (a + 65_536 * (b + 65_536 * c))
+}
+
+/// What a caller lends, as the header says: a pointer that is not null, and as
+/// many elements there as the length says.
+unsafe fn lent<'a>(bytes: *const u8, length: usize) -> &'a [u8] {
+    slice::from_raw_parts(bytes, length)
+}
+
+unsafe fn lent_mut<'a>(bytes: *mut u8, length: usize) -> &'a mut [u8] {
+    slice::from_raw_parts_mut(bytes, length)
+}
+
+/// Fills an out array.
+unsafe fn tell<T: Copy, const LENGTH: usize>(out: *mut T, values: &[T]) {
+    slice::from_raw_parts_mut(out, LENGTH).copy_from_slice(&values[..LENGTH]);
+}
+
+/// # Safety
+///
+/// As include/zealfs.h says.
+#[no_mangle]
+pub unsafe extern "C" fn zealfs_format(image: *mut u8, image_len: usize) -> u64 {
+    code(&calls().format(lent_mut(image, image_len)))
+}
+
+/// # Safety
+///
+/// As include/zealfs.h says.
+#[no_mangle]
+pub unsafe extern "C" fn zealfs_verdict(image: *const u8, image_len: usize, out: *mut u64) -> u64 {
+    let answer = calls().verdict(lent(image, image_len));
+    tell::<_, 2>(out, &answer.values);
+    code(&answer)
+}
+
+/// # Safety
+///
+/// As include/zealfs.h says.
+#[no_mangle]
+pub unsafe extern "C" fn zealfs_find(
+    image: *const u8,
+    image_len: usize,
+    path: *const u8,
+    path_len: usize,
+    out: *mut u64,
+    date: *mut u8,
+) -> u64 {
+    let answer = calls().find(lent(image, image_len), lent(path, path_len));
+    tell::<_, 2>(out, &answer.values);
+    tell::<_, 8>(date, &answer.date);
+    code(&answer)
+}
+
+/// # Safety
+///
+/// As include/zealfs.h says.
+#[no_mangle]
+pub unsafe extern "C" fn zealfs_list(
+    image: *const u8,
+    image_len: usize,
+    path: *const u8,
+    path_len: usize,
+    entry: u64,
+    out: *mut u64,
+    name: *mut u8,
+    date: *mut u8,
+) -> u64 {
+    let answer = calls().list(lent(image, image_len), lent(path, path_len), entry);
+    tell::<_, 3>(out, &answer.values);
+    tell::<_, 16>(name, &answer.name);
+    tell::<_, 8>(date, &answer.date);
+    code(&answer)
+}
+
+/// # Safety
+///
+/// As include/zealfs.h says.
+#[no_mangle]
+pub unsafe extern "C" fn zealfs_read(
+    image: *const u8,
+    image_len: usize,
+    path: *const u8,
+    path_len: usize,
+    position: u64,
+    buffer: *mut u8,
+    buffer_len: usize,
+    out: *mut u64,
+) -> u64 {
+    let buffer = lent_mut(buffer, buffer_len);
+    let answer = calls().read(
+        lent(image, image_len),
+        lent(path, path_len),
+        position,
+        buffer,
+    );
+    tell::<_, 1>(out, &answer.values);
+    code(&answer)
+}
+
+/// # Safety
+///
+/// As include/zealfs.h says.
+#[no_mangle]
+pub unsafe extern "C" fn zealfs_make_file(
+    image: *mut u8,
+    image_len: usize,
+    path: *const u8,
+    path_len: usize,
+    date: *const u8,
+    date_len: usize,
+) -> u64 {
+    let (image, path) = (lent_mut(image, image_len), lent(path, path_len));
+    code(&calls().make_file(image, path, lent(date, date_len)))
+}
+
+/// # Safety
+///
+/// As include/zealfs.h says.
+#[no_mangle]
+pub unsafe extern "C" fn zealfs_make_directory(
+    image: *mut u8,
+    image_len: usize,
+    path: *const u8,
+    path_len: usize,
+    date: *const u8,
+    date_len: usize,
+) -> u64 {
+    let (image, path) = (lent_mut(image, image_len), lent(path, path_len));
+    code(&calls().make_directory(image, path, lent(date, date_len)))
+}
+
+/// # Safety
+///
+/// As include/zealfs.h says.
+#[no_mangle]
+pub unsafe extern "C" fn zealfs_write(
+    image: *mut u8,
+    image_len: usize,
+    path: *const u8,
+    path_len: usize,
+    position: u64,
+    bytes: *const u8,
+    bytes_len: usize,
+) -> u64 {
+    let (image, path) = (lent_mut(image, image_len), lent(path, path_len));
+    code(&calls().write(image, path, position, lent(bytes, bytes_len)))
+}
+
+/// # Safety
+///
+/// As include/zealfs.h says.
+#[no_mangle]
+pub unsafe extern "C" fn zealfs_remove(
+    image: *mut u8,
+    image_len: usize,
+    path: *const u8,
+    path_len: usize,
+) -> u64 {
+    code(&calls().remove(lent_mut(image, image_len), lent(path, path_len)))
+}
