@@ -1,10 +1,9 @@
 #!/usr/bin/env python3
-"""Makes images of ZealFS version 1, laid out as document 01 says, for runs of the program `listing`.
+"""Makes images of ZealFS version 1, laid out as document 01 and 02 §1 say, for runs of the program `listing`.
 
     image.py example > FILE    document 01's example of a listing: 2,048 bytes with /0042 of 256 bytes, /A, and /A/7 of 0 bytes
     image.py nest > FILE       65,536 bytes with 255 directories, one inside the other, each with a name of 16 bytes
     image.py wide > FILE       65,536 bytes with 30 directories along one path of names of 16 bytes, and empty files in every entry that is left
-    image.py full > FILE       65,536 bytes: such a path of 255 directories, and empty files in every entry that is left
 
 The images are written byte by byte from the layout and not by the library, so that a listing of them is an outside check.
 """
@@ -39,13 +38,13 @@ class Image:
         self.bytes[at : at + 28] = fields
 
     def file(self, directory, i, name, content):
-        """Makes a file. The first byte of each of its pages is the link, 0 on the last."""
-        pages = [self.take() for _ in range((len(content) + ROOM - 1) // ROOM)]
+        """Makes a file, which has a page also when it is empty. The first byte of each page is the link, 0 on the last."""
+        pages = [self.take() for _ in range(max(1, (len(content) + ROOM - 1) // ROOM))]
         for k, page in enumerate(pages):
             part = content[ROOM * k : ROOM * (k + 1)]
             link = pages[k + 1] if k + 1 < len(pages) else 0
             self.bytes[PAGE * page : PAGE * page + 1 + len(part)] = bytes([link]) + part
-        self.entry(directory, i, 0x80, name, pages[0] if pages else 0, len(content))
+        self.entry(directory, i, 0x80, name, pages[0], len(content))
 
     def directory(self, directory, i, name):
         """Makes a directory, on one page, and answers the page."""
@@ -81,7 +80,6 @@ MADE = {
     "example": example,
     "nest": lambda: nest(255, False),
     "wide": lambda: nest(30, True),
-    "full": lambda: nest(255, True),
 }
 
 if __name__ == "__main__":

@@ -59,7 +59,8 @@ def fresh_root():
 
 
 def pages_for(size):
-    return -(-size // PAGE_CONTENT)
+    """The pages of a file; an empty one has a page too (document 02 §1)."""
+    return max(1, -(-size // PAGE_CONTENT))
 
 
 def free_number(root):
@@ -177,7 +178,7 @@ def do_make(root, path, date, made, pages):
 
 
 def do_make_file(root, path, date):
-    return do_make(root, path, date, lambda name: File(name, date), 0)
+    return do_make(root, path, date, lambda name: File(name, date), pages_for(0))
 
 
 def do_make_directory(root, path, date):
@@ -370,10 +371,10 @@ FULL_ROOT = [
     ("make_file", b"/sixth", NOON),
     ("make_directory", b"/third", NOON),
     *list_entries(b"/", 6),
-    ("write", b"/again", 0, digits(1276)),
-    ("write", b"/again", 0, digits(1275)),
+    ("write", b"/again", 0, digits(511)),
+    ("write", b"/again", 0, digits(510)),
     ("make_directory", b"/sixth", NOON),
-    ("read", b"/again", 1260, 20),
+    ("read", b"/again", 495, 20),
     ("verdict",),
 ]
 

@@ -2,7 +2,9 @@
 //! the paper leaves bytes free: what a foreign board might have written.
 
 use crate::plain::tree::{Directory, Entry, Node, Tree};
-use crate::plain::{BITMAP_AT, CONTENT, DIRECTORY_ENTRIES, ENTRY, PAGE, ROOT_ENTRIES_AT};
+use crate::plain::{
+    pages_of_file, BITMAP_AT, CONTENT, DIRECTORY_ENTRIES, ENTRY, PAGE, ROOT_ENTRIES_AT,
+};
 use crate::random::Random;
 
 /// Where the pages of an assembled image lie.
@@ -102,15 +104,17 @@ impl Assembly<'_> {
 
     /// Writes the chain of a file and answers its start page.
     fn content(&mut self, content: &[u8]) -> usize {
-        let pieces = content.chunks(CONTENT);
-        let chain: Vec<usize> = pieces.clone().map(|_| self.take_page()).collect();
+        let pages = pages_of_file(content.len());
+        let chain: Vec<usize> = (0..pages).map(|_| self.take_page()).collect();
         let links = chain.iter().skip(1).copied().chain([0]);
-        for ((piece, &page), link) in pieces.zip(&chain).zip(links) {
-            let bytes = &mut self.image[page * PAGE..(page + 1) * PAGE];
-            bytes[0] = link as u8;
-            bytes[1..1 + piece.len()].copy_from_slice(piece);
+        for (&page, link) in chain.iter().zip(links) {
+            self.image[page * PAGE] = link as u8;
         }
-        chain.first().copied().unwrap_or(0)
+        for (piece, &page) in content.chunks(CONTENT).zip(&chain) {
+            let from = page * PAGE + 1;
+            self.image[from..from + piece.len()].copy_from_slice(piece);
+        }
+        chain[0]
     }
 }
 

@@ -113,7 +113,7 @@ impl Judge<'_> {
 
     fn chain(&mut self, start: usize, size: usize) -> bool {
         let mut page = start;
-        for _ in 0..size.div_ceil(CONTENT) {
+        for _ in 0..pages_of_file(size) {
             if !self.own(page) {
                 return false;
             }
@@ -121,6 +121,11 @@ impl Judge<'_> {
         }
         page == 0
     }
+}
+
+/// The pages of a file; an empty one has a page too.
+fn pages_of_file(size: usize) -> usize {
+    size.div_ceil(CONTENT).max(1)
 }
 
 fn is_padded_name(name: &[u8]) -> bool {
@@ -298,10 +303,7 @@ fn page_at(image: &[u8], start: u8, position: usize) -> usize {
 
 /// Adds pages to the end of the chain of the file whose entry is at `at`.
 fn lengthen(image: &mut [u8], at: usize, old_pages: usize, added: usize) {
-    let mut link_at = match old_pages {
-        0 => at + START,
-        _ => page_at(image, image[at + START], (old_pages - 1) * CONTENT) * PAGE,
-    };
+    let mut link_at = page_at(image, image[at + START], (old_pages - 1) * CONTENT) * PAGE;
     for _ in 0..added {
         let page = allocate(image);
         image[link_at] = page;
@@ -395,14 +397,14 @@ fn make(image: &mut [u8], path: &[u8], date: &[u8], kind: Kind) -> Result<Answer
     let Some(at) = entries.lowest_empty(image) else {
         return refuse(9);
     };
+    if sound.free == 0 {
+        return refuse(10);
+    }
     let mut entry = [0; ENTRY];
     entry[0] = OCCUPIED;
+    entry[START] = allocate(image);
     if kind == Kind::Directory {
-        if sound.free == 0 {
-            return refuse(10);
-        }
         entry[0] |= DIRECTORY;
-        entry[START] = allocate(image);
         entry[SIZE + 1] = 1;
     }
     entry[1..=NAME_BYTES].copy_from_slice(&name);
@@ -419,8 +421,8 @@ fn write(image: &mut [u8], path: &[u8], position: u64, bytes: &[u8]) -> Result<A
     }
     let position = position as usize;
     let new_size = size.max(position + bytes.len());
-    let old_pages = size.div_ceil(CONTENT);
-    let added = new_size.div_ceil(CONTENT) - old_pages;
+    let old_pages = pages_of_file(size);
+    let added = pages_of_file(new_size) - old_pages;
     if added > sound.free {
         return refuse(10);
     }

@@ -1,5 +1,5 @@
-//! The cases of the bench, numbered as in document 01, on every
-//! implementation.
+//! The cases of the bench, numbered as in document 01 and with the values of
+//! document 02 §1, by which an empty file has a page, on every implementation.
 
 use zealfs_tests::calls::{Answer, Kind};
 use zealfs_tests::desk::{pattern, Desk, DATE};
@@ -39,7 +39,7 @@ fn case_2_leading_zeros_count() {
             let listed = Answer::occupied(Kind::File, padded(name), 0, DATE);
             assert_eq!(desk.list("/", entry), listed);
         }
-        assert_eq!(desk.free(), 7);
+        assert_eq!(desk.free(), 5);
         let refusal = desk.find("/00042");
         assert_eq!((refusal.number, refusal.place), (5, [1, 0, 0]));
     });
@@ -64,12 +64,12 @@ fn cases_3_and_4_a_page_and_one_byte_more() {
 
 #[test]
 fn case_5_pages_of_a_size() {
-    let sizes = [(512, 3), (0, 0), (255, 1), (256, 2)];
+    let sizes = [(512, 3), (0, 1), (255, 1), (256, 2)];
     for (size, pages) in sizes {
         assert_eq!(pages_of_file(size), pages);
     }
     on_all(2048, |desk| {
-        for (size, pages) in [(512, 3), (0, 0), (255, 1), (256, 2)] {
+        for (size, pages) in [(512, 3), (0, 1), (255, 1), (256, 2)] {
             assert_eq!(desk.make_file("/F"), 0);
             assert_eq!(desk.write("/F", 0, size), 0);
             assert_eq!(desk.free(), 7 - pages);
@@ -153,7 +153,7 @@ fn case_12_the_longest_file() {
     on_all(65_536, |desk| {
         assert_eq!(desk.make_file("/F"), 0);
         assert_eq!(desk.write("/F", 0, 65_026), 10);
-        assert_eq!(desk.free(), 255);
+        assert_eq!(desk.free(), 254);
         assert_eq!(desk.write("/F", 0, 65_025), 0);
         assert_eq!(desk.free(), 0);
         assert_eq!(desk.content("/F"), pattern(65_025));
@@ -229,17 +229,47 @@ fn make_writes_all_of_the_entry_and_remove_only_the_flags() {
 fn directories_nest_to_the_page_limit() {
     on_all(65_536, |desk| {
         let mut path = String::new();
-        for _ in 0..255 {
+        for _ in 0..254 {
             path += "/ABCDEFGHIJKLMNOP";
             assert_eq!(desk.make_directory(&path), 0);
         }
+        assert_eq!(desk.free(), 1);
+        assert_eq!(desk.make_file(&format!("{path}/A")), 0);
+        let refusal = desk.find(&format!("{path}/A/B"));
+        assert_eq!((refusal.number, refusal.place), (6, [4319, 0, 0]));
+        assert_eq!(desk.remove(&format!("{path}/A")), 0);
+        path += "/ABCDEFGHIJKLMNOP";
+        assert_eq!(desk.make_directory(&path), 0);
         assert_eq!(path.len(), 4335);
         assert_eq!(desk.free(), 0);
         assert_eq!(desk.make_directory(&format!("{path}/A")), 10);
-        assert_eq!(desk.make_file(&format!("{path}/A")), 0);
-        let refusal = desk.find(&format!("{path}/A/B"));
-        assert_eq!((refusal.number, refusal.place), (6, [4336, 0, 0]));
+        assert_eq!(desk.make_file(&format!("{path}/A")), 10);
         let refusal = desk.find(&format!("{path}/B/A"));
         assert_eq!((refusal.number, refusal.place), (5, [4336, 0, 0]));
+    });
+}
+
+#[test]
+fn an_empty_file_has_a_zeroed_page() {
+    on_all(2048, |desk| {
+        assert_eq!(desk.make_file("/F"), 0);
+        assert_eq!(desk.image[64 + 17..64 + 20], [1, 0, 0]);
+        assert!(desk.image[256..512].iter().all(|&byte| byte == 0));
+        assert_eq!((desk.image[3], desk.image[4]), (6, 0x03));
+        // The page serves for the first 255 bytes.
+        assert_eq!(desk.write("/F", 0, 255), 0);
+        assert_eq!(desk.free(), 6);
+        assert_eq!(desk.remove("/F"), 0);
+        assert_eq!(desk.free(), 7);
+    });
+}
+
+#[test]
+fn a_file_is_not_made_without_a_free_page() {
+    on_all(2048, |desk| {
+        assert_eq!(desk.make_file("/F"), 0);
+        assert_eq!(desk.write("/F", 0, 1785), 0);
+        assert_eq!(desk.make_file("/G"), 10);
+        assert_eq!(desk.free(), 0);
     });
 }

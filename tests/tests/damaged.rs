@@ -46,20 +46,22 @@ fn print_tally(what: &str, tally: &Tally) {
     println!("{what}: {}", met.join(", "));
 }
 
-/// An image of 8 pages with a bit of everything: a chain of two pages, one of
+/// A full image of 8 pages with a bit of everything: a chain of two pages, one of
 /// one, empty files, a directory in a directory, a removed file.
 fn rich() -> Vec<u8> {
     let mut desk = Desk::fresh(&Plain, 2048);
     for path in ["/D", "/D/E"] {
         assert_eq!(desk.make_directory(path), 0);
     }
-    for path in ["/F", "/gone", "/Z", "/D/G", "/D/E/H", "/D/F"] {
+    for path in ["/F", "/gone", "/Z"] {
         assert_eq!(desk.make_file(path), 0);
     }
     assert_eq!(desk.write("/F", 0, 256), 0);
     assert_eq!(desk.write("/gone", 0, 100), 0);
-    assert_eq!(desk.write("/D/G", 0, 255), 0);
     assert_eq!(desk.remove("/gone"), 0);
+    assert_eq!(desk.make_file("/D/G"), 0);
+    assert_eq!(desk.write("/D/G", 0, 255), 0);
+    assert_eq!(desk.make_file("/D/E/H"), 0);
     desk.image
 }
 
@@ -107,11 +109,11 @@ fn every_value_of_the_bytes_of_a_large_header() {
 }
 
 /// Every size of a file of two pages, of the longest there is, and of an empty
-/// one: the sizes that want as many pages are good.
+/// one: the sizes that want as many pages are good, among them 0 for one page.
 #[test]
 fn every_size() {
     let subjects = compared();
-    for (image, at, good) in [(rich(), 96, 255), (longest(), 64, 255), (rich(), 160, 1)] {
+    for (image, at, good) in [(rich(), 96, 255), (longest(), 64, 255), (rich(), 160, 256)] {
         let mut tally = Tally::default();
         for size in 0..=65_535_u16 {
             let mut image = image.clone();
@@ -169,9 +171,9 @@ const FILE_FAULTS: [Fault; 16] = [
     ("a file of one page", 0, |i| {
         put_entry(i, 64, 0x80, b'A', 1, 255)
     }),
-    ("an empty file", 0, |i| put_entry(i, 64, 0x80, b'A', 0, 0)),
-    ("an empty file with a start page", 3, |i| {
-        put_entry(i, 64, 0x80, b'A', 1, 0)
+    ("an empty file", 0, |i| put_entry(i, 64, 0x80, b'A', 1, 0)),
+    ("an empty file without a start page", 3, |i| {
+        put_entry(i, 64, 0x80, b'A', 0, 0)
     }),
     ("a file without a start page", 3, |i| {
         put_entry(i, 64, 0x80, b'A', 0, 1)
@@ -268,7 +270,7 @@ const DIRECTORY_FAULTS: [Fault; 14] = [
     ("a bad name two directories down", 3, |i| {
         put_entry(i, 64, 0x81, b'A', 1, 256);
         put_entry(i, 256 + 224, 0x81, b'A', 2, 256);
-        put_entry(i, 512 + 224, 0x80, 0x7F, 0, 0);
+        put_entry(i, 512 + 224, 0x80, 0x7F, 3, 0);
     }),
     ("a bad file where no directory leads", 0, |i| {
         put_entry(i, 64, 0x80, b'A', 1, 255);
@@ -278,34 +280,34 @@ const DIRECTORY_FAULTS: [Fault; 14] = [
 
 const NAME_FAULTS: [Fault; 9] = [
     ("two equal names", 3, |i| {
-        put_entry(i, 64, 0x80, b'A', 0, 0);
-        put_entry(i, 224, 0x80, b'A', 0, 0);
+        put_entry(i, 64, 0x80, b'A', 1, 0);
+        put_entry(i, 224, 0x80, b'A', 2, 0);
     }),
     ("a file and a directory of one name", 3, |i| {
-        put_entry(i, 64, 0x80, b'A', 0, 0);
+        put_entry(i, 64, 0x80, b'A', 2, 0);
         put_entry(i, 96, 0x81, b'A', 1, 256);
     }),
     ("the name of a free entry", 0, |i| {
         put_entry(i, 64, 0x00, b'A', 0, 0);
-        put_entry(i, 96, 0x80, b'A', 0, 0);
+        put_entry(i, 96, 0x80, b'A', 1, 0);
     }),
     ("equal names in two directories", 0, |i| {
         put_entry(i, 64, 0x81, b'A', 1, 256);
-        put_entry(i, 256, 0x80, b'A', 0, 0);
+        put_entry(i, 256, 0x80, b'A', 2, 0);
     }),
-    ("no name", 3, |i| put_entry(i, 64, 0x80, 0, 0, 0)),
-    ("a slash", 3, |i| put_entry(i, 64, 0x80, b'/', 0, 0)),
+    ("no name", 3, |i| put_entry(i, 64, 0x80, 0, 1, 0)),
+    ("a slash", 3, |i| put_entry(i, 64, 0x80, b'/', 1, 0)),
     ("a name that is not padded", 3, |i| {
-        put_entry(i, 64, 0x80, b'A', 0, 0);
+        put_entry(i, 64, 0x80, b'A', 1, 0);
         i[64 + 16] = b'A';
     }),
     ("a name of 16 bytes", 0, |i| {
-        put_entry(i, 64, 0x80, b'A', 0, 0);
+        put_entry(i, 64, 0x80, b'A', 1, 0);
         i[65..81].fill(b'A');
     }),
     ("names that differ in the last byte", 0, |i| {
-        put_entry(i, 64, 0x80, b'A', 0, 0);
-        put_entry(i, 96, 0x80, b'A', 0, 0);
+        put_entry(i, 64, 0x80, b'A', 1, 0);
+        put_entry(i, 96, 0x80, b'A', 2, 0);
         i[65..81].fill(b'A');
         i[97..112].fill(b'A');
     }),

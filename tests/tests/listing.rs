@@ -30,7 +30,7 @@ fn the_worked_example() {
     assert_eq!(desk.write("/0042", 0, 256), 0);
     assert_eq!(desk.make_directory("/A"), 0);
     assert_eq!(desk.make_file("/A/7"), 0);
-    let text = "pages 8 free 4\nF 256 /0042\nD 256 /A\nF 0 /A/7\n";
+    let text = "pages 8 free 3\nF 256 /0042\nD 256 /A\nF 0 /A/7\n";
     assert_eq!(listed(&desk.image), text.as_bytes());
 }
 
@@ -43,7 +43,7 @@ fn contents_come_directly_after_their_directory() {
     for path in ["/A/x y", "/A/B/0", "/D/1", "/A/B/C/2", "/ "] {
         assert_eq!(desk.make_file(path), 0);
     }
-    let text = "pages 32 free 27\nD 256 /A\nD 256 /A/B\nD 256 /A/B/C\nF 0 /A/B/C/2\n\
+    let text = "pages 32 free 22\nD 256 /A\nD 256 /A/B\nD 256 /A/B/C\nF 0 /A/B/C/2\n\
                 F 0 /A/B/0\nF 0 /A/x y\nD 256 /D\nF 0 /D/1\nF 0 / \n";
     assert_eq!(listed(&desk.image), text.as_bytes());
 }

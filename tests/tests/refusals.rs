@@ -11,10 +11,10 @@ const TABLE: [u8; 15] = [1, 2, 3, 4, 11, 14, 5, 6, 8, 7, 12, 9, 10, 13, 15];
 
 const BAD_DATE: [u8; 8] = [0x20, 0x26, 0x13, 0x15, 0x07, 0x20, 0x30, 0x59];
 
-/// An image of 8 pages: /F with 255 bytes, /D with /D/G, /E empty, and /full,
-/// a directory whose entries are all taken.
+/// An image of 16 pages, two of them free: /F with 255 bytes, /D with /D/G, /E
+/// empty, and /full, a directory whose entries are all taken.
 fn roomy() -> Vec<u8> {
-    let mut desk = Desk::fresh(&Plain, 2048);
+    let mut desk = Desk::fresh(&Plain, 4096);
     assert_eq!(desk.make_file("/F"), 0);
     assert_eq!(desk.write("/F", 0, 255), 0);
     for path in ["/D", "/E", "/full"] {
@@ -35,7 +35,6 @@ fn full() -> Vec<u8> {
     };
     assert_eq!(desk.make_file("/1"), 0);
     assert_eq!(desk.make_file("/2"), 0);
-    assert_eq!(desk.write("/1", 0, 3 * 255), 0);
     assert_eq!(desk.free(), 0);
     desk.image
 }
@@ -119,7 +118,7 @@ fn read_cases() -> Vec<Case> {
     ]
 }
 
-/// Cases of both makes; a directory needs a page, which `On::Full` has not.
+/// Cases of both makes in which pages are not wanting, or a higher line holds.
 fn make_cases(make: fn(Vec<u8>, Vec<u8>) -> Call) -> Vec<Case> {
     let case = |on, text, date: &[u8], holds: Lines, place| {
         let call = make(path(text), date.to_vec());
@@ -136,29 +135,29 @@ fn make_cases(make: fn(Vec<u8>, Vec<u8>) -> Call) -> Vec<Case> {
         case(roomy, "/F/Y", &BAD_DATE, &[11, 6], 0),
         case(roomy, "/F", &BAD_DATE, &[11, 8], 0),
         case(roomy, "/", &BAD_DATE, &[11, 8], 0),
-        case(full, "/X", &BAD_DATE, &[11, 9], 0),
+        case(full, "/X", &BAD_DATE, &[11, 9, 10], 0),
         case(roomy, "/X/Y", &DATE, &[5], 1),
         case(roomy, "/D/X/Y", &DATE, &[5], 3),
-        case(full, "/X/Y", &DATE, &[5], 1),
+        case(full, "/X/Y", &DATE, &[5, 10], 1),
         case(roomy, "/F/X", &DATE, &[6], 1),
         case(roomy, "/D/G/X", &DATE, &[6], 3),
-        case(full, "/F/X", &DATE, &[6], 1),
+        case(full, "/F/X", &DATE, &[6, 10], 1),
         case(roomy, "/F", &DATE, &[8], 0),
         case(roomy, "/D", &DATE, &[8], 0),
         case(roomy, "/D/G", &DATE, &[8], 0),
         case(roomy, "/", &DATE, &[8], 0),
         case(roomy, "/full/0", &DATE, &[8, 9], 0),
-        case(full, "/F", &DATE, &[8, 9], 0),
-        case(full, "/", &DATE, &[8, 9], 0),
+        case(full, "/F", &DATE, &[8, 9, 10], 0),
+        case(full, "/", &DATE, &[8, 9, 10], 0),
         case(roomy, "/full/X", &DATE, &[9], 0),
-        case(full, "/X", &DATE, &[9], 0),
+        case(full, "/X", &DATE, &[9, 10], 0),
     ]
 }
 
-/// Cases in which a directory wants a page that is not there.
-fn page_wanting_cases() -> Vec<Case> {
+/// Cases in which a file or a directory wants a page that is not there.
+fn page_wanting_cases(make: fn(Vec<u8>, Vec<u8>) -> Call) -> Vec<Case> {
     let case = |text, date: &[u8], holds: Lines, place| {
-        let call = Call::MakeDirectory(path(text), date.to_vec());
+        let call = make(path(text), date.to_vec());
         (On::Full, call, holds, place)
     };
     vec![
@@ -193,8 +192,8 @@ fn write_cases() -> Vec<Case> {
         case("/F", u64::MAX, 1, &[12], 0),
         case("/F", 256, 9000, &[12, 10], 0),
         case("/F", u64::MAX - 8999, 9000, &[12, 10], 0),
-        case("/F", 0, 4 * 255 + 1, &[10], 0),
-        case("/F", 255, 3 * 255 + 1, &[10], 0),
+        case("/F", 0, 3 * 255 + 1, &[10], 0),
+        case("/F", 255, 2 * 255 + 1, &[10], 0),
         case("/D/G", 0, 3 * 255 + 1, &[10], 0),
         case("/D/G", 0, 65_535, &[10], 0),
         case("/D/G", 0, 65_536 + 255, &[10], 0),
@@ -222,7 +221,8 @@ fn cases() -> Vec<Case> {
         read_cases(),
         make_cases(Call::MakeFile),
         make_cases(Call::MakeDirectory),
-        page_wanting_cases(),
+        page_wanting_cases(Call::MakeFile),
+        page_wanting_cases(Call::MakeDirectory),
         write_cases(),
         remove_cases(),
     ]
@@ -310,7 +310,7 @@ fn granted() -> Vec<Call> {
         Call::Read(path("/F"), 0, vec![1; 300]),
         Call::MakeFile(path("/X"), date.clone()),
         Call::MakeDirectory(path("/E/X"), date),
-        Call::Write(path("/F"), 255, vec![1; 3 * 255]),
+        Call::Write(path("/F"), 255, vec![1; 2 * 255]),
         Call::Write(path("/F"), 255, Vec::new()),
         Call::Remove(path("/F")),
         Call::Remove(path("/E")),

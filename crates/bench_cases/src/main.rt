@@ -1,4 +1,4 @@
-// The cases 1 to 13 of document 01, "At the bench", run by the compiled calls: what was asked, what was answered, and the bytes that the
+// The cases 1 to 13 of document 01, "At the bench", with the values of document 02 §1, run by the compiled calls: what was asked, what was answered, and the bytes that the
 // case names. The stored output was written by hand, from that paper's numbers and its layout of an image, and not copied from a run.
 use fields::Position;
 use zealfs::ReadAnswer;

@@ -97,7 +97,7 @@ fn directories(image: &mut Image) {
     shown::remove(image, b"/A");
 }
 
-// An empty file wants no page, and so does a write that does not lengthen.
+// A file wants a page also when it is empty; a write that does not lengthen wants none.
 fn no_page_left(image: &mut Image) {
     shown::write_digits(image, b"/A/7", 0, 255);
     shown::make_directory(image, b"/A/inner", &NOON);
@@ -134,10 +134,10 @@ fn full_root(image: &mut Image) {
     shown::make_file(image, b"/sixth", &NOON);
     shown::make_directory(image, b"/third", &NOON);
     list_entries(image, b"/", 6);
-    shown::write_digits(image, b"/again", 0, 1276);
-    shown::write_digits(image, b"/again", 0, 1275);
+    shown::write_digits(image, b"/again", 0, 511);
+    shown::write_digits(image, b"/again", 0, 510);
     shown::make_directory(image, b"/sixth", &NOON);
-    shown::read(image, b"/again", 1260, &mut [b'.'; 20]);
+    shown::read(image, b"/again", 495, &mut [b'.'; 20]);
     shown::verdict(image);
 }
 

@@ -137,7 +137,8 @@ fn larger(a: usize, b: usize) -> usize
     a
 }
 
-// Where the number of a chain's next page goes: the link of the last of its k pages, or the start page of an entry that has none.
+// Where the number of a chain's next page goes: the link of the last of its k pages, or the start page of an entry that has none,
+// as every new one before it gets its first.
 fn joint_of(image: &[u8], entry: usize, start: Page, k: usize) -> usize
     requires { ⌜ (entry + 32 ≤ length (now image)) × PagesInside (now image) k (start .0) ⌝ }
     ensures { λ r. ⌜ byte r ≡ On.jointOf version1 (byte (entry + 17)) (chain (link (now (image .entry))) k (start .0)) ⌝ }
@@ -169,7 +170,7 @@ pub fn write_entry(
     chains::grow(image, n, joint, wanted - held);
     let sized = size_bytes(new_size);
     put(image, entry + 18, &sized);
-    // A file that had no pages may have its start page only now.
+    // Growth may have put it there: nothing here leans on a file having pages before.
     let first = Page(fields::wide(image[entry + 17]));
     chains::write_chain(image, first, wanted, position, bytes);
 }

@@ -44,10 +44,13 @@ pub fn page_count(bytes: usize) -> usize
     bytes / 256
 }
 
-// A write may ask for any size, so no sum is made that could wrap.
+// A file without bytes has a page too. A write may ask for any size, so no sum is made that could wrap.
 pub fn pages_for(size: usize) -> usize
     ensures { λ r. ⌜ r ≡ pagesFor size ⌝ }
 {
+    if size == 0 {
+        return 1;
+    }
     if size % 255 == 0 {
         size / 255
     } else {

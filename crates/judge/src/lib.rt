@@ -68,8 +68,7 @@ fn own_page(image: &[u8], marks: &mut [u8], page: Page, range: Fault) -> Check
     Check::Clean
 }
 
-// The k pages of a file get their owner, entry i of a directory. Behind the last of them, or at once for a file without
-// pages, stands 0. A chain that returns to itself meets a page that has its owner.
+// The k pages of a file get their owner, entry i of a directory. Behind the last of them stands 0. A chain that returns to itself meets a page that has its owner.
 fn own_chain(
     image: &[u8],
     marks: &mut [u8],

@@ -3,7 +3,7 @@ use mathlib.Core.Path.{refl}
 use Prim.Native.Nat.{ℕ}
 use mathlib.Core.List.{List, [], _∷_, _++_}
 use lib.ListN.{replicate, set, drop}
-use Rattle.volume.specs.Bytes.{part}
+use Rattle.volume.specs.Bytes.{part, put}
 use Rattle.model.specs.Call.{format, verdict, find, list, read, makeFile, makeDirectory, write, remove, isFile, isDirectory, empty, granted}
 use Rattle.model.specs.Text.{text}
 use Rattle.model.proofs.Run.{computing, Step, Case, _gives_, reads, done, sized, answered, shown, Hold, computed, stated, hold}
@@ -130,7 +130,7 @@ told =
     ∷ [])
     whole desk
     ∷ shown desk (
-    verdict gives sized 8 3
+    verdict gives sized 8 2
     ∷ find (text "/") gives found isDirectory 256 (replicate 8 0)
     ∷ find (text "/0042") gives found isFile 256 day1
     ∷ find (text "/A") gives found isDirectory 256 day2
@@ -194,20 +194,25 @@ makes =
     ∷ makeFile (text "/A/7") day1 gives refusal 8
     ∷ [])
     whole desk
-    -- no entry of the root is left, and no page: 8 before 9, and 9 before 10
-    ∷ shown desk (
-    makeFile (text "/C") day1 gives done
+    -- no entry of the root is left, and then no page: 8 before 9, and 9 before 10
+    ∷ shown fresh (
+    makeFile (text "/0042") day1 gives done
+    ∷ makeDirectory (text "/A") day2 gives done
+    ∷ makeFile (text "/C") day1 gives done
     ∷ makeFile (text "/D") day2 gives done
     ∷ makeFile (text "/E") day3 gives done
     ∷ makeDirectory (text "/F") day1 gives done
+    ∷ verdict gives sized 8 1
     ∷ makeFile (text "/G") day1 gives refusal 9
     ∷ makeDirectory (text "/G") day1 gives refusal 9
-    ∷ write (text "/C") 0 (replicate 510 1) gives done
+    ∷ makeDirectory (text "/A/B") day1 gives done
+    ∷ write (text "/C") 0 (replicate 255 1) gives done
     ∷ [])
     whole full
     ∷ shown full (
     verdict gives sized 8 0
     ∷ makeFile (text "/G") [] gives refusal 11
+    ∷ makeFile (text "/A/C") [] gives refusal 11
     ∷ makeDirectory (text "/A/C") [] gives refusal 11
     ∷ makeDirectory (text "/G/x") day1 gives refusalAt 5 1
     ∷ makeDirectory (text "/C/x") day1 gives refusalAt 6 1
@@ -215,20 +220,39 @@ makes =
     ∷ makeDirectory (text "/D") day1 gives refusal 8
     ∷ makeFile (text "/G") day1 gives refusal 9
     ∷ makeDirectory (text "/G") day1 gives refusal 9
+    ∷ makeFile (text "/A/B") day1 gives refusal 8
     ∷ makeDirectory (text "/A/B") day1 gives refusal 8
+    -- an empty file wants a page, as a directory does (paper 02 §1)
+    ∷ makeFile (text "/A/C") day1 gives refusal 10
     ∷ makeDirectory (text "/A/C") day1 gives refusal 10
-    ∷ write (text "/D") 0 (1 ∷ []) gives refusal 10
+    ∷ write (text "/D") 0 (replicate 256 1) gives refusal 10
     -- what wants no page is not refused
     ∷ find (text "/D") gives found isFile 0 day2
     ∷ list (text "/") 4 gives entry isFile (text "E" ++ replicate 15 0) 0 day3
-    ∷ reads (text "/C") 509 (9 ∷ 9 ∷ []) 1 (1 ∷ 9 ∷ [])
-    ∷ write (text "/C") 509 (1 ∷ []) gives done
+    ∷ reads (text "/C") 254 (9 ∷ 9 ∷ []) 1 (1 ∷ 9 ∷ [])
+    ∷ write (text "/C") 254 (1 ∷ []) gives done
     ∷ [])
     whole full
-    ∷ answered full (remove (text "/D") gives done ∷ remove (text "/C") gives done ∷ verdict gives sized 8 2 ∷ [])
-    -- an empty file wants no page; /A has 8 entries
+    -- nor is a write of 255 bytes to an empty file, which has a page for them
+    ∷ shown full (write (text "/D") 0 (content 255) gives done ∷ verdict gives sized 8 0 ∷ [])
+    whole (put 178 (0xFF ∷ 0x00 ∷ []) (put 1025 (content 255) full))
     ∷ answered full (
-    makeFile (text "/A/C") day1 gives done
+    remove (text "/D") gives done ∷ verdict gives sized 8 1 ∷ remove (text "/C") gives done ∷ verdict gives sized 8 2 ∷ [])
+    -- the page that an empty file gave back is all that the next one wants
+    ∷ answered full (
+    remove (text "/D") gives done
+    ∷ makeFile (text "/A/C") day1 gives done
+    ∷ verdict gives sized 8 0
+    ∷ makeFile (text "/G") day1 gives refusal 10
+    ∷ makeDirectory (text "/G") day1 gives refusal 10
+    ∷ [])
+    -- /A has 8 entries; with a page for each and its own, 9 of 15 are taken
+    ∷ answered (replicate 4096 0xE5) (
+    format gives done
+    ∷ makeDirectory (text "/A") day2 gives done
+    ∷ makeFile (text "/A/7") day3 gives done
+    ∷ makeDirectory (text "/A/B") day1 gives done
+    ∷ makeFile (text "/A/C") day1 gives done
     ∷ makeFile (text "/A/D") day1 gives done
     ∷ makeFile (text "/A/E") day1 gives done
     ∷ makeFile (text "/A/F") day1 gives done
@@ -236,6 +260,7 @@ makes =
     ∷ makeFile (text "/A/H") day2 gives done
     ∷ makeFile (text "/A/I") day1 gives refusal 9
     ∷ list (text "/A") 7 gives entry isFile (text "H" ++ replicate 15 0) 0 day2
+    ∷ verdict gives sized 16 6
     ∷ [])
     -- the lowest empty entry is filled, the one that a removal left
     ∷ answered desk (
@@ -249,10 +274,12 @@ makes =
     ∷ list (text "/") 3 gives entry isFile (text "E" ++ replicate 15 0) 0 day2
     ∷ [])
     -- names: each byte counts, and so do case and leading zeros; "." and ".." are ordinary
-    ∷ answered desk (
-    makeFile (text "/42") day2 gives done
+    ∷ answered fresh (
+    makeFile (text "/0042") day1 gives done
+    ∷ makeDirectory (text "/A") day2 gives done
+    ∷ makeFile (text "/42") day2 gives done
     ∷ makeFile (text "/00042") day3 gives done
-    ∷ find (text "/0042") gives found isFile 256 day1
+    ∷ find (text "/0042") gives found isFile 0 day1
     ∷ find (text "/42") gives found isFile 0 day2
     ∷ find (text "/00042") gives found isFile 0 day3
     ∷ makeDirectory (text "/.") day2 gives done
@@ -264,7 +291,9 @@ makes =
     ∷ find (text "/a") gives found isFile 0 day3
     ∷ [])
     ∷ answered desk (
-    makeFile (text "/0123456789ABCDEF") day2 gives done
+    remove (text "/A/7") gives done
+    ∷ remove (text "/A/B") gives done
+    ∷ makeFile (text "/0123456789ABCDEF") day2 gives done
     ∷ makeFile (text "/0123456789ABCDE") day3 gives done
     ∷ find (text "/0123456789ABCDEF") gives found isFile 0 day2
     ∷ find (text "/0123456789ABCDE") gives found isFile 0 day3

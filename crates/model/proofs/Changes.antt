@@ -33,13 +33,13 @@ writes =
     ∷ write (text "/") 0 (1 ∷ []) gives refusal 7
     ∷ write (text "/R") 601 (1 ∷ []) gives refusal 12
     ∷ write (text "/R") 601 (replicate 2000 1) gives refusal 12
-    -- three pages are free: /R may have six, which hold 1,530 bytes
-    ∷ write (text "/R") 600 (replicate 931 1) gives refusal 10
-    ∷ write (text "/R") 0 (replicate 1531 1) gives refusal 10
+    -- two pages are free: /R may have five, which hold 1,275 bytes, and /E, which has one, three, which hold 765
+    ∷ write (text "/R") 600 (replicate 676 1) gives refusal 10
+    ∷ write (text "/R") 0 (replicate 1276 1) gives refusal 10
     ∷ write (text "/E") 0 (replicate 766 1) gives refusal 10
     ∷ [])
     whole shelf
-    ∷ answered shelf (write (text "/R") 600 (replicate 930 1) gives done ∷ find (text "/R") gives found isFile 1530 day1 ∷ verdict gives sized 8 0 ∷ [])
+    ∷ answered shelf (write (text "/R") 600 (replicate 675 1) gives done ∷ find (text "/R") gives found isFile 1275 day1 ∷ verdict gives sized 8 0 ∷ [])
     ∷ answered shelf (write (text "/E") 0 (replicate 765 1) gives done ∷ verdict gives sized 8 0 ∷ [])
     -- in the middle, across pages
     ∷ shown shelf (write (text "/R") 253 (0xA0 ∷ 0xA1 ∷ 0xA2 ∷ 0xA3 ∷ []) gives done ∷ find (text "/R") gives found isFile 600 day1 ∷ [])
@@ -47,13 +47,15 @@ writes =
     -- over the end, on the last page: 602 bytes
     ∷ shown shelf (write (text "/R") 599 (0xA0 ∷ 0xA1 ∷ 0xA2 ∷ []) gives done ∷ [])
     whole (put 114 (0x5A ∷ 0x02 ∷ []) (put 1114 (0xA0 ∷ 0xA1 ∷ 0xA2 ∷ []) shelf))
-    -- at the end, onto a new page: 800 bytes, of which the last 35 stand on page 5
+    -- at the end, onto a new page: 800 bytes, of which the last 35 stand on page 6
     ∷ shown shelf (write (text "/R") 600 (content 200) gives done ∷ [])
-    whole (put 3 (2 ∷ 0b111111 ∷ []) (put 114 (0x20 ∷ 0x03 ∷ []) (put 1024 (5 ∷ []) (put 1115 (content 165)
-    (put 1280 (0 ∷ part 165 35 (content 200) ++ replicate 220 0) shelf)))))
-    -- into an empty file, which gets two pages: each zeroed before
+    whole (put 3 (1 ∷ 0b1111111 ∷ []) (put 114 (0x20 ∷ 0x03 ∷ []) (put 1024 (6 ∷ []) (put 1115 (content 165)
+    (put 1536 (0 ∷ part 165 35 (content 200) ++ replicate 220 0) shelf)))))
+    -- into an empty file, which keeps its page (paper 02 §1): 255 bytes want no other, 300 want one more, zeroed before
+    ∷ shown shelf (write (text "/E") 0 (content 255) gives done ∷ verdict gives sized 8 2 ∷ [])
+    whole (put 146 (0xFF ∷ 0x00 ∷ []) (put 1281 (content 255) shelf))
     ∷ shown shelf (write (text "/E") 0 (content 300) gives done ∷ find (text "/E") gives found isFile 300 day3 ∷ [])
-    whole (put 3 (1 ∷ 0b1111111 ∷ []) (put 145 (5 ∷ 0x2C ∷ 0x01 ∷ [])
+    whole (put 3 (1 ∷ 0b1111111 ∷ []) (put 146 (0x2C ∷ 0x01 ∷ [])
     (put 1280 (6 ∷ content 255 ++ 0 ∷ part 255 45 (content 300) ++ replicate 210 0) shelf)))
     -- the lowest free page comes first, wherever it stands: /B goes on from page 2 on pages 1 and 3
     ∷ shown two (remove (text "/A") gives done ∷ write (text "/B") 255 (content 300) gives done
@@ -94,15 +96,15 @@ removes =
     ∷ [])
     whole desk
     ∷ answered fresh (remove (text "/") gives refusal 14 ∷ [])
-    -- the flags byte, the marks and the count change, and no other byte
-    ∷ shown desk (remove (text "/0042") gives done ∷ find (text "/0042") gives refusalAt 5 1 ∷ verdict gives sized 8 5 ∷ [])
-    whole (put 3 (5 ∷ 0b00111 ∷ []) (set desk 64 0))
+    -- the flags byte, the marks and the count change, and no other byte; an empty file too gives its page back
+    ∷ shown desk (remove (text "/0042") gives done ∷ find (text "/0042") gives refusalAt 5 1 ∷ verdict gives sized 8 4 ∷ [])
+    whole (put 3 (4 ∷ 0b011101 ∷ []) (set desk 64 0))
     ∷ shown desk (remove (text "/A/B") gives done ∷ [])
-    whole (put 3 (4 ∷ 0b11011 ∷ []) (set desk 288 0))
+    whole (put 3 (3 ∷ 0b101111 ∷ []) (set desk 544 0))
     ∷ shown desk (remove (text "/A/7") gives done ∷ remove (text "/A") gives refusal 13 ∷ [])
-    whole (set desk 256 0)
+    whole (put 3 (3 ∷ 0b110111 ∷ []) (set desk 512 0))
     ∷ shown desk (remove (text "/A/7") gives done ∷ remove (text "/A/B") gives done ∷ remove (text "/A") gives done ∷ [])
-    whole (put 3 (5 ∷ 0b11001 ∷ []) (set (set (set desk 256 0) 288 0) 96 0))
+    whole (put 3 (5 ∷ 0b100011 ∷ []) (set (set (set desk 512 0) 544 0) 96 0))
     ∷ shown far (remove (text "/A") gives done ∷ []) whole (put 3 (15 ∷ 0b1 ∷ 0b0 ∷ []) (set far 64 0))
     -- case 11
     ∷ answered fresh (
@@ -121,7 +123,7 @@ pub removes-hold : Hold removes
 unfolding computing computed stated removes desk fresh far
 removes-hold = hold removes refl
 
--- ---- what make writes: all 32 bytes of the entry, and all 256 of a directory's page
+-- ---- what make writes: all 32 bytes of the entry, and all 256 of the page that an empty file (paper 02 §1) or a directory has
 
 -- an image whose empty entries hold 65 bytes
 junk : Bytes
@@ -130,14 +132,14 @@ junk = put 64 (replicate 192 0x65) fresh
 pub made : List Case
 made =
     shown junk (makeFile (text "/0042") day3 gives done ∷ [])
-    whole (put 64 (stored 0x80 (text "0042" ++ replicate 12 0) 0 0x00 0x00 day3) junk)
+    whole (put 3 (6 ∷ 0b11 ∷ []) (put 64 (stored 0x80 (text "0042" ++ replicate 12 0) 1 0x00 0x00 day3) (put 256 (replicate 256 0) junk)))
     ∷ shown junk (makeDirectory (text "/A") day3 gives done ∷ [])
     whole (put 3 (6 ∷ 0b11 ∷ []) (put 64 (stored 0x81 (text "A" ++ replicate 15 0) 1 0x00 0x01 day3) (put 256 (replicate 256 0) junk)))
-    -- below the root; page 5 held E5 bytes
+    -- below the root; pages 6 and 7 held E5 bytes
     ∷ shown desk (makeDirectory (text "/A/0123456789ABCDEF") day3 gives done ∷ makeFile (text "/A/B/.") day2 gives done ∷ [])
-    whole (put 3 (2 ∷ 0b111111 ∷ []) (put 320 (stored 0x81 (text "0123456789ABCDEF") 5 0x00 0x01 day3)
-    (put 512 (stored 0x80 (text "." ++ replicate 15 0) 0 0x00 0x00 day2) (put 1280 (replicate 256 0) desk))))
-    -- seven directories, each in the one before
+    whole (put 3 (0 ∷ 0b11111111 ∷ []) (put 576 (stored 0x81 (text "0123456789ABCDEF") 6 0x00 0x01 day3)
+    (put 1024 (stored 0x80 (text "." ++ replicate 15 0) 7 0x00 0x00 day2) (put 1536 (replicate 512 0) desk))))
+    -- seven directories, each in the one before; then a file in place of the last
     ∷ answered fresh (
     makeDirectory (text "/1") day1 gives done
     ∷ makeDirectory (text "/1/2") day1 gives done
@@ -148,10 +150,15 @@ made =
     ∷ makeDirectory (text "/1/2/3/4/5/6/7") day1 gives done
     ∷ verdict gives sized 8 0
     ∷ makeDirectory (text "/1/2/3/4/5/6/7/8") day1 gives refusal 10
-    ∷ makeFile (text "/1/2/3/4/5/6/7/8") day2 gives done
-    ∷ find (text "/1/2/3/4/5/6/7/8") gives found isFile 0 day2
-    ∷ find (text "/1/2/3/4/5/6/7/9") gives refusalAt 5 15
-    ∷ remove (text "/1/2/3/4/5/6/7") gives refusal 13
+    ∷ makeFile (text "/1/2/3/4/5/6/7/8") day2 gives refusal 10
+    ∷ find (text "/1/2/3/4/5/6/7/8") gives refusalAt 5 15
+    ∷ remove (text "/1/2/3/4/5/6") gives refusal 13
+    ∷ remove (text "/1/2/3/4/5/6/7") gives done
+    ∷ makeFile (text "/1/2/3/4/5/6/7") day2 gives done
+    ∷ verdict gives sized 8 0
+    ∷ find (text "/1/2/3/4/5/6/7") gives found isFile 0 day2
+    ∷ find (text "/1/2/3/4/5/6/7/8") gives refusalAt 6 13
+    ∷ remove (text "/1/2/3/4/5/6") gives refusal 13
     ∷ [])
     ∷ []
 

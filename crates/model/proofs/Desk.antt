@@ -2,7 +2,7 @@
 use Prim.Native.Nat.{ℕ, _%_}
 use mathlib.Core.List.{[], _∷_, _++_, map}
 use lib.ListN.{replicate}
-use Rattle.volume.specs.Bytes.{Bytes, part, put}
+use Rattle.volume.specs.Bytes.{Bytes, part}
 use Rattle.volume.specs.Lists.{upTo}
 use Rattle.model.specs.Call.{Kind, Found, Listed, holds, refusal as number, refusalAt as numberAt, Answer, refused, granted}
 use Rattle.model.specs.Text.{text}
@@ -69,31 +69,38 @@ two = header 5 0b111 ++ stored 0x80 (text "A" ++ replicate 15 0) 1 0xFF 0x00 day
     ++ 0 ∷ replicate 255 0x42
     ++ replicate 1280 0xE5
 
--- /0042 of 256 bytes on pages 3 and 4; /A on page 1, in it /A/7, empty, and /A/B on page 2, empty
+-- /0042 of 256 bytes on pages 1 and 5; /A on page 2, in it /A/7, empty, on page 3, and /A/B, empty, on page 4. An empty file's page is zeroed
+-- as a directory's is (paper 02 §1).
 unfoldable pub desk : Bytes
-desk = header 3 0b11111 ++ stored 0x80 (text "0042" ++ replicate 12 0) 3 0x00 0x01 day1 ++ stored 0x81 (text "A" ++ replicate 15 0) 1 0x00 0x01 day2 ++ replicate 128 0
-    ++ stored 0x80 (text "7" ++ replicate 15 0) 0 0x00 0x00 day3 ++ stored 0x81 (text "B" ++ replicate 15 0) 2 0x00 0x01 day1 ++ replicate 192 0
+desk = header 2 0b111111 ++ stored 0x80 (text "0042" ++ replicate 12 0) 1 0x00 0x01 day1 ++ stored 0x81 (text "A" ++ replicate 15 0) 2 0x00 0x01 day2 ++ replicate 128 0
+    ++ 5 ∷ content 255
+    ++ stored 0x80 (text "7" ++ replicate 15 0) 3 0x00 0x00 day3 ++ stored 0x81 (text "B" ++ replicate 15 0) 4 0x00 0x01 day1 ++ replicate 192 0
     ++ replicate 256 0
-    ++ 4 ∷ content 255
+    ++ replicate 256 0
     ++ 0 ∷ 4 ∷ replicate 254 0
-    ++ replicate 768 0xE5
+    ++ replicate 512 0xE5
 
--- the desk and four entries more: /C of 510 bytes on pages 6 and 7, /D and /E, empty, and /F on page 5, empty
+-- no entry of the root is empty and no page is free: /0042, /D and /E, empty, on pages 1, 4 and 5; /C of 255 bytes on page 3; /F, empty, on page
+-- 6; /A on page 2, in it /A/B, empty, on page 7
 unfoldable pub full : Bytes
-full = put 3 (0 ∷ 0b11111111 ∷ []) (put 128 (
-    stored 0x80 (text "C" ++ replicate 15 0) 6 0xFE 0x01 day1 ++ stored 0x80 (text "D" ++ replicate 15 0) 0 0x00 0x00 day2
-    ++ stored 0x80 (text "E" ++ replicate 15 0) 0 0x00 0x00 day3 ++ stored 0x81 (text "F" ++ replicate 15 0) 5 0x00 0x01 day1)
-    (put 1280 (replicate 256 0 ++ 7 ∷ replicate 255 1 ++ 0 ∷ replicate 255 1) desk))
+full = header 0 0b11111111 ++ stored 0x80 (text "0042" ++ replicate 12 0) 1 0x00 0x00 day1 ++ stored 0x81 (text "A" ++ replicate 15 0) 2 0x00 0x01 day2
+    ++ stored 0x80 (text "C" ++ replicate 15 0) 3 0xFF 0x00 day1 ++ stored 0x80 (text "D" ++ replicate 15 0) 4 0x00 0x00 day2
+    ++ stored 0x80 (text "E" ++ replicate 15 0) 5 0x00 0x00 day3 ++ stored 0x81 (text "F" ++ replicate 15 0) 6 0x00 0x01 day1
+    ++ replicate 256 0
+    ++ stored 0x81 (text "B" ++ replicate 15 0) 7 0x00 0x01 day1 ++ replicate 224 0
+    ++ 0 ∷ replicate 255 1
+    ++ replicate 1024 0
 
--- /D on page 1, empty; /R of 600 bytes on pages 2, 3 and 4; /E, empty
+-- /D on page 1, empty; /R of 600 bytes on pages 2, 3 and 4; /E on page 5, empty
 unfoldable pub shelf : Bytes
-shelf = header 3 0b11111 ++ stored 0x81 (text "D" ++ replicate 15 0) 1 0x00 0x01 day2 ++ stored 0x80 (text "R" ++ replicate 15 0) 2 0x58 0x02 day1
-    ++ stored 0x80 (text "E" ++ replicate 15 0) 0 0x00 0x00 day3 ++ replicate 96 0
+shelf = header 2 0b111111 ++ stored 0x81 (text "D" ++ replicate 15 0) 1 0x00 0x01 day2 ++ stored 0x80 (text "R" ++ replicate 15 0) 2 0x58 0x02 day1
+    ++ stored 0x80 (text "E" ++ replicate 15 0) 5 0x00 0x00 day3 ++ replicate 96 0
     ++ replicate 256 0
     ++ 3 ∷ part 0 255 (content 600)
     ++ 4 ∷ part 255 255 (content 600)
     ++ 0 ∷ part 510 90 (content 600) ++ replicate 165 0
-    ++ replicate 768 0xE5
+    ++ replicate 256 0
+    ++ replicate 512 0xE5
 
 -- 16 pages: /A of 255 bytes on page 9
 unfoldable pub far : Bytes

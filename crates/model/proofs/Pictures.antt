@@ -54,7 +54,7 @@ deskSteps =
     ∷ write (text "/0042") 0 (content 256) gives done
     ∷ reads (text "/0042") 253 (replicate 5 9) 3 (2 ∷ 3 ∷ 4 ∷ 9 ∷ 9 ∷ [])
     ∷ find (text "/A/7/x") gives refusalAt 6 3
-    ∷ verdict gives sized 8 3
+    ∷ verdict gives sized 8 2
     ∷ []
 
 pub trees : List Case
@@ -74,6 +74,7 @@ trees-hold = hold trees refl
 
 pub listings : List Case
 listings =
+    -- the bench's, free 3 by paper 02 §1: /A/7 is empty and has a page
     shown blank (
     format gives done
     ∷ newFile "/0042" gives done
@@ -81,18 +82,18 @@ listings =
     ∷ newDirectory "/A" gives done
     ∷ newFile "/A/7" gives done
     ∷ [])
-    listing (text "pages 8 free 4\nF 256 /0042\nD 256 /A\nF 0 /A/7\n")
+    listing (text "pages 8 free 3\nF 256 /0042\nD 256 /A\nF 0 /A/7\n")
     ∷ shown fresh [] listing (text "pages 8 free 7\n")
     -- entries in order, a directory's contents directly after it; names may hold spaces
     ∷ shown desk (newFile "/A/B/ ~" gives done ∷ newFile "/a b" gives done ∷ remove (text "/0042") gives done ∷ newFile "/0123456789ABCDEF" gives done ∷ [])
-    listing (text "pages 8 free 5\nF 0 /0123456789ABCDEF\nD 256 /A\nF 0 /A/7\nD 256 /A/B\nF 0 /A/B/ ~\nF 0 /a b\n")
+    listing (text "pages 8 free 1\nF 0 /0123456789ABCDEF\nD 256 /A\nF 0 /A/7\nD 256 /A/B\nF 0 /A/B/ ~\nF 0 /a b\n")
     ∷ shown fresh (newFile "/A" gives done ∷ write (text "/A") 0 (replicate 1785 0) gives done ∷ []) listing (text "pages 8 free 0\nF 1785 /A\n")
     ∷ shown (replicate 65536 0) (format gives done ∷ []) listing (text "pages 256 free 255\n")
     -- refused
     ∷ shown [] [] listing (text "refused 1\n")
     ∷ shown (replicate 65537 0) [] listing (text "refused 1\n")
     ∷ shown (replicate 2048 0) [] listing (text "refused 2\n")
-    ∷ shown (set desk 3 4) [] listing (text "refused 3\n")
+    ∷ shown (set desk 3 3) [] listing (text "refused 3\n")
     ∷ []
 
 pub listings-hold : Hold listings

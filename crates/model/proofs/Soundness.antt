@@ -27,22 +27,22 @@ unsound b f = shown b (verdict gives refusal 3 ∷ []) judge (fault f)
 abbrev clear : Bytes → ℕ → List ℕ → Case
 clear b free pages = shown b (verdict gives sized 8 free ∷ []) judge (clean (foldl (λ marks p. set marks p 1) (replicate 8 0) pages))
 
--- a directory on page 1, and an empty file
+-- a directory on page 1, and an empty file on page 1, which begins with 0 (paper 02 §1); what follows the 0 does not count
 box : Bytes
 box = header 6 0b11 ++ stored 0x81 (text "A" ++ replicate 15 0) 1 0x00 0x01 day1 ++ replicate 160 0 ++ replicate 256 0 ++ replicate 1536 0xE5
 
 note : Bytes
-note = header 7 0b1 ++ stored 0x80 (text "A" ++ replicate 15 0) 0 0x00 0x00 day1 ++ replicate 160 0 ++ replicate 1792 0xE5
+note = header 6 0b11 ++ stored 0x80 (text "A" ++ replicate 15 0) 1 0x00 0x00 day1 ++ replicate 160 0 ++ 0 ∷ replicate 255 0xE5 ++ replicate 1536 0xE5
 
 pub sounds : List Case
 sounds =
     clear fresh 7 []
-    ∷ clear note 7 []
+    ∷ clear note 6 (1 ∷ [])
     ∷ clear one 6 (1 ∷ [])
     ∷ clear two 5 (2 ∷ 1 ∷ [])
     ∷ clear box 6 (1 ∷ [])
-    ∷ clear desk 3 (2 ∷ 1 ∷ 4 ∷ 3 ∷ [])
-    ∷ clear shelf 3 (4 ∷ 3 ∷ 2 ∷ 1 ∷ [])
+    ∷ clear desk 2 (4 ∷ 3 ∷ 2 ∷ 5 ∷ 1 ∷ [])
+    ∷ clear shelf 2 (5 ∷ 4 ∷ 3 ∷ 2 ∷ 1 ∷ [])
     ∷ []
 
 pub facts : List Case
@@ -73,27 +73,33 @@ facts =
     ∷ unsound (set one 80 0x41) (badEntry 0 0)
     ∷ clear (put 65 (replicate 16 0x41) one) 6 (1 ∷ [])
     ∷ unsound (set box 65 0x7F) (badEntry 0 0)
-    ∷ unsound (set desk 257 0x7F) (badEntry 1 0)
-    ∷ unsound (set desk 289 0x7F) (badEntry 1 1)
+    ∷ unsound (set desk 513 0x7F) (badEntry 2 0)
+    ∷ unsound (set desk 545 0x7F) (badEntry 2 1)
     -- equal names in one directory, told at the later entry; in two directories they are apart
     ∷ unsound (set two 97 0x41) (badEntry 0 1)
-    ∷ unsound (set desk 289 0x37) (badEntry 1 1)
-    ∷ unsound (put 96 (stored 0x80 (text "A" ++ replicate 15 0) 0 0x00 0x00 day1) box) (badEntry 0 1)
-    ∷ clear (set desk 257 0x41) 3 (2 ∷ 1 ∷ 4 ∷ 3 ∷ [])
+    ∷ unsound (set desk 545 0x37) (badEntry 2 1)
+    ∷ unsound (put 3 (5 ∷ 0b111 ∷ []) (put 96 (stored 0x80 (text "A" ++ replicate 15 0) 2 0x00 0x00 day1) (set box 512 0))) (badEntry 0 1)
+    ∷ clear (set desk 513 0x41) 2 (4 ∷ 3 ∷ 2 ∷ 5 ∷ 1 ∷ [])
     -- a directory's size
     ∷ unsound (set box 82 0x01) (badEntry 0 0)
     ∷ unsound (set box 83 0x00) (badEntry 0 0)
     ∷ unsound (set box 83 0x02) (badEntry 0 0)
-    ∷ unsound (set desk 307 0x00) (badEntry 1 1)
+    ∷ unsound (set desk 563 0x00) (badEntry 2 1)
     -- the last page's link is not 0; it may lead back, to a free page, or out of the image
     ∷ unsound (set one 256 1) (badChain 0 0 1)
     ∷ unsound (set one 256 5) (badChain 0 0 1)
     ∷ unsound (set one 256 8) (badChain 0 0 1)
     ∷ unsound (set two 512 1) (badChain 0 1 1)
     ∷ unsound (set shelf 1024 7) (badChain 0 1 3)
-    -- an empty file with a start page
-    ∷ unsound (set note 81 1) (badChain 0 0 0)
-    ∷ unsound (set desk 273 5) (badChain 1 0 0)
+    -- an empty file's page does not begin with 0
+    ∷ unsound (set note 256 1) (badChain 0 0 1)
+    ∷ unsound (set note 256 5) (badChain 0 0 1)
+    ∷ unsound (set note 256 0xE5) (badChain 0 0 1)
+    ∷ unsound (set desk 768 6) (badChain 2 0 1)
+    -- an empty file with start page 0, and one whose start page is out of range
+    ∷ unsound (put 3 (7 ∷ 0b1 ∷ []) (set note 81 0)) (badChain 0 0 0)
+    ∷ unsound (put 3 (3 ∷ 0b110111 ∷ []) (set desk 529 0)) (badChain 2 0 0)
+    ∷ unsound (put 3 (7 ∷ 0b1 ∷ []) (set note 81 8)) (badChain 0 0 0)
     -- a page out of range: of a file, of a directory, and after the first
     ∷ unsound (put 3 (7 ∷ 0b1 ∷ []) (set one 81 8)) (badChain 0 0 0)
     ∷ unsound (put 3 (7 ∷ 0b1 ∷ []) (set one 81 255)) (badChain 0 0 0)
@@ -109,16 +115,23 @@ facts =
     ∷ unsound (put 128 (stored 0x80 (text "C" ++ replicate 15 0) 2 0xFF 0x00 day1) two) (ownedTwice 2)
     ∷ unsound (put 96 (stored 0x80 (text "B" ++ replicate 15 0) 1 0xFF 0x00 day1) box) (ownedTwice 1)
     ∷ unsound (put 96 (stored 0x81 (text "B" ++ replicate 15 0) 1 0x00 0x01 day1) box) (ownedTwice 1)
+    -- the page of an empty file owned twice: by two empty files, by an empty file and a longer one, by an empty file and a directory
+    ∷ unsound (put 96 (stored 0x80 (text "B" ++ replicate 15 0) 1 0x00 0x00 day1) note) (ownedTwice 1)
+    ∷ unsound (put 96 (stored 0x80 (text "B" ++ replicate 15 0) 1 0x00 0x00 day1) one) (ownedTwice 1)
+    ∷ unsound (put 96 (stored 0x80 (text "B" ++ replicate 15 0) 1 0xFF 0x00 day1) note) (ownedTwice 1)
+    ∷ unsound (put 96 (stored 0x80 (text "B" ++ replicate 15 0) 1 0x00 0x00 day1) box) (ownedTwice 1)
     -- a chain that returns to itself
     ∷ unsound (put 82 (0xFE ∷ 0x01 ∷ []) (set one 256 1)) (ownedTwice 1)
     ∷ unsound (put 82 (0xFD ∷ 0x02 ∷ []) (set (set (set two 96 0) 256 2) 512 1)) (ownedTwice 1)
     -- a directory that holds itself, and one that holds what it stands in
     ∷ unsound (put 256 (stored 0x81 (text "A" ++ replicate 15 0) 1 0x00 0x01 day1) box) (ownedTwice 1)
-    ∷ unsound (put 512 (stored 0x81 (text "A" ++ replicate 15 0) 1 0x00 0x01 day1) desk) (ownedTwice 1)
-    -- a page that is owned and marked free, of a file and of a directory
+    ∷ unsound (put 1024 (stored 0x81 (text "A" ++ replicate 15 0) 2 0x00 0x01 day1) desk) (ownedTwice 2)
+    -- a page that is owned and marked free, of a file, of an empty one and of a directory
     ∷ unsound (put 3 (7 ∷ 0b1 ∷ []) one) (markedFree 1)
+    ∷ unsound (put 3 (7 ∷ 0b1 ∷ []) note) (markedFree 1)
     ∷ unsound (put 3 (7 ∷ 0b1 ∷ []) box) (markedFree 1)
-    ∷ unsound (put 3 (4 ∷ 0b11011 ∷ []) desk) (markedFree 2)
+    ∷ unsound (put 3 (3 ∷ 0b110111 ∷ []) desk) (markedFree 3)
+    ∷ unsound (put 3 (3 ∷ 0b101111 ∷ []) desk) (markedFree 4)
     -- a page that is marked and nobody owns; the lowest is told
     ∷ unsound (put 3 (6 ∷ 0b11 ∷ []) fresh) (lostPage 1)
     ∷ unsound (put 3 (5 ∷ 0b100011 ∷ []) one) (lostPage 5)
@@ -146,13 +159,15 @@ kept =
     -- the flags' other bits on a directory
     ∷ shown (set box 64 0xFF) (verdict gives sized 8 6 ∷ find (text "/A") gives found isDirectory 256 day1 ∷ makeFile (text "/A/x") day1 gives done ∷ [])
     (part 64 1) (0xFF ∷ [])
+    -- what an empty file's page holds behind the 0
+    ∷ shown note (write (text "/A") 0 (0xA0 ∷ []) gives done ∷ []) whole (put 82 (0x01 ∷ 0x00 ∷ []) (set note 257 0xA0))
     ∷ []
 
 -- the pages owned, and the entries that own each of pages 0 to 7, by position
 pub owning : List Case
 owning =
-    shown desk [] ownedPages (3 ∷ 4 ∷ 1 ∷ 2 ∷ [])
-    ∷ shown desk [] (λ b. map (owners b) (upTo 8)) ([] ∷ (96 ∷ []) ∷ (288 ∷ []) ∷ (64 ∷ []) ∷ (64 ∷ []) ∷ [] ∷ [] ∷ [] ∷ [])
+    shown desk [] ownedPages (1 ∷ 5 ∷ 2 ∷ 3 ∷ 4 ∷ [])
+    ∷ shown desk [] (λ b. map (owners b) (upTo 8)) ([] ∷ (64 ∷ []) ∷ (96 ∷ []) ∷ (512 ∷ []) ∷ (544 ∷ []) ∷ (64 ∷ []) ∷ [] ∷ [] ∷ [])
     ∷ shown (put 3 (6 ∷ 0b11 ∷ []) (set two 113 1)) [] (λ b. map (owners b) (upTo 3)) ([] ∷ (64 ∷ 96 ∷ []) ∷ [] ∷ [])
     -- a page marked twice, or cleared twice; clean or not
     ∷ shown one [] (λ b. On.mark version1 1 b) one
@@ -169,7 +184,7 @@ unfolding computing judging computed stated facts fresh note one two box desk sh
 facts-hold = hold facts refl
 
 pub kept-hold : Hold kept
-unfolding computing judging computed stated kept loose one box
+unfolding computing judging computed stated kept loose one box note
 kept-hold = hold kept refl
 
 pub owning-hold : Hold owning

@@ -1,4 +1,5 @@
--- Document 01, "At the bench": the cases marked T, computed on real images by the definitions.
+-- Document 01, "At the bench": the cases marked T, computed on real images by the definitions. Cases 2 and 5 are as paper 02 §1 has them: an
+-- empty file has a page.
 use mathlib.Core.Path.{refl}
 use Prim.Native.Nat.{ℕ, _+_, _-_}
 use Prim.Native.String.{String}
@@ -40,14 +41,14 @@ pub table : List Case
 table =
     -- 1
     shown blank (format gives done ∷ verdict gives sized 8 7 ∷ []) (part 0 5) (0x5A ∷ 0x01 ∷ 0x01 ∷ 0x07 ∷ 0x01 ∷ [])
-    -- 2
+    -- 2: free 5, since each of the two has a page
     ∷ answered blank (
     format gives done
     ∷ newFile "/0042" gives done
     ∷ newFile "/42" gives done
     ∷ list (text "/") 0 gives granted (holds isFile (text "0042" ++ replicate 12 0) 0 date)
     ∷ list (text "/") 1 gives granted (holds isFile (text "42" ++ replicate 14 0) 0 date)
-    ∷ verdict gives sized 8 7
+    ∷ verdict gives sized 8 5
     ∷ find (text "/00042") gives refused (refusalAt 5 1)
     ∷ [])
     -- 3
@@ -56,15 +57,15 @@ table =
     -- 4
     ∷ shown blank (format gives done ∷ newFile "/0042" gives done ∷ writeAt "/0042" 0 255 gives done ∷ writeAt "/0042" 255 1 gives done ∷ [])
     (λ b. byteAt b 256 ∷ byteAt b 512 ∷ fields b) (2 ∷ 0 ∷ 1 ∷ 0x00 ∷ 0x01 ∷ 0x07 ∷ 5 ∷ [])
-    -- 5: by the rule, and by the free number
+    -- 5: by the rule, and by the free number; a file of no bytes has a page too
     ∷ shown blank (
     format gives done
     ∷ newFile "/A" gives done ∷ writeAt "/A" 0 512 gives done ∷ verdict gives sized 8 (7 - 3)
-    ∷ newFile "/B" gives done ∷ writeAt "/B" 0 0 gives done ∷ verdict gives sized 8 (7 - 3 - 0)
-    ∷ newFile "/C" gives done ∷ writeAt "/C" 0 255 gives done ∷ verdict gives sized 8 (7 - 3 - 0 - 1)
-    ∷ newFile "/D" gives done ∷ writeAt "/D" 0 256 gives done ∷ verdict gives sized 8 (7 - 3 - 0 - 1 - 2)
+    ∷ newFile "/B" gives done ∷ writeAt "/B" 0 0 gives done ∷ verdict gives sized 8 (7 - 3 - 1)
+    ∷ newFile "/C" gives done ∷ writeAt "/C" 0 255 gives done ∷ verdict gives sized 8 (7 - 3 - 1 - 1)
+    ∷ newFile "/D" gives done ∷ writeAt "/D" 0 256 gives done ∷ verdict gives sized 8 (7 - 3 - 1 - 1 - 2)
     ∷ [])
-    (λ b. map pagesFor (512 ∷ 0 ∷ 255 ∷ 256 ∷ [])) (3 ∷ 0 ∷ 1 ∷ 2 ∷ [])
+    (λ b. map pagesFor (512 ∷ 0 ∷ 255 ∷ 256 ∷ [])) (3 ∷ 1 ∷ 1 ∷ 2 ∷ [])
     -- 6: in 65,536 zeros; before the image after the mark stand the bits of pages 153 to 155 in it
     ∷ shown (replicate 65536 0) []
     (λ b. let marked = On.mark version1 154 b in map (pageBit marked) (153 ∷ 154 ∷ 155 ∷ []) ++ marked)

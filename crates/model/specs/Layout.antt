@@ -1,5 +1,5 @@
 -- Document 01, "Numbers" and "The header page" (000, "Header" and "Bitmap").
-use Prim.Native.Nat.{ℕ, _+_, _*_, _/_, _%_}
+use Prim.Native.Nat.{ℕ, _+_, _*_, _/_, _%_, max}
 use mathlib.Core.Bool.{Bool}
 use mathlib.Core.List.{[], _∷_}
 use lib.ListN.{length}
@@ -27,9 +27,9 @@ version1 = record { aside = 1; size = pageSize; room = room; link = λ p. byte (
 abbrev pub pageCount : Bytes → ℕ
 pageCount b = length b / pageSize
 
--- k, the number of pages of a file of s bytes ("A sound image")
+-- k, the number of pages of a file of s bytes ("A sound image", and paper 02 §1: an empty file has a page too)
 unfoldable pub pagesFor : ℕ → ℕ
-pagesFor s = (s + 254) / 255
+pagesFor s = max 1 ((s + 254) / 255)
 
 -- N is a multiple of 8 from 8 to 256
 unfoldable pub validLength : ℕ → Bool

@@ -19,7 +19,7 @@ pagesOf b vacant = []
 pagesOf b (aFile name date start size) = chain (link b) (pagesFor size) start
 pagesOf b (aDirectory name date start size) = start ∷ []
 
--- A legal name; a directory has size 0x0100; the last page of a file has link 0, and a file without pages has start page 0.
+-- A legal name; a directory has size 0x0100; the last page of a file has link 0. (Every file has a page, also an empty one: paper 02 §1.)
 unfoldable pub goodEntry : Bytes → Entry → Bool
 goodEntry b vacant = true
 goodEntry b (aFile name date start size) = legalName name && eqb (beyond (link b) (pagesFor size) start) 0

@@ -53,11 +53,10 @@ pub fn image(number: usize) -> Vec<u8> {
 fn rich() -> Vec<u8> {
     let mut desk = Desk::fresh(&Plain, 2048);
     let directories = ["/D", "/D/E"].map(|path| desk.make_directory(path));
-    let files = ["/F", "/gone", "/0042", "/D/G", "/D/E/H", "/D/42"];
-    let files = files.map(|path| desk.make_file(path));
-    let lengths = [("/F", 256), ("/gone", 100), ("/D/G", 255)];
-    let writes = lengths.map(|(path, length)| desk.write(path, 0, length));
-    let numbers = [&directories[..], &files, &writes, &[desk.remove("/gone")]].concat();
+    let files = ["/gone", "/F", "/0042", "/D/42", "/D/E/H"].map(|path| desk.make_file(path));
+    let gone = [desk.write("/gone", 0, 100), desk.remove("/gone")];
+    let writes = [("/F", 256), ("/D/42", 255)].map(|(path, length)| desk.write(path, 0, length));
+    let numbers = [&directories[..], &files, &gone, &writes].concat();
     assert!(numbers.iter().all(|&number| number == 0));
     desk.image
 }

@@ -22,9 +22,9 @@ pub const DIRECTORY_ENTRIES: usize = 8;
 /// Where the bitmap begins in the header page.
 pub const BITMAP_AT: usize = 4;
 
-/// The pages that a file of `size` bytes has.
+/// The pages that a file of `size` bytes has; an empty one has a page too.
 pub fn pages_of_file(size: usize) -> usize {
-    size.div_ceil(CONTENT)
+    size.div_ceil(CONTENT).max(1)
 }
 
 /// N of an image of `length` bytes, or refusal 1.

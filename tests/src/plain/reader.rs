@@ -108,7 +108,7 @@ impl Reader<'_> {
             content.extend_from_slice(&bytes[1..1 + wanted]);
             page = usize::from(bytes[0]);
         }
-        // The last link is 0; so is the start page of an empty file.
+        // The last link is 0.
         sound_if(page == 0)?;
         Ok(content)
     }

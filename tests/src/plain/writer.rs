@@ -28,7 +28,7 @@ pub fn make(image: &mut [u8], path: &[u8], date: &[u8], kind: Kind) {
     let mut places = entry_places(entries);
     let at = places.find(|&at| !is_occupied(image, at)).expect(GRANTED);
     let (flags, start, size) = match kind {
-        Kind::File => (0x80, 0, 0),
+        Kind::File => (0x80, allocate(image), 0),
         Kind::Directory => (0x81, allocate(image), 0x0100_u16),
     };
     let entry = &mut image[at..at + ENTRY];
@@ -52,11 +52,8 @@ pub fn write(image: &mut [u8], path: &[u8], position: usize, bytes: &[u8]) {
     let mut chain = chain_of(image, at);
     while chain.len() < pages_of_file(new_size) {
         let page = allocate(image);
-        let link_at = match chain.last() {
-            Some(last) => last * PAGE,
-            None => at + 17,
-        };
-        image[link_at] = page as u8;
+        let last = chain.last().expect("a file has a page");
+        image[last * PAGE] = page as u8;
         chain.push(page);
     }
     for (offset, &byte) in bytes.iter().enumerate() {
