@@ -5,17 +5,32 @@
  *
  *     number + 256 * (a + 65536 * (b + 65536 * c))
  *
- * a, b, c being its place. For 5 and 6, a is the byte of the path at which the name begins; every other place is 0.
+ * a, b, c being its place, 0 where nothing is said of them.
  *
  *      1  the image's length is not one of the allowed         8  make: the name is there already, or the path is "/"
  *      2  byte 0, 1 or 2 of the image is wrong                 9  make: no empty entry
- *      3  the image is not sound                              10  make or write: more pages wanted than are free
+ *      3  bit 0 of the bitmap or the count in byte 3 is wrong 10  make or write: more pages wanted than are free
  *      4  the path is no path                                 11  make: the date is not good
  *      5  a name of the path isn't in its directory           12  position past the size, or entry past the directory's last
  *      6  a file stands where a directory is needed           13  remove: the directory holds something
  *      7  read or write: the path is a directory              14  remove: the path is "/"
  *
- * (15, a broken chain, is never given: such an image is not sound.) A refused call sets its out arrays to zeros and changes no other byte.
+ * For 5 and 6, a is the byte of the path at which the name begins.
+ *
+ * An image that is given neither 1 nor 2 is judged from its root on, and its first fault is told: 3, or
+ *
+ *     16  an entry's name is not legal or that of an earlier entry, or a directory's size is not 256: a is the page of the directory that
+ *         holds the entry, 0 for the root, and b the entry's number there, from 0
+ *     17  a page of an entry is not one of 1 to N-1, or its chain does not end where the size says: a and b as above, and c is how many of
+ *         its pages before that were good
+ *     18  a page belongs to two owners, or twice to one: a is the page
+ *     19  a page is marked as taken and belongs to nobody: a is the lowest such page
+ *     20  a page belongs to a file or directory and is marked as free: a is the page
+ *
+ * Entries go in order, what a directory holds before the entry after it; of one entry 16 comes first, then its pages one after the other. 19
+ * comes after all entries, and 3 last.
+ *
+ * (15, a broken chain, is never given: such an image has a fault.) A refused call sets its out arrays to zeros and changes no other byte.
  *
  * What the caller sees to: a pointer is not null and points to as many initialized elements as the length after it or the array's bound
  * says, and what a function may write overlaps nothing else that it is handed. A path has a length and no final 0.

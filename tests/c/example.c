@@ -1,4 +1,4 @@
-/* Every call of include/zealfs.h on one image, and a refusal taken apart. Exits 1 if something is not as it should be. */
+/* Every call of include/zealfs.h on one image, and refusals taken apart. Exits 1 if something is not as it should be. */
 #include <stdio.h>
 #include <string.h>
 #include "zealfs.h"
@@ -18,9 +18,48 @@ static void expect(const char *what, uint64_t is, uint64_t should)
     printf("\n");
 }
 
+static uint8_t image[2048];
+
+/* The image with one byte changed, and what the verdict says of it: a number, and the three parts of its place. */
+struct damage {
+    const char *what;
+    size_t at;
+    uint8_t byte;
+    unsigned number, place[3];
+};
+
+/* The image holds /A on page 1, and in its entry 0 the file 0042 of 256 bytes on pages 2 and 3. */
+static const struct damage damages[] = {
+    {"name of 0042 with a slash", 256 + 1, '/', 16, {1, 0, 0}},
+    {"entry 3 of /A without a name", 256 + 3 * 32, 0x80, 16, {1, 3, 0}},
+    {"size of /A", 64 + 18, 1, 16, {0, 0, 0}},
+    {"0042 without a start page", 256 + 17, 0, 17, {1, 0, 0}},
+    {"chain ends after one page", 512, 0, 17, {1, 0, 1}},
+    {"link after the second page", 768, 4, 17, {1, 0, 2}},
+    {"0042 on the page of /A", 256 + 17, 1, 18, {1, 0, 0}},
+    {"page 7 lost", 4, 0x8F, 19, {7, 0, 0}},
+    {"page 3 marked free", 4, 0x07, 20, {3, 0, 0}},
+    {"bit 0", 4, 0x0E, 3, {0, 0, 0}},
+    {"free count", 3, 5, 3, {0, 0, 0}},
+};
+
+static void judge(const struct damage *damage)
+{
+    static const char *const parts[] = {"  a", "  b", "  c"};
+    uint8_t kept = image[damage->at];
+    uint64_t out[2] = {9, 9};
+
+    image[damage->at] = damage->byte;
+    uint64_t code = zealfs_verdict(IMAGE, out);
+    image[damage->at] = kept;
+    expect(damage->what, zealfs_number(code), damage->number);
+    for (int i = 0; i < 3; i++)
+        expect(parts[i], zealfs_place(code, i), damage->place[i]);
+    expect("  out is zeros", out[0] + out[1], 0);
+}
+
 int main(void)
 {
-    static uint8_t image[2048];
     const uint8_t made[8] = {0x20, 0x26, 0x11, 0x15, 0x07, 0x21, 0x05, 0x00};
     uint8_t bytes[256], back[100], name[16] = {0}, date[8] = {0};
     uint64_t out[3] = {0};
@@ -56,6 +95,8 @@ int main(void)
     expect("verdict", zealfs_verdict(IMAGE, out), 0);
     expect("  pages", out[0], 8);
     expect("  free", out[1], 4);
+    for (size_t i = 0; i < sizeof damages / sizeof damages[0]; i++)
+        judge(&damages[i]);
     expect("remove /A, refused", zealfs_remove(IMAGE, PATH("/A")), 13);
     expect("remove /A/0042", zealfs_remove(IMAGE, PATH("/A/0042")), 0);
     expect("verdict", zealfs_verdict(IMAGE, out), 0);

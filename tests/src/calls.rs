@@ -8,6 +8,8 @@ pub const DATE_BYTES: usize = 8;
 pub const NAME_BYTES: usize = 16;
 /// The size that a directory answers.
 pub const DIRECTORY_SIZE: u64 = 256;
+/// One more than the highest number of the refusal table.
+pub const NUMBERS: usize = 21;
 
 /// A number of the refusal table, with its place.
 #[derive(Clone, Copy, Debug, PartialEq, Eq)]
@@ -17,20 +19,41 @@ pub struct Refusal {
 }
 
 impl Refusal {
-    /// A refusal that has no place: every number but 5 and 6.
+    /// A refusal that has no place.
     pub fn number(number: u8) -> Refusal {
-        Refusal {
-            number,
-            place: [0; 3],
-        }
+        Refusal::at(number, [0; 3])
     }
 
     /// 5 or 6, with the byte of the path at which the name begins.
     pub fn at_name(number: u8, begins: usize) -> Refusal {
+        Refusal::at(number, [begins, 0, 0])
+    }
+
+    /// 16: an entry of the directory on that page, which is 0 for the root.
+    pub fn at_entry(directory: usize, entry: usize) -> Refusal {
+        Refusal::at(16, [directory, entry, 0])
+    }
+
+    /// 17: an entry, and how many of its pages passed.
+    pub fn at_chain(directory: usize, entry: usize, passed: usize) -> Refusal {
+        Refusal::at(17, [directory, entry, passed])
+    }
+
+    /// 18, 19 or 20, with the page.
+    pub fn at_page(number: u8, page: usize) -> Refusal {
+        Refusal::at(number, [page, 0, 0])
+    }
+
+    fn at(number: u8, place: [usize; 3]) -> Refusal {
         Refusal {
             number,
-            place: [begins as u64, 0, 0],
+            place: place.map(|part| part as u64),
         }
+    }
+
+    /// Whether it tells that the image is not sound.
+    pub fn says_unsound(&self) -> bool {
+        matches!(self.number, 3 | 16..=20)
     }
 }
 

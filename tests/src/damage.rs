@@ -76,13 +76,14 @@ pub fn mend_bitmap(image: &mut [u8]) {
     image[3] = (pages - 1 - owned.len()) as u8;
 }
 
-/// Does one to three random damages, and mends the bitmap after some.
+/// Does some random damages, often several, so that it shows which is told
+/// first; mends the bitmap after some.
 pub fn damage(image: &mut Vec<u8>, random: &mut Random) {
-    for _ in 0..*random.pick(&[1, 1, 1, 2, 3]) {
-        let which = random.weighted(&[2, 4, 1, 3, 5, 6, 5, 6, 3, 4, 1]);
+    for _ in 0..*random.pick(&[1, 1, 2, 3, 5]) {
+        let which = random.weighted(&[2, 5, 1, 3, 5, 6, 5, 6, 3, 4, 1]);
         match which {
             0 => header_byte(image, random),
-            1 => bitmap_bit(image, random),
+            1 => bitmap_bits(image, random),
             2 => reserved_byte(image, random),
             3 => flags(image, random),
             4 => name(image, random),
@@ -113,8 +114,10 @@ fn wrong_length(length: usize, random: &mut Random) -> usize {
     }
 }
 
+/// One of the first four bytes, mostly the count: of the others nothing but 2
+/// comes.
 fn header_byte(image: &mut [u8], random: &mut Random) {
-    let at = random.below(4);
+    let at = *random.pick(&[0, 1, 2, 3, 3, 3, 3, 3]);
     image[at] = match random.below(4) {
         0 => image[at].wrapping_add(1),
         1 => image[at].wrapping_sub(1),
@@ -123,17 +126,22 @@ fn header_byte(image: &mut [u8], random: &mut Random) {
     };
 }
 
-/// Flips a bit of the bitmap; byte 3 follows or does not.
-fn bitmap_bit(image: &mut [u8], random: &mut Random) {
-    let page = random.below(256);
-    let byte = &mut image[BITMAP_AT + page / 8];
-    *byte ^= 1 << (page % 8);
-    let was_freed = *byte >> (page % 8) & 1 == 0;
-    if random.chance(1, 2) {
-        image[3] = match was_freed {
-            true => image[3].wrapping_add(1),
-            false => image[3].wrapping_sub(1),
+/// Flips bits of the bitmap, mostly some in use; byte 3 follows or does not.
+fn bitmap_bits(image: &mut [u8], random: &mut Random) {
+    for _ in 0..*random.pick(&[1, 1, 2, 3]) {
+        let page = match random.chance(1, 8) {
+            true => random.below(256),
+            false => random.below(image.len() / PAGE),
         };
+        let byte = &mut image[BITMAP_AT + page / 8];
+        *byte ^= 1 << (page % 8);
+        let was_freed = *byte >> (page % 8) & 1 == 0;
+        if random.chance(1, 2) {
+            image[3] = match was_freed {
+                true => image[3].wrapping_add(1),
+                false => image[3].wrapping_sub(1),
+            };
+        }
     }
 }
 
@@ -168,7 +176,7 @@ fn name(image: &mut [u8], random: &mut Random) {
         return;
     };
     let name = at + 1..at + 17;
-    match random.below(6) {
+    match random.below(8) {
         0 => image[at + 1] = 0,
         1 => image[name].fill(0),
         2 => image[name].fill(b'N'),
@@ -178,8 +186,10 @@ fn name(image: &mut [u8], random: &mut Random) {
             image[at + random.between(1, 16)] = *random.pick(&bytes);
         }
         _ => {
-            // The name of a neighbour, often one of the same directory.
-            let other = some_entry(image, random).unwrap_or(at);
+            // The name of an entry of the same directory, perhaps its own.
+            let mut entries = Survey::of(image).entries;
+            entries.retain(|(other, _)| other / PAGE == at / PAGE);
+            let other = random.pick(&entries).0;
             image.copy_within(other + 1..other + 17, at + 1);
         }
     }

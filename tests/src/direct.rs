@@ -41,49 +41,109 @@ fn pages_of(length: usize) -> Result<usize, Refusal> {
 
 fn judge(image: &[u8]) -> Result<Sound, Refusal> {
     let pages = pages_of(image.len())?;
-    let bitmap_bytes = pages / 8;
-    if image[0] != 0x5A || image[1] != 1 || usize::from(image[2]) != bitmap_bytes {
+    if image[0] != 0x5A || image[1] != 1 || usize::from(image[2]) != pages / 8 {
         return refuse(2);
     }
-    let bitmap = &image[BITMAP_AT..BITMAP_AT + bitmap_bytes];
-    let free: u32 = bitmap.iter().map(|byte| byte.count_zeros()).sum();
-    if bitmap[0] & 1 == 0 || free != u32::from(image[3]) {
-        return refuse(3);
-    }
+    let free = judge_pages(image, pages)?;
+    Ok(Sound { pages, free })
+}
+
+/// Judges the tree and then the bitmap; answers the number of free pages.
+fn judge_pages(image: &[u8], pages: usize) -> Result<usize, Fault> {
+    let bitmap = &image[BITMAP_AT..BITMAP_AT + pages / 8];
+    let mut unclaimed = [0; 32];
+    unclaimed[..bitmap.len()].copy_from_slice(bitmap);
+    // The header's own page is never lost.
+    unclaimed[0] &= !1;
     let mut judge = Judge {
         image,
         pages,
-        owned: [0; 32],
+        unclaimed,
     };
-    judge.owned[0] = 1;
-    if !judge.directory(ROOT_AT, PAGE) || judge.owned[..bitmap_bytes] != *bitmap {
-        return refuse(3);
+    judge.directory(0)?;
+    if let Some(byte) = judge.unclaimed.iter().position(|&byte| byte != 0) {
+        let bit = judge.unclaimed[byte].trailing_zeros() as usize;
+        return Err(Fault::Lost((byte * 8 + bit) as u8));
     }
-    let free = free as usize;
-    Ok(Sound { pages, free })
+    let free: u32 = bitmap.iter().map(|byte| byte.count_zeros()).sum();
+    if bitmap[0] & 1 == 0 || free != u32::from(image[3]) {
+        return Err(Fault::Header);
+    }
+    Ok(free as usize)
+}
+
+/// The first fault of the tree or the bitmap, in few bytes: every step of the
+/// judge hands one up or none.
+#[derive(Clone, Copy)]
+enum Fault {
+    Entry {
+        directory: u8,
+        number: u8,
+    },
+    Chain {
+        directory: u8,
+        number: u8,
+        passed: u16,
+    },
+    OwnedTwice(u8),
+    Lost(u8),
+    MarkedFree(u8),
+    Header,
+}
+
+impl From<Fault> for Refusal {
+    fn from(fault: Fault) -> Refusal {
+        match fault {
+            Fault::Entry { directory, number } => {
+                Refusal::at_entry(directory.into(), number.into())
+            }
+            Fault::Chain {
+                directory,
+                number,
+                passed,
+            } => Refusal::at_chain(directory.into(), number.into(), passed.into()),
+            Fault::OwnedTwice(page) => Refusal::at_page(18, page.into()),
+            Fault::Lost(page) => Refusal::at_page(19, page.into()),
+            Fault::MarkedFree(page) => Refusal::at_page(20, page.into()),
+            Fault::Header => Refusal::number(3),
+        }
+    }
 }
 
 struct Judge<'a> {
     image: &'a [u8],
     pages: usize,
-    /// A bitmap of the pages met so far.
-    owned: [u8; 32],
+    /// The image's bitmap, less the pages that have found their owner.
+    unclaimed: [u8; 32],
 }
 
 impl Judge<'_> {
-    fn own(&mut self, page: usize) -> bool {
-        if page >= self.pages {
-            return false;
+    /// Gives a page its owner; `outside` is the fault if it isn't one of the
+    /// pages that may have one.
+    fn claim(&mut self, page: u8, outside: Fault) -> Result<(), Fault> {
+        let at = usize::from(page);
+        if page == 0 || at >= self.pages {
+            return Err(outside);
         }
-        let bit = 1 << (page % 8);
-        let was_free = self.owned[page / 8] & bit == 0;
-        self.owned[page / 8] |= bit;
-        was_free
+        let (byte, bit) = (at / 8, 1 << (at % 8));
+        if self.unclaimed[byte] & bit == 0 {
+            // A page that is marked free never found an owner before this one.
+            return Err(match self.image[BITMAP_AT + byte] & bit {
+                0 => Fault::MarkedFree(page),
+                _ => Fault::OwnedTwice(page),
+            });
+        }
+        self.unclaimed[byte] &= !bit;
+        Ok(())
     }
 
-    /// Judges the entries from byte `from` to byte `to`.
-    fn directory(&mut self, from: usize, to: usize) -> bool {
+    /// Judges the entries of the directory on that page.
+    fn directory(&mut self, directory: u8) -> Result<(), Fault> {
         let image = self.image;
+        let Entries { from, to } = match directory {
+            0 => ROOT,
+            page => Entries::of_page(page),
+        };
         let entries = &image[from..to];
         for (number, entry) in entries.chunks_exact(ENTRY).enumerate() {
             if entry[0] & OCCUPIED == 0 {
@@ -92,34 +152,42 @@ impl Judge<'_> {
             let name = &entry[1..=NAME_BYTES];
             let before = entries[..number * ENTRY].chunks_exact(ENTRY);
             let mut before = before.filter(|other| other[0] & OCCUPIED != 0);
-            if !is_padded_name(name) || before.any(|other| other[1..=NAME_BYTES] == *name) {
-                return false;
+            let is_taken = before.any(|other| other[1..=NAME_BYTES] == *name);
+            let number = number as u8;
+            if is_taken || !is_padded_name(name) {
+                return Err(Fault::Entry { directory, number });
             }
-            if !self.entry(entry) {
-                return false;
-            }
+            self.entry(directory, number, entry)?;
         }
-        true
+        Ok(())
     }
 
-    fn entry(&mut self, entry: &[u8]) -> bool {
-        let start = usize::from(entry[START]);
+    /// Judges what is behind the name: the pages, and a directory's contents.
+    fn entry(&mut self, directory: u8, number: u8, entry: &[u8]) -> Result<(), Fault> {
+        let after = |passed| Fault::Chain {
+            directory,
+            number,
+            passed,
+        };
+        let start = entry[START];
         let size = size_of(entry);
-        if entry[0] & DIRECTORY == 0 {
-            return self.chain(start, size);
-        }
-        size == PAGE && self.own(start) && self.directory(start * PAGE, (start + 1) * PAGE)
-    }
-
-    fn chain(&mut self, start: usize, size: usize) -> bool {
-        let mut page = start;
-        for _ in 0..pages_of_file(size) {
-            if !self.own(page) {
-                return false;
+        if entry[0] & DIRECTORY != 0 {
+            if size != PAGE {
+                return Err(Fault::Entry { directory, number });
             }
-            page = usize::from(self.image[page * PAGE]);
+            self.claim(start, after(0))?;
+            return self.directory(start);
         }
-        page == 0
+        let wanted = pages_of_file(size) as u16;
+        let mut page = start;
+        for passed in 0..wanted {
+            self.claim(page, after(passed))?;
+            page = self.image[usize::from(page) * PAGE];
+        }
+        match page {
+            0 => Ok(()),
+            _ => Err(after(wanted)),
+        }
     }
 }
 

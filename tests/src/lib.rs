@@ -19,6 +19,7 @@ pub mod direct;
 pub mod generate;
 pub mod harness;
 pub mod listing;
+pub mod misjudge;
 pub mod plain;
 pub mod random;
 pub mod settings;

@@ -1,11 +1,12 @@
 //! Copies of the plain implementation with one thing broken, to see that the
 //! harness tells of each.
 
-use crate::calls::{Answer, Call, Calls};
+use crate::calls::{Answer, Call, Calls, Refusal};
+use crate::misjudge::misjudged;
 use crate::plain::{Plain, BITMAP_AT, CONTENT, PAGE};
 
 /// What is broken.
-#[derive(Clone, Copy, Debug, PartialEq, Eq)]
+#[derive(Clone, Copy, Debug, PartialEq, Eq, PartialOrd)]
 pub enum Fault {
     /// Leading zeros of names do not count.
     LeadingZeros,
@@ -29,7 +30,7 @@ pub enum Fault {
     ShortPosition,
     /// An entry number is cut to 8 bits.
     ShortEntryNumber,
-    /// The place of a refusal is the slash and not the name.
+    /// The place of 5 and 6 is the slash and not the name.
     PlaceOfSlash,
     /// A directory that isn't empty is removed as 7 and not as 13.
     WrongNumber,
@@ -43,10 +44,26 @@ pub enum Fault {
     ReservedFlagsCleared,
     /// A bad date is told before a bad path.
     DateBeforePath,
+    // From here on the fault that is told of an image is not its first one, or
+    // its place is another.
+    /// The page that fails is counted among those that passed.
+    FailedPageCounted,
+    /// Of two equal names the earlier one is told.
+    EarlierOfEqualNames,
+    /// Of the lost pages the highest is told.
+    HighestLostPage,
+    /// Bit 0 and byte 3 are judged before the walk.
+    CountFirst,
+    /// Lost pages are told before a fault of the walk.
+    LostPagesFirst,
+    /// The names of a directory's later entries come before an entry's chain.
+    NamesBeforeChains,
+    /// What is in the root's directories comes after the root's last entry.
+    RootFirst,
 }
 
 /// All faults.
-pub const FAULTS: [Fault; 18] = [
+pub const FAULTS: [Fault; 25] = [
     Fault::LeadingZeros,
     Fault::TrustedFreeCount,
     Fault::WholeBitmap,
@@ -65,7 +82,21 @@ pub const FAULTS: [Fault; 18] = [
     Fault::JudgedWeekday,
     Fault::ReservedFlagsCleared,
     Fault::DateBeforePath,
+    Fault::FailedPageCounted,
+    Fault::EarlierOfEqualNames,
+    Fault::HighestLostPage,
+    Fault::CountFirst,
+    Fault::LostPagesFirst,
+    Fault::NamesBeforeChains,
+    Fault::RootFirst,
 ];
+
+impl Fault {
+    /// Whether it shows only in which fault of an image is told.
+    pub fn is_of_the_judge(self) -> bool {
+        self >= Fault::FailedPageCounted
+    }
+}
 
 /// The plain implementation with one fault.
 pub struct Wrong(pub Fault);
@@ -93,6 +124,7 @@ impl Wrong {
             _ => {}
         }
         self.spoil_answer(&mut answer, &call);
+        self.spoil_judgement(&mut answer, &before);
         (answer, call)
     }
 
@@ -161,12 +193,22 @@ impl Wrong {
 
     fn spoil_answer(&self, answer: &mut Answer, call: &Call) {
         match self.0 {
-            Fault::PlaceOfSlash if answer.place[0] > 0 => answer.place[0] -= 1,
+            Fault::PlaceOfSlash if matches!(answer.number, 5 | 6) => answer.place[0] -= 1,
             Fault::WrongNumber if answer.number == 13 => answer.number = 7,
             Fault::RootDate if *call == Call::Find(b"/".to_vec()) && answer.is_granted() => {
                 answer.date[2] = 1;
             }
             _ => {}
+        }
+    }
+
+    fn spoil_judgement(&self, answer: &mut Answer, image: &[u8]) {
+        let first = Refusal {
+            number: answer.number,
+            place: answer.place,
+        };
+        if first.says_unsound() {
+            *answer = Answer::refused(misjudged(self.0, image, first));
         }
     }
 
@@ -219,7 +261,7 @@ impl Calls for Wrong {
     }
 
     fn verdict(&self, image: &[u8]) -> Answer {
-        Plain.verdict(&self.judged(image))
+        self.perform(&mut self.judged(image), Call::Verdict).0
     }
 
     fn find(&self, image: &[u8], path: &[u8]) -> Answer {

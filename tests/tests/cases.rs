@@ -1,5 +1,6 @@
 //! The cases of the bench, numbered as in document 01 and with the values of
-//! document 02 §1, by which an empty file has a page, on every implementation.
+//! document 02 §1, by which an empty file has a page, and §2, by which a fault
+//! has a number and a place, on every implementation.
 
 use zealfs_tests::calls::{Answer, Kind};
 use zealfs_tests::desk::{pattern, Desk, DATE};
@@ -169,15 +170,22 @@ fn case_13_shared_pages_and_loops() {
         assert_eq!(desk.write("/F", 0, 255), 0);
         assert_eq!(desk.write("/G", 0, 255), 0);
         let sound = desk.image.clone();
+        let told = |image: &[u8]| {
+            let verdict = desk.calls.verdict(image);
+            (verdict.number, verdict.place)
+        };
         // Both on page 1, and page 2 free.
-        desk.image[96 + 17] = 1;
-        desk.image[3] += 1;
-        desk.image[4] = 0x03;
-        assert_eq!(desk.calls.verdict(&desk.image).number, 3);
-        // A chain of one page that returns to itself.
-        desk.image = sound;
-        desk.image[256] = 1;
-        assert_eq!(desk.calls.verdict(&desk.image).number, 3);
+        let mut image = sound.clone();
+        image[96 + 17] = 1;
+        image[3] += 1;
+        image[4] = 0x03;
+        assert_eq!(told(&image), (18, [1, 0, 0]));
+        // A chain that returns to itself, and a size that ends it before.
+        let mut image = sound;
+        image[256] = 1;
+        assert_eq!(told(&image), (17, [0, 0, 1]));
+        image[64 + 18..64 + 20].copy_from_slice(&256_u16.to_le_bytes());
+        assert_eq!(told(&image), (18, [1, 0, 0]));
     });
 }
 

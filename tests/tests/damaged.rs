@@ -1,20 +1,24 @@
-//! Damaged images: the judges agree on every one, and calls on those that are
-//! refused change nothing.
+//! Damaged images: the judges agree on the first fault of every one and on its
+//! place, and calls on those that are refused change nothing.
 
 use zealfs_tests::assemble::{assemble, Order};
-use zealfs_tests::calls::{Call, Calls};
+use zealfs_tests::calls::{Call, Calls, Refusal, NUMBERS};
 use zealfs_tests::damage::{damage, mend_bitmap, Survey};
 use zealfs_tests::desk::Desk;
 use zealfs_tests::generate::{random_tree, starting_image, Generator};
 use zealfs_tests::harness::{compare, Origin, Scenario};
-use zealfs_tests::plain::{reader, Plain, Replay};
+use zealfs_tests::plain::reader::{is_allocated, judge};
+use zealfs_tests::plain::{Plain, Replay};
 use zealfs_tests::random::Random;
 use zealfs_tests::settings;
 use zealfs_tests::shrink::report;
 use zealfs_tests::subjects::{compared, Subject};
 
 /// How many of the images get each number from the verdict.
-type Tally = [u64; 16];
+type Tally = [u64; NUMBERS];
+
+/// The numbers of faults that an image of a good length and header may have.
+const FAULTS: [usize; 6] = [16, 17, 18, 20, 19, 3];
 
 fn check(origin: &Origin, scenario: &Scenario, subjects: &[Subject], tally: &mut Tally) {
     let verdict = Plain.verdict(&scenario.image);
@@ -44,6 +48,14 @@ fn print_tally(what: &str, tally: &Tally) {
         .map(|(number, count)| format!("{number}: {count}"))
         .collect();
     println!("{what}: {}", met.join(", "));
+}
+
+/// Sees that each kind of fault was told so often at least.
+fn check_coverage(tally: &Tally, least: u64) {
+    for number in FAULTS {
+        let count = tally[number];
+        assert!(count >= least, "{number} was told {count} times");
+    }
 }
 
 /// A full image of 8 pages with a bit of everything: a chain of two pages, one of
@@ -88,6 +100,7 @@ fn every_value_of_every_byte() {
     }
     print_tally("bytes of an image of 8 pages", &tally);
     assert_eq!(tally[2], 3 * 255);
+    check_coverage(&tally, 1);
 }
 
 #[test]
@@ -110,6 +123,7 @@ fn every_value_of_the_bytes_of_a_large_header() {
 
 /// Every size of a file of two pages, of the longest there is, and of an empty
 /// one: the sizes that want as many pages are good, among them 0 for one page.
+/// With any other the chain ends where the size does not say.
 #[test]
 fn every_size() {
     let subjects = compared();
@@ -121,7 +135,7 @@ fn every_size() {
             check_verdict(&image, &subjects, &mut tally);
         }
         print_tally("sizes", &tally);
-        assert_eq!((tally[0], tally[3]), (good, 65_536 - good));
+        assert_eq!((tally[0], tally[17]), (good, 65_536 - good));
     }
 }
 
@@ -146,186 +160,8 @@ fn every_start_page_and_link() {
     print_tally("start pages and links", &tally);
 }
 
-/// An entry of a directory of which all is chosen.
-fn put_entry(image: &mut [u8], at: usize, flags: u8, name: u8, start: u8, size: u16) {
-    image[at..at + 32].fill(0);
-    image[at] = flags;
-    image[at + 1] = name;
-    image[at + 17] = start;
-    image[at + 18..at + 20].copy_from_slice(&size.to_le_bytes());
-}
-
-/// A fresh image, changed; the bitmap then follows the pages.
-fn changed(change: fn(&mut [u8])) -> Vec<u8> {
-    let mut image = Desk::fresh(&Plain, 2048).image;
-    image[256..].fill(0);
-    change(&mut image);
-    mend_bitmap(&mut image);
-    image
-}
-
-/// One fault alone, or none: what each image is, its verdict, its making.
-type Fault = (&'static str, u8, fn(&mut [u8]));
-
-const FILE_FAULTS: [Fault; 16] = [
-    ("a file of one page", 0, |i| {
-        put_entry(i, 64, 0x80, b'A', 1, 255)
-    }),
-    ("an empty file", 0, |i| put_entry(i, 64, 0x80, b'A', 1, 0)),
-    ("an empty file without a start page", 3, |i| {
-        put_entry(i, 64, 0x80, b'A', 0, 0)
-    }),
-    ("a file without a start page", 3, |i| {
-        put_entry(i, 64, 0x80, b'A', 0, 1)
-    }),
-    ("a start page past the image", 3, |i| {
-        put_entry(i, 64, 0x80, b'A', 8, 1)
-    }),
-    ("start page 255", 3, |i| {
-        put_entry(i, 64, 0x80, b'A', 255, 1)
-    }),
-    ("the last page", 0, |i| put_entry(i, 64, 0x80, b'A', 7, 1)),
-    ("a chain that ends early", 3, |i| {
-        put_entry(i, 64, 0x80, b'A', 1, 256)
-    }),
-    ("a chain that ends late", 3, |i| {
-        put_entry(i, 64, 0x80, b'A', 1, 255);
-        i[256] = 2;
-    }),
-    ("a chain that loops to its start", 3, |i| {
-        put_entry(i, 64, 0x80, b'A', 1, 511);
-        i[256] = 2;
-        i[512] = 1;
-    }),
-    ("a page that leads to itself", 3, |i| {
-        put_entry(i, 64, 0x80, b'A', 1, 256);
-        i[256] = 1;
-    }),
-    ("a link past the image", 3, |i| {
-        put_entry(i, 64, 0x80, b'A', 1, 256);
-        i[256] = 8;
-    }),
-    ("two files on one page", 3, |i| {
-        put_entry(i, 64, 0x80, b'A', 1, 255);
-        put_entry(i, 96, 0x80, b'B', 1, 255);
-    }),
-    ("chains that meet", 3, |i| {
-        put_entry(i, 64, 0x80, b'A', 1, 510);
-        put_entry(i, 96, 0x80, b'B', 2, 510);
-        i[256] = 3;
-        i[512] = 3;
-    }),
-    ("a file on a directory's page", 3, |i| {
-        put_entry(i, 64, 0x81, b'A', 1, 256);
-        put_entry(i, 96, 0x80, b'B', 1, 1);
-    }),
-    ("a chain through a directory's page", 3, |i| {
-        put_entry(i, 64, 0x81, b'A', 2, 256);
-        put_entry(i, 96, 0x80, b'B', 1, 256);
-        i[256] = 2;
-    }),
-];
-
-const DIRECTORY_FAULTS: [Fault; 14] = [
-    ("a directory", 0, |i| put_entry(i, 64, 0x81, b'A', 1, 256)),
-    ("a directory of size 0", 3, |i| {
-        put_entry(i, 64, 0x81, b'A', 1, 0)
-    }),
-    ("a directory of size 255", 3, |i| {
-        put_entry(i, 64, 0x81, b'A', 1, 255)
-    }),
-    ("a directory on page 0", 3, |i| {
-        put_entry(i, 64, 0x81, b'A', 0, 256)
-    }),
-    ("a directory past the image", 3, |i| {
-        put_entry(i, 64, 0x81, b'A', 8, 256)
-    }),
-    ("two directories on one page", 3, |i| {
-        put_entry(i, 64, 0x81, b'A', 1, 256);
-        put_entry(i, 96, 0x81, b'B', 1, 256);
-    }),
-    ("a directory that holds itself", 3, |i| {
-        put_entry(i, 64, 0x81, b'A', 1, 256);
-        put_entry(i, 256, 0x81, b'A', 1, 256);
-    }),
-    ("a directory that holds the root's page", 3, |i| {
-        put_entry(i, 64, 0x81, b'A', 1, 256);
-        put_entry(i, 256, 0x81, b'A', 0, 256);
-    }),
-    ("two directories that hold each other", 3, |i| {
-        put_entry(i, 64, 0x81, b'A', 1, 256);
-        put_entry(i, 256, 0x81, b'A', 2, 256);
-        put_entry(i, 512, 0x81, b'A', 1, 256);
-    }),
-    ("reserved flag bits", 0, |i| {
-        put_entry(i, 64, 0xFF, b'A', 1, 256)
-    }),
-    ("a free entry that looks like a bad directory", 0, |i| {
-        put_entry(i, 64, 0x7F, b'/', 9, 1);
-    }),
-    ("a file of size 256 is no directory", 0, |i| {
-        put_entry(i, 64, 0xFE, b'A', 1, 256);
-        i[256] = 2;
-    }),
-    ("a bad name two directories down", 3, |i| {
-        put_entry(i, 64, 0x81, b'A', 1, 256);
-        put_entry(i, 256 + 224, 0x81, b'A', 2, 256);
-        put_entry(i, 512 + 224, 0x80, 0x7F, 3, 0);
-    }),
-    ("a bad file where no directory leads", 0, |i| {
-        put_entry(i, 64, 0x80, b'A', 1, 255);
-        put_entry(i, 256 + 32, 0x80, b'/', 9, 1);
-    }),
-];
-
-const NAME_FAULTS: [Fault; 9] = [
-    ("two equal names", 3, |i| {
-        put_entry(i, 64, 0x80, b'A', 1, 0);
-        put_entry(i, 224, 0x80, b'A', 2, 0);
-    }),
-    ("a file and a directory of one name", 3, |i| {
-        put_entry(i, 64, 0x80, b'A', 2, 0);
-        put_entry(i, 96, 0x81, b'A', 1, 256);
-    }),
-    ("the name of a free entry", 0, |i| {
-        put_entry(i, 64, 0x00, b'A', 0, 0);
-        put_entry(i, 96, 0x80, b'A', 1, 0);
-    }),
-    ("equal names in two directories", 0, |i| {
-        put_entry(i, 64, 0x81, b'A', 1, 256);
-        put_entry(i, 256, 0x80, b'A', 2, 0);
-    }),
-    ("no name", 3, |i| put_entry(i, 64, 0x80, 0, 1, 0)),
-    ("a slash", 3, |i| put_entry(i, 64, 0x80, b'/', 1, 0)),
-    ("a name that is not padded", 3, |i| {
-        put_entry(i, 64, 0x80, b'A', 1, 0);
-        i[64 + 16] = b'A';
-    }),
-    ("a name of 16 bytes", 0, |i| {
-        put_entry(i, 64, 0x80, b'A', 1, 0);
-        i[65..81].fill(b'A');
-    }),
-    ("names that differ in the last byte", 0, |i| {
-        put_entry(i, 64, 0x80, b'A', 1, 0);
-        put_entry(i, 96, 0x80, b'A', 2, 0);
-        i[65..81].fill(b'A');
-        i[97..112].fill(b'A');
-    }),
-];
-
-#[test]
-fn single_faults() {
-    let subjects = compared();
-    let faults = [&FILE_FAULTS[..], &DIRECTORY_FAULTS, &NAME_FAULTS].concat();
-    for (what, number, change) in faults {
-        let image = changed(change);
-        assert_eq!(Plain.verdict(&image).number, number, "{what}");
-        check_verdict(&image, &subjects, &mut Tally::default());
-    }
-}
-
-/// Bits of the bitmap, with and without byte 3 following; bits past the
-/// image's pages do not count.
+/// Bits of the bitmap, with and without byte 3 following: an owned page is
+/// then free, a free one lost, and bits past the image's pages do not count.
 #[test]
 fn every_bit_of_the_bitmap() {
     let subjects = compared();
@@ -340,8 +176,13 @@ fn every_bit_of_the_bitmap() {
                 image[4 + page / 8] ^= 1 << (page % 8);
                 image[3] = image[3].wrapping_add(byte_3);
                 check_verdict(&image, &subjects, &mut tally);
-                let ignored = page >= length / 256 && byte_3 == 0;
-                assert_eq!(reader::judge(&image).is_ok(), ignored);
+                let told = match page {
+                    0 => Some(Refusal::number(3)),
+                    _ if page >= length / 256 => (byte_3 != 0).then(|| Refusal::number(3)),
+                    _ if is_allocated(&sound, page) => Some(Refusal::at_page(20, page)),
+                    _ => Some(Refusal::at_page(19, page)),
+                };
+                assert_eq!(judge(&image).err(), told);
             }
         }
     }
@@ -379,6 +220,9 @@ fn random_damages_and_calls() {
         check(&origin, &scenario, &subjects, &mut tally);
     }
     print_tally("randomly damaged images", &tally);
+    if images >= 20_000 {
+        check_coverage(&tally, images / 200);
+    }
 }
 
 fn damaged_scenario(seed: u64) -> Scenario {

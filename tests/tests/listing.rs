@@ -59,9 +59,29 @@ fn refused_images() {
         assert_eq!(listed(image), b"refused 1\n");
     }
     assert_eq!(listed(&fresh[..2048]), b"refused 2\n");
-    let mut unsound = fresh;
-    unsound[3] = 254;
-    assert_eq!(listed(&unsound), b"refused 3\n");
+}
+
+/// Of a fault only the number is printed, not its place.
+#[test]
+fn unsound_images() {
+    let mut desk = Desk::fresh(&Plain, 2048);
+    assert_eq!(desk.make_directory("/D"), 0);
+    assert_eq!(desk.make_file("/D/F"), 0);
+    // Bytes of the header, of D's entry (page 1) and of F's (page 2).
+    let changes: [(usize, u8, &str); 7] = [
+        (256 + 1, b'/', "refused 16\n"),
+        (64 + 18, 1, "refused 16\n"),
+        (256 + 19, 1, "refused 17\n"),
+        (256 + 17, 1, "refused 18\n"),
+        (4, 0x0F, "refused 19\n"),
+        (4, 0x03, "refused 20\n"),
+        (3, 6, "refused 3\n"),
+    ];
+    for (at, byte, text) in changes {
+        let mut image = desk.image.clone();
+        image[at] = byte;
+        assert_eq!(listed(&image), text.as_bytes());
+    }
 }
 
 #[test]

@@ -2,7 +2,7 @@
 //! the others, call by call.
 
 use std::time::Instant;
-use zealfs_tests::calls::{Answer, Call, CALL_NAMES};
+use zealfs_tests::calls::{Answer, Call, CALL_NAMES, NUMBERS};
 use zealfs_tests::generate::scenario;
 use zealfs_tests::harness::{compare, Origin, Scenario};
 use zealfs_tests::plain::{Plain, Replay};
@@ -11,7 +11,7 @@ use zealfs_tests::subjects::{compared, Subject};
 use zealfs_tests::{listing, settings};
 
 /// How often each call got each number.
-type Tally = [[u64; 16]; 9];
+type Tally = [[u64; NUMBERS]; 9];
 
 /// The numbers that each call can be given on sound images.
 const POSSIBLE: [&[usize]; 9] = [
@@ -57,7 +57,7 @@ fn lists_from_sound_images() {
     let (first, lists) = (settings::seed(), settings::lists());
     let started = Instant::now();
     let subjects = compared();
-    let mut tally = Tally::default();
+    let mut tally = [[0; NUMBERS]; 9];
     let mut ending_full = 0;
     for seed in (0..lists).map(|list| first.wrapping_add(list)) {
         let origin = Origin(format!(
@@ -102,7 +102,7 @@ fn print_tally(tally: &Tally) {
 /// The lists have met every number that a call can be given, and no other.
 fn check_coverage(tally: &Tally) {
     for (call, numbers) in tally.iter().enumerate() {
-        let met: Vec<usize> = (0..16).filter(|&number| numbers[number] > 0).collect();
+        let met: Vec<usize> = (0..NUMBERS).filter(|&number| numbers[number] > 0).collect();
         assert_eq!(met, POSSIBLE[call], "{}", CALL_NAMES[call]);
     }
 }

@@ -6,8 +6,13 @@ use zealfs_tests::desk::{Desk, DATE};
 use zealfs_tests::plain::Plain;
 use zealfs_tests::subjects::all;
 
-/// The numbers in the order of the table.
-const TABLE: [u8; 15] = [1, 2, 3, 4, 11, 14, 5, 6, 8, 7, 12, 9, 10, 13, 15];
+/// The numbers in the order of the table. Of the faults that the judge's walk
+/// tells, [`WALK`], no image here has two; tests/first_fault.rs has their order.
+const TABLE: [u8; 20] = [
+    1, 2, 16, 17, 18, 20, 19, 3, 4, 11, 14, 5, 6, 8, 7, 12, 9, 10, 13, 15,
+];
+
+const WALK: [u8; 4] = [16, 17, 18, 20];
 
 const BAD_DATE: [u8; 8] = [0x20, 0x26, 0x13, 0x15, 0x07, 0x20, 0x30, 0x59];
 
@@ -264,14 +269,32 @@ fn every_refusal_on_sound_images() {
     }
 }
 
-/// Breaks the image so that exactly the wanted ones of 1, 2 and 3 hold.
+/// Breaks the image [`roomy`] so that these lines of the judge hold, and none
+/// above the highest of them. With 17 and 18 a page is lost too.
 fn broken(image: &[u8], holds: &[u8]) -> Vec<u8> {
     let mut image = image.to_vec();
-    if holds.contains(&2) {
-        image[1] = 2;
-    }
-    if holds.contains(&3) {
-        image[3] ^= 1;
+    for number in holds {
+        match number {
+            1 => {}
+            2 => image[1] = 2,
+            3 => image[3] ^= 8,
+            // The name of /full.
+            16 => image[160 + 1] = b'/',
+            // The start page of /D/G.
+            17 => image[512 + 17] = 0,
+            // /E on the page of /F.
+            18 => image[128 + 17] = 1,
+            // Both free pages are marked, or that of /full/7 is not.
+            19 => {
+                image[4 + 1] |= 0xC0;
+                image[3] -= 2;
+            }
+            20 => {
+                image[4 + 1] &= !0x20;
+                image[3] += 1;
+            }
+            _ => unreachable!("{number} is not of the judge"),
+        }
     }
     if holds.contains(&1) {
         image.pop();
@@ -279,20 +302,47 @@ fn broken(image: &[u8], holds: &[u8]) -> Vec<u8> {
     image
 }
 
-/// 1, 2 and 3 stand above whatever else holds, in every call but format.
+/// What is told of the image that [`broken`] makes.
+fn told(holds: &[u8]) -> Refusal {
+    match highest(holds) {
+        16 => Refusal::at_entry(0, 3),
+        17 => Refusal::at_chain(2, 0, 0),
+        18 => Refusal::at_page(18, 1),
+        19 => Refusal::at_page(19, 14),
+        20 => Refusal::at_page(20, 13),
+        number => Refusal::number(number),
+    }
+}
+
+/// Every choice of 1, 2, one fault of the walk, 19 and 3, but for none.
+fn faults() -> Vec<Vec<u8>> {
+    let chosen = |choice: usize, walk: u8| -> Vec<u8> {
+        let lines = [1, 2, walk, 19, 3].into_iter().enumerate();
+        let taken = lines.filter(|(bit, _)| choice >> bit & 1 == 1);
+        taken.map(|(_, number)| number).collect()
+    };
+    let choices = (1..32).flat_map(|choice| WALK.map(|walk| chosen(choice, walk)));
+    let mut choices: Vec<Vec<u8>> = choices.collect();
+    // Those without a fault of the walk come four times.
+    choices.dedup();
+    choices
+}
+
+/// What the judge tells stands above whatever else holds, in every call but
+/// format.
 #[test]
 fn the_image_is_judged_first() {
-    let faults: [&[u8]; 7] = [&[1], &[2], &[3], &[1, 2], &[2, 3], &[1, 3], &[1, 2, 3]];
     let mut calls: Vec<Call> = cases().into_iter().map(|(_, call, _, _)| call).collect();
     calls.extend(granted());
     calls.push(Call::Verdict);
     let roomy = roomy();
+    let faults = faults();
+    println!("{} calls on {} broken images", calls.len(), faults.len());
     for subject in all() {
-        for holds in faults {
+        for holds in &faults {
             let image = broken(&roomy, holds);
-            let refusal = Refusal::number(highest(holds));
             for call in &calls {
-                check(subject.calls.as_ref(), &image, call, refusal);
+                check(subject.calls.as_ref(), &image, call, told(holds));
             }
         }
     }

@@ -1,7 +1,7 @@
 //! The harness itself: each copy of the plain implementation with one thing
 //! broken is told of, with a short list of calls.
 
-use zealfs_tests::calls::Call;
+use zealfs_tests::calls::{Call, Calls};
 use zealfs_tests::damage::damage;
 use zealfs_tests::generate::{scenario, starting_image, Generator};
 use zealfs_tests::harness::{compare, Scenario};
@@ -49,6 +49,22 @@ fn every_fault_is_told_and_shrunk() {
         let origin = format!("seed {seed}");
         println!("{}", report(&origin, &found, &Plain, &wrong));
         assert!(after <= 5, "{fault:?} is left with {after} calls");
+    }
+}
+
+/// Random damages come together often enough that each step of the judge's
+/// order shows in many images.
+#[test]
+fn damaged_images_show_the_order_of_the_judge() {
+    const IMAGES: u64 = 10_000;
+    let images: Vec<Vec<u8>> = (0..IMAGES)
+        .map(|seed| damaged_scenario(seed).image)
+        .collect();
+    for fault in FAULTS.into_iter().filter(|fault| fault.is_of_the_judge()) {
+        let tells_another = |image: &&Vec<u8>| Wrong(fault).verdict(image) != Plain.verdict(image);
+        let count = images.iter().filter(tells_another).count() as u64;
+        println!("{fault:?}: shows in {count} of {IMAGES} damaged images");
+        assert!(count > IMAGES / 200, "{fault:?}");
     }
 }
 

@@ -1,5 +1,6 @@
-// The cases 1 to 13 of document 01, "At the bench", with the values of document 02 §1, run by the compiled calls: what was asked, what was answered, and the bytes that the
-// case names. The stored output was written by hand, from that paper's numbers and its layout of an image, and not copied from a run.
+// The cases 1 to 13 of document 01, "At the bench", with the values of document 02 §1 and §2, run by the compiled calls: what was
+// asked, what was answered, and the bytes that the case names. The stored output was written by hand, from the papers' numbers and the
+// layout of an image, and not copied from a run.
 use fields::Position;
 use zealfs::ReadAnswer;
 ghost use Prim.Native.Nat.{_+_, _<_, _≤_};
@@ -217,7 +218,7 @@ fn two_files_on_one_page(image: &mut Image) {
 }
 
 // A file on pages 1, 2 and 3, and byte 512, the link of page 2, leads back to page 1. Page 3 is then nobody's, and is set free as above.
-// With page 2 as the last again, and 510 bytes as the size, the image is sound.
+// With 510 bytes as the size the chain should end before it returns, and with page 2 as the last again the image is sound.
 fn chain_that_returns(image: &mut Image) {
     file_made(image);
     shown::write_digits(image, b"/0042", 0, 765);
@@ -228,9 +229,10 @@ fn chain_that_returns(image: &mut Image) {
     shown::verdict(image);
     shown::write(image, b"/0042", 0, b"+");
     shown::remove(image, b"/0042");
-    set_byte(image, 512, 0);
     set_byte(image, 82, 0xFE);
     set_byte(image, 83, 0x01);
+    shown::verdict(image);
+    set_byte(image, 512, 0);
     shown::verdict(image);
     read_back(image, b"/0042", 510);
 }

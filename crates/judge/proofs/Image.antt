@@ -48,7 +48,7 @@ unfolding zeros
 zeros-all zero = refl
 zeros-all (suc n) = omega (arith, zeros-all n)
 
-unowned-all : (n : ℕ) → unowned (replicate (suc n) 0) ≡ n
+pub unowned-all : (n : ℕ) → unowned (replicate (suc n) 0) ≡ n
 unfolding unowned
 unowned-all n = zeros-all n
 

@@ -3,3 +3,5 @@ pub mod Names
 pub mod Walk
 pub mod Rest
 pub mod Image
+pub mod Placed
+pub mod Depth

@@ -62,7 +62,7 @@ module _ (b : Bytes) where
       (within-chain d i k (suc passed) (link b p))
 
   module _ (below : ℕ → List ℕ → Judged) (kept : (p : ℕ) (m : List ℕ) → Within (unowned m) (below p m)) where
-    within-entry : (d i : ℕ) (ear : List ℕ) (e : Model.Entry) (m : List ℕ) → Within (unowned m) (judgeEntry below b d i ear e m)
+    pub within-entry : (d i : ℕ) (ear : List ℕ) (e : Model.Entry) (m : List ℕ) → Within (unowned m) (judgeEntry below b d i ear e m)
     unfolding judgeEntry
     within-entry d i ear vacant m = le-refl _
     within-entry d i ear (aFile name date start size) m = within-if (unowned m) (freshName b ear name) _ (badEntry d i) (within-chain d i (pagesFor size) 0 start m)
@@ -77,7 +77,7 @@ module _ (b : Bytes) where
         within-then (unowned m) (judgeEntry below b d i ear (entryAt b at) m) (judgeEntries below b d (suc i) (at ∷ ear) ats)
         (within-entry d i ear (entryAt b at) m) (within-entries d (suc i) (at ∷ ear) ats)
 
-  within-directory : (f p : ℕ) (m : List ℕ) → Within (unowned m) (judgeDirectory f b p m)
+  pub within-directory : (f p : ℕ) (m : List ℕ) → Within (unowned m) (judgeDirectory f b p m)
   unfolding judgeDirectory
   within-directory zero p m = tt
   within-directory (suc f) p m = within-entries (judgeDirectory f b) (within-directory f) p 0 [] (entries p) m

@@ -1,4 +1,5 @@
-// The judge of an image (01, "A sound image"): a walk down the tree of directories that gives each page its owner and stops at the first fault.
+// The judge of an image (01, "A sound image"; the order and the places of faults: 02 §2): a walk down the tree of directories that
+// gives each page its owner and stops at the first fault.
 // No function changes the image. The one public function has no `requires`: it says of any bytes what they are.
 use fields::Entry;
 use fields::Page;
@@ -13,7 +14,7 @@ ghost use Rattle.model.specs.Judge.{clean, judgePage, judgeChain, freshName, ju
 ghost use Rattle.judge.specs.Answers.{faultOf, outcome, findingOf, judgedAs};
 ghost use Rattle.judge.specs.Walk.{Marked, unowned, isLost, position, earlier};
 
-// The first fault of a walk, with its place. The base gives 3 for each; request §2 gives the numbers in brackets.
+// The first fault of an image, with its place; in brackets the number of paper 02 §2, which `refusals` tells.
 pub enum Fault {
     // An occupied entry whose name is not legal or is that of an earlier one, or a directory whose size is not 0x0100: the
     // directory's page and the entry's number (16).
@@ -68,7 +69,8 @@ fn own_page(image: &[u8], marks: &mut [u8], page: Page, range: Fault) -> Check
     Check::Clean
 }
 
-// The k pages of a file get their owner, entry i of a directory. Behind the last of them stands 0. A chain that returns to itself meets a page that has its owner.
+// The k pages of a file get their owner, entry i of a directory. Behind the last of them stands 0. A chain that returns to itself
+// meets a page that has its owner.
 fn own_chain(
     image: &[u8],
     marks: &mut [u8],
@@ -221,7 +223,7 @@ fn judge_rest(image: &[u8], marks: &[u8]) -> Check
     Check::Clean
 }
 
-// The whole walk. No page has an owner at its beginning.
+// The walk, and what comes after it. No page has an owner at its beginning.
 fn judge_all(image: &[u8], marks: &mut [u8]) -> Check
     requires { ⌜ Marked (now image) (now marks) × (now marks ≡ replicate (pageCount (now image)) 0) ⌝ }
     ensures { λ r. ⌜ outcome r (now (marks .exit)) ≡ judge (now (image .entry)) ⌝ }
@@ -233,8 +235,8 @@ fn judge_all(image: &[u8], marks: &mut [u8]) -> Check
     judge_rest(image, marks)
 }
 
-// The length is judged first, then the header, then the rest: 1 and 2 stand above 3. The free number of a sound image is byte 3,
-// for the walk has counted it.
+// The length is judged first, then the header, then the rest: 1 and 2 stand above the faults. The free number of a sound image is byte 3,
+// for `judge_rest` has counted it.
 pub fn judge_image(image: &[u8]) -> Judgement
     ensures { λ r. ⌜ findingOf r ≡ judgedAs (now (image .entry)) ⌝ }
 {

@@ -143,6 +143,9 @@ rising [] = true
 rising (x ∷ []) = true
 rising (x ∷ y ∷ ys) = let rest = rising (y ∷ ys) in if leb x y then rest else false
 
+abbrev pub ranks : List Line → List ℕ
+ranks = map (λ (l : Line). rankIn tableOrder (l .1 .number))
+
 -- the lines stand in the paper's order
 abbrev pub InOrder : List Line → Type 0
-InOrder ls = T (rising (map (λ (l : Line). rankIn tableOrder (l .1 .number)) ls))
+InOrder ls = T (rising (ranks ls))

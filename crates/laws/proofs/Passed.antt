@@ -9,21 +9,28 @@ use lib.ListN.{length}
 use lib.Dec.{T, eqb, ltb, nltb→le}
 use Rattle.volume.specs.Bytes.{Bytes}
 use Rattle.volume.proofs.Tests.{not-not, if-no}
-use Rattle.model.specs.Layout.{pageCount, pagesFor, zeroBits}
+use Rattle.model.specs.Layout.{pageCount, pagesFor, validLength, validHeader, zeroBits}
 use Rattle.model.specs.Date.{goodDate}
 use Rattle.model.specs.Sound.{sound}
 use Rattle.model.specs.Tree.{Row, end, width, held, freeNumber, Node, directoryNode, lookup}
 use Rattle.model.specs.Path.{Name, Path, noPath, root, below, pathOf, isNoPath, isRoot, parents, lastName}
 use Rattle.model.specs.Image.{rowAt, treeOf}
 use Rattle.model.specs.Walk.{Walked, arrived, missing, blocked, walk, walkTo, arrivedOr}
-use Rattle.model.specs.Call.{Call, write, remove, Refusal}
-use Rattle.model.specs.Refusal.{isMissing, isBlocked, isThere, isDirectoryNode, rowIn, node, size, wanted, makeLines, earlier, later, refusals, Passes}
-use Rattle.model.specs.Meaning.{isFormat, brokenLine, lines}
+use Rattle.model.specs.Call.{Call, write, remove, Refusal, refusal}
+use Rattle.model.specs.Refusal.{Line, isMissing, isBlocked, isThere, isDirectoryNode, rowIn, node, size, wanted, makeLines, earlier, later, refusals, Passes}
+use Rattle.model.specs.Meaning.{soundLine, imageLines, isFormat, brokenLine, lines}
 use Rattle.laws.proofs.Facts.{Facts}
 use Rattle.laws.proofs.Counting.{free-number}
 use Rattle.laws.proofs.Make.{Clear}
 use Rattle.laws.proofs.Lines.{passed, passes-left}
 use Rattle.laws.proofs.Names.{last-legal, date-length}
+
+pub image-passed : (b : Bytes) (ls : List Line) → Passes (imageLines b ++ ls) → T (sound b) × Passes ls
+image-passed b ls e =
+    let p1 = passed (not (validLength (length b)), refusal 1) _ e in
+    let p2 = passed (not (validHeader b), refusal 2) _ (p1 .1) in
+    let p3 = passed (soundLine b) ls (p2 .1) in
+    (not-not (sound b) (p3 .0), p3 .1)
 
 pub sound-passed : (c : Call) (b : Bytes) → T (not (isFormat c)) → Passes (lines c b) → T (sound b) × Passes (refusals c (treeOf b))
 unfolding lines

@@ -2,29 +2,32 @@
 -- number of the table and changes nothing.
 use mathlib.Core.Path.{_≡_, refl, sym, ap, _∙_, subst}
 use mathlib.Core.Logic.{_↔_, _≢_}
-use Prim.Native.Nat.{_<_}
+use Prim.Native.Nat.{ℕ, _≤_, _<_}
 use native.Mathlib.Omega.{arith}
-use mathlib.Core.Bool.{Bool, true, false, not}
+use mathlib.Core.Bool.{Bool, true, false, not, true≢false}
 use mathlib.Core.List.{List, [], _∷_, _++_}
 use lib.ListN.{length}
-use lib.Dec.{T, ltb, leb·suc-zero, ltb→lt, lt→ltb}
+use lib.Dec.{T, leb, ltb, leb·suc-zero, leb→le, ltb→lt, lt→ltb}
+use borrow.Author.Tests.{le-leb}
 use Rattle.volume.specs.Bytes.{Bytes, same, if_then_else_}
-use Rattle.volume.specs.Lists.{all, any}
+use Rattle.volume.specs.Lists.{all, any, member}
 use Rattle.volume.proofs.Tests.{not-not-of, same-true}
 use Rattle.model.specs.Layout.{pageCount, validLength, validHeader}
 use Rattle.model.specs.Sound.{sound}
+use Rattle.model.specs.Judge.{badEntry, badChain, ownedTwice, markedFree, lostPage, badCount, Judged, fault, clean, judge, isClean}
 use Rattle.model.specs.Tree.{Tree, freeNumber}
 use Rattle.model.specs.Path.{pathOf}
 use Rattle.model.specs.Image.{treeOf}
-use Rattle.model.specs.Call.{Call, format, verdict, find, list, read, makeFile, makeDirectory, write, remove, Told, bufferBefore, Refusal, refusal, Answer, refused, granted}
+use Rattle.model.specs.Call.{Call, format, verdict, find, list, read, makeFile, makeDirectory, write, remove, bufferBefore, Refusal, refusal, refused, granted}
 use Rattle.model.specs.Refusal.{Line, wanted, makeLines, earlier, later, refusals, settle, Passes, tableOrder}
-use Rattle.model.specs.Meaning.{freshTree, told, filled, changed, treeAnswer, treeBuffer, treeAfter, isFormat, isBroken, brokenLine, lines, effect, answer, after, bufferAfter}
-use Rattle.model.specs.Demands.{Untouched, Unsound, AsTree}
+use Rattle.model.specs.Meaning.{freshTree, told, filled, changed, treeAnswer, treeBuffer, treeAfter, firstFault, soundLine, imageLines, isFormat, isBroken, brokenLine, lines, effect, answer, after, bufferAfter}
+use Rattle.model.specs.Demands.{Untouched, Unsound, byLength, byHeader, byFault, AsTree}
 use Rattle.laws.proofs.Facts.{sound-facts}
+use Rattle.laws.proofs.Judged.{judge-sound}
 use Rattle.laws.proofs.Broken.{never-broken}
 use Rattle.laws.proofs.Format.{fresh}
 use Rattle.laws.proofs.Grants.{granted-law}
-use Rattle.laws.proofs.Lines.{settle-skip, settle-append, settle-both, settle-refused, Numbered, refused-numbered, NoTen, ten-given, rankIn, rising, InOrder}
+use Rattle.laws.proofs.Lines.{settle-skip, settle-append, settle-both, settle-refused, Numbered, refused-numbered, NoTen, ten-given, rankIn, ranks, rising, InOrder}
 
 -- ---- on a sound image only the plain tree's lines count
 
@@ -41,32 +44,32 @@ module _ {A : Type 0} (b : Bytes) (h : T (sound b)) (f : Refusal → A) (x : A) 
   broken-skip (write path at v) = settle-skip f (isBroken b (pathOf path)) (refusal 15) [] x (never-broken b h (pathOf path))
   broken-skip (remove path) = settle-skip f (isBroken b (pathOf path)) (refusal 15) [] x (never-broken b h (pathOf path))
 
-  -- the lines after that of the length
-  abbrev rest : Call → List Line
-  rest c = if isFormat c then [] else ((not (validHeader b), refusal 2) ∷ (not (sound b), refusal 3) ∷ (refusals c (treeOf b) ++ brokenLine c b))
+  length-skip : (ls : List Line) → settle ((not (validLength (length b)), refusal 1) ∷ ls) f x ≡ settle ls f x
+  length-skip ls = settle-skip f (not (validLength (length b))) (refusal 1) ls x (not-not-of (validLength (length b)) (sound-facts b h .fits))
 
-  judged : (c : Call) → settle ((not (validHeader b), refusal 2) ∷ (not (sound b), refusal 3) ∷ (refusals c (treeOf b) ++ brokenLine c b)) f x ≡ settle (refusals c (treeOf b)) f x
+  pub image-skip : (ls : List Line) → settle (imageLines b ++ ls) f x ≡ settle ls f x
+  image-skip ls =
+      length-skip ((not (validHeader b), refusal 2) ∷ soundLine b ∷ ls)
+      ∙ settle-skip f (not (validHeader b)) (refusal 2) (soundLine b ∷ ls) x (not-not-of (validHeader b) (sound-facts b h .headed))
+      ∙ settle-skip f (not (sound b)) (firstFault (judge b)) ls x (not-not-of (sound b) h)
+
+  judged : (c : Call) → settle (imageLines b ++ (refusals c (treeOf b) ++ brokenLine c b)) f x ≡ settle (refusals c (treeOf b)) f x
   judged c =
-      settle-skip f (not (validHeader b)) (refusal 2) ((not (sound b), refusal 3) ∷ (refusals c (treeOf b) ++ brokenLine c b)) x (not-not-of (validHeader b) (sound-facts b h .headed))
-      ∙ settle-skip f (not (sound b)) (refusal 3) (refusals c (treeOf b) ++ brokenLine c b) x (not-not-of (sound b) h)
+      image-skip (refusals c (treeOf b) ++ brokenLine c b)
       ∙ settle-append f (refusals c (treeOf b)) (brokenLine c b) x
       ∙ ap (settle (refusals c (treeOf b)) f) (broken-skip c)
 
-  by-call : (c : Call) → settle (rest c) f x ≡ settle (refusals c (treeOf b)) f x
-  unfolding isFormat settle refusals earlier later wanted
-  by-call format = rw (leb·suc-zero (freeNumber (treeOf b)))
-  by-call verdict = judged verdict
-  by-call (find path) = judged (find path)
-  by-call (list path i) = judged (list path i)
-  by-call (read path at room) = judged (read path at room)
-  by-call (makeFile path date) = judged (makeFile path date)
-  by-call (makeDirectory path date) = judged (makeDirectory path date)
-  by-call (write path at v) = judged (write path at v)
-  by-call (remove path) = judged (remove path)
-
   pub settled : (c : Call) → settle (lines c b) f x ≡ settle (refusals c (treeOf b)) f x
-  unfolding lines
-  settled c = settle-skip f (not (validLength (length b))) (refusal 1) (rest c) x (not-not-of (validLength (length b)) (sound-facts b h .fits)) ∙ by-call c
+  unfolding lines isFormat settle refusals earlier later wanted
+  settled format = length-skip [] ∙ rw (leb·suc-zero (freeNumber (treeOf b)))
+  settled verdict = judged verdict
+  settled (find path) = judged (find path)
+  settled (list path i) = judged (list path i)
+  settled (read path at room) = judged (read path at room)
+  settled (makeFile path date) = judged (makeFile path date)
+  settled (makeDirectory path date) = judged (makeDirectory path date)
+  settled (write path at v) = judged (write path at v)
+  settled (remove path) = judged (remove path)
 
 -- ---- a call on a sound image
 
@@ -87,30 +90,64 @@ as-tree c b h =
 
 -- ---- a call on any image
 
+fault-numbered : (j : Judged) → member (firstFault j .number) tableOrder ≡ true
+unfolding any tableOrder
+fault-numbered (fault (badEntry d i)) = refl
+fault-numbered (fault (badChain d i passed)) = refl
+fault-numbered (fault (ownedTwice p)) = refl
+fault-numbered (fault (markedFree p)) = refl
+fault-numbered (fault (lostPage p)) = refl
+fault-numbered (fault badCount) = refl
+fault-numbered (clean marks) = refl
+
 numbered : (c : Call) (b : Bytes) → Numbered (lines c b)
 unfolding all any lines isFormat refusals earlier later makeLines brokenLine tableOrder
 numbered format b = tt
-numbered verdict b = tt
-numbered (find path) b = tt
-numbered (list path i) b = tt
-numbered (read path at room) b = tt
-numbered (makeFile path date) b = tt
-numbered (makeDirectory path date) b = tt
-numbered (write path at v) b = tt
-numbered (remove path) b = tt
+numbered verdict b = rw (fault-numbered (judge b)) tt
+numbered (find path) b = rw (fault-numbered (judge b)) tt
+numbered (list path i) b = rw (fault-numbered (judge b)) tt
+numbered (read path at room) b = rw (fault-numbered (judge b)) tt
+numbered (makeFile path date) b = rw (fault-numbered (judge b)) tt
+numbered (makeDirectory path date) b = rw (fault-numbered (judge b)) tt
+numbered (write path at v) b = rw (fault-numbered (judge b)) tt
+numbered (remove path) b = rw (fault-numbered (judge b)) tt
+
+-- what rises from a number rises from a lower one
+rising-from : (k m : ℕ) → k ≤ m → (r : List ℕ) → T (rising (m ∷ r)) → T (rising (k ∷ r))
+unfolding rising
+rising-from k m l [] h = tt
+rising-from k m l (x ∷ r) h = go (leb m x) refl h
+  where
+    go : (c : Bool) → leb m x ≡ c → T (if c then rising (x ∷ r) else false) → T (if leb k x then rising (x ∷ r) else false)
+    go true e h = rw (le-leb k x (omega (arith, l, leb→le m x (subst T (sym e) tt)))) h
+    go false e h = absurd h
+
+-- the faults stand where 3 does or above it, and below 2
+fault-rising : (b : Bytes) (ls : List Line) → T (rising (7 ∷ ranks ls)) → InOrder (imageLines b ++ ls)
+unfolding rising rankIn tableOrder
+fault-rising b ls h = go (judge b)
+  where
+    go : (j : Judged) → T (rising (0 ∷ 1 ∷ rankIn tableOrder (firstFault j .number) ∷ ranks ls))
+    go (fault (badEntry d i)) = rising-from 2 7 (omega arith) (ranks ls) h
+    go (fault (badChain d i passed)) = rising-from 3 7 (omega arith) (ranks ls) h
+    go (fault (ownedTwice p)) = rising-from 4 7 (omega arith) (ranks ls) h
+    go (fault (markedFree p)) = rising-from 5 7 (omega arith) (ranks ls) h
+    go (fault (lostPage p)) = rising-from 6 7 (omega arith) (ranks ls) h
+    go (fault badCount) = h
+    go (clean marks) = h
 
 -- each call's lines stand in the order of the table
 pub in-order : (c : Call) (b : Bytes) → InOrder (lines c b)
 unfolding lines isFormat refusals earlier later makeLines brokenLine tableOrder rankIn rising
 in-order format b = tt
-in-order verdict b = tt
-in-order (find path) b = tt
-in-order (list path i) b = tt
-in-order (read path at room) b = tt
-in-order (makeFile path date) b = tt
-in-order (makeDirectory path date) b = tt
-in-order (write path at v) b = tt
-in-order (remove path) b = tt
+in-order verdict b = fault-rising b (refusals verdict (treeOf b) ++ brokenLine verdict b) (tt {0})
+in-order (find path) b = fault-rising b (refusals (find path) (treeOf b) ++ brokenLine (find path) b) (tt {0})
+in-order (list path i) b = fault-rising b (refusals (list path i) (treeOf b) ++ brokenLine (list path i) b) (tt {0})
+in-order (read path at room) b = fault-rising b (refusals (read path at room) (treeOf b) ++ brokenLine (read path at room) b) (tt {0})
+in-order (makeFile path date) b = fault-rising b (refusals (makeFile path date) (treeOf b) ++ brokenLine (makeFile path date) b) (tt {0})
+in-order (makeDirectory path date) b = fault-rising b (refusals (makeDirectory path date) (treeOf b) ++ brokenLine (makeDirectory path date) b) (tt {0})
+in-order (write path at v) b = fault-rising b (refusals (write path at v) (treeOf b) ++ brokenLine (write path at v) b) (tt {0})
+in-order (remove path) b = fault-rising b (refusals (remove path) (treeOf b) ++ brokenLine (remove path) b) (tt {0})
 
 pub untouched : (c : Call) (b : Bytes) (f : Refusal) → answer c b ≡ refused f → Untouched c b f
 unfolding answer after bufferAfter
@@ -120,26 +157,29 @@ untouched c b f e = record {
   lent = settle-refused (lines c b) (told c (treeOf b)) f (λ r. bufferBefore c) (filled c (treeOf b)) e;
 }
 
--- an image that is not sound gets 1, 2 or 3 from every call but format
+-- an image that is not sound gets 1, 2 or its first fault from every call but format
 pub unsound : (c : Call) (b : Bytes) → T (not (isFormat c)) → T (not (sound b)) → Unsound c b
-unfolding answer lines settle
-unsound c b n u = go (isFormat c) (validLength (length b)) (validHeader b) (sound b) n u refl
+unfolding answer lines settle isClean
+unsound c b n u = go (isFormat c) (validLength (length b)) (validHeader b) (sound b) refl refl refl n u refl
   where
-    x : Answer (Told c)
-    x = granted (told c (treeOf b))
-
-    tail : List Line
-    tail = refusals c (treeOf b) ++ brokenLine c b
-
     lines-of : Bool → Bool → Bool → Bool → List Line
-    lines-of m l d s = (not l, refusal 1) ∷ (if m then [] else ((not d, refusal 2) ∷ (not s, refusal 3) ∷ (refusals c (treeOf b) ++ brokenLine c b)))
+    lines-of m l d s = (not l, refusal 1) ∷ (if m then [] else ((not d, refusal 2) ∷ (not s, firstFault (judge b)) ∷ (refusals c (treeOf b) ++ brokenLine c b)))
 
-    go : (m l d s : Bool) → T (not m) → T (not s) → answer c b ≡ settle (lines-of m l d s) refused (granted (told c (treeOf b))) → Unsound c b
-    go true l d s p q e = absurd p
-    go false false d s p q e = record { number = 1; low = omega arith; high = omega arith; told = e }
-    go false true false s p q e = record { number = 2; low = omega arith; high = omega arith; told = e }
-    go false true true true p q e = absurd q
-    go false true true false p q e = record { number = 3; low = omega arith; high = omega arith; told = e }
+    -- what is not sound is not judged clean
+    faulty : T (validLength (length b)) → T (validHeader b) → (j : Judged) → judge b ≡ j → isClean j ≡ false → answer c b ≡ refused (firstFault j) → Unsound c b
+    faulty v w (fault f) e k t = byFault v w f e t
+    faulty v w (clean marks) e k t = let bad : _≡_ {A = Bool} true false = k in absurd (true≢false bad)
+
+    go : (m l d s : Bool) → validLength (length b) ≡ l → validHeader b ≡ d → sound b ≡ s → T (not m) → T (not s)
+        → answer c b ≡ settle (lines-of m l d s) refused (granted (told c (treeOf b))) → Unsound c b
+    go true l d s v w h p q e = absurd p
+    go false false d s v w h p q e = byLength (rw v tt) e
+    go false true false s v w h p q e = byHeader (subst T (sym v) tt) (rw w tt) e
+    go false true true true v w h p q e = absurd q
+    go false true true false v w h p q e =
+        let l = subst T (sym v) tt in
+        let d = subst T (sym w) tt in
+        faulty l d (judge b) refl (judge-sound b l d ∙ h) e
 
 -- ---- refused for want of pages
 

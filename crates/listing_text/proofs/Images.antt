@@ -17,6 +17,7 @@ use Rattle.model.specs.Listing.{decimal, newline, treeLines, listingOf, listing
 use Rattle.laws.proofs.Facts.{sound-facts, valid-sized}
 use Rattle.laws.proofs.Counting.{owned-in}
 use Rattle.laws.proofs.Lines.{not-granted}
+use Rattle.model.specs.Demands.{Unsound, byLength, byHeader, byFault}
 use Rattle.laws.proofs.Lists.{account}
 use Rattle.laws.proofs.Steps.{unsound}
 use Rattle.listing_text.specs.Lines.{directoryLines, Readable}
@@ -30,9 +31,14 @@ module _ (b : Bytes) (v : Verdict) (given : granted v ≡ answer verdict b) wher
   unfolding isFormat
   granted-sound = go (sound b) refl
     where
+      faulty : Unsound verdict b → ⊥
+      faulty (byLength l e) = not-granted (given ∙ e)
+      faulty (byHeader l h e) = not-granted (given ∙ e)
+      faulty (byFault l h f j e) = not-granted (given ∙ e)
+
       go : (s : Bool) → sound b ≡ s → T (sound b)
       go true e = subst T (sym e) tt
-      go false e = absurd (not-granted (given ∙ unsound verdict b tt (subst (λ (s : Bool). T (not s)) (sym e) tt) .told))
+      go false e = absurd (faulty (unsound verdict b tt (subst (λ (s : Bool). T (not s)) (sym e) tt)))
 
   pub granted-pages : v .pages ≡ pageCount b
   unfolding treeOf

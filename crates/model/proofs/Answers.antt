@@ -1,10 +1,9 @@
 -- What calls answer: numbers and places of refusals and which goes first, what find, list and read tell, the bounds of names and dates.
 use mathlib.Core.Path.{refl}
-use Prim.Native.Nat.{ℕ}
 use mathlib.Core.List.{List, [], _∷_, _++_}
 use lib.ListN.{replicate, set, drop}
 use Rattle.volume.specs.Bytes.{part, put}
-use Rattle.model.specs.Call.{format, verdict, find, list, read, makeFile, makeDirectory, write, remove, isFile, isDirectory, empty, granted}
+use Rattle.model.specs.Call.{format, verdict, find, list, read, makeFile, makeDirectory, write, remove, isFile, isDirectory, empty, Refusal, refusal as number, refusalAt as numberAt, refused, granted}
 use Rattle.model.specs.Text.{text}
 use Rattle.model.proofs.Run.{computing, Step, Case, _gives_, reads, done, sized, answered, shown, Hold, computed, stated, hold}
 use Rattle.model.proofs.Table.{blank}
@@ -34,38 +33,43 @@ pub formats-hold : Hold formats
 unfolding computing computed stated formats desk
 formats-hold = hold formats refl
 
--- every call but format gives n, though its path, position and date are bad
-everyCall : ℕ → List Step
-everyCall n =
-    verdict gives refusal n
-    ∷ find (text "x") gives refusal n
-    ∷ list (text "x") 9 gives refusal n
-    ∷ read (text "x") 9 (1 ∷ 2 ∷ []) gives refusal n
-    ∷ makeFile (text "x") [] gives refusal n
-    ∷ makeDirectory (text "x") [] gives refusal n
-    ∷ write (text "x") 9 (1 ∷ []) gives refusal n
-    ∷ remove (text "x") gives refusal n
+-- every call but format is refused so, though its path, position and date are bad
+everyCall : Refusal → List Step
+everyCall r =
+    verdict gives refused r
+    ∷ find (text "x") gives refused r
+    ∷ list (text "x") 9 gives refused r
+    ∷ read (text "x") 9 (1 ∷ 2 ∷ []) gives refused r
+    ∷ makeFile (text "x") [] gives refused r
+    ∷ makeDirectory (text "x") [] gives refused r
+    ∷ write (text "x") 9 (1 ∷ []) gives refused r
+    ∷ remove (text "x") gives refused r
     ∷ []
 
 pub judgedFirst : List Case
 unfolding everyCall
 judgedFirst =
     -- a byte too many behind a sound image, and bytes that are wrong in all ways
-    shown (fresh ++ 0 ∷ []) (everyCall 1) whole (fresh ++ 0 ∷ [])
-    ∷ answered (replicate 2049 0xE5) (everyCall 1)
+    shown (fresh ++ 0 ∷ []) (everyCall (number 1)) whole (fresh ++ 0 ∷ [])
+    ∷ answered (replicate 2049 0xE5) (everyCall (number 1))
     -- byte 0, 1 or 2 wrong, also where the image is not sound
-    ∷ shown (set fresh 0 0x5B) (everyCall 2) whole (set fresh 0 0x5B)
-    ∷ answered (set fresh 1 2) (everyCall 2)
-    ∷ answered (set fresh 2 2) (everyCall 2)
-    ∷ answered blank (everyCall 2)
-    -- not sound
-    ∷ shown (set fresh 3 6) (everyCall 3) whole (set fresh 3 6)
+    ∷ shown (set fresh 0 0x5B) (everyCall (number 2)) whole (set fresh 0 0x5B)
+    ∷ answered (set fresh 1 2) (everyCall (number 2))
+    ∷ answered (set fresh 2 2) (everyCall (number 2))
+    ∷ answered blank (everyCall (number 2))
+    -- not sound: the first fault, by number and place (paper 02 §2)
+    ∷ shown (set desk 545 0x7F) (everyCall (record { number = 16; place = (2, 1, 0) })) whole (set desk 545 0x7F)
+    ∷ shown (set desk 1280 6) (everyCall (record { number = 17; place = (0, 0, 2) })) whole (set desk 1280 6)
+    ∷ shown (set desk 561 3) (everyCall (numberAt 18 3)) whole (set desk 561 3)
+    ∷ answered (put 3 (3 ∷ 0b110111 ∷ []) desk) (everyCall (numberAt 20 3))
+    ∷ answered (put 3 (1 ∷ 0b1111111 ∷ []) desk) (everyCall (numberAt 19 6))
+    ∷ shown (set fresh 3 6) (everyCall (number 3)) whole (set fresh 3 6)
     -- sound: only then the path is looked at
-    ∷ shown fresh (verdict gives sized 8 7 ∷ drop 1 (everyCall 4)) whole fresh
+    ∷ shown fresh (verdict gives sized 8 7 ∷ drop 1 (everyCall (number 4))) whole fresh
     ∷ []
 
 pub judgedFirst-hold : Hold judgedFirst
-unfolding computing computed stated judgedFirst everyCall fresh
+unfolding computing computed stated judgedFirst everyCall fresh desk
 judgedFirst-hold = hold judgedFirst refl
 
 -- ---- paths and walks, on the desk

@@ -94,6 +94,7 @@ listings =
     ∷ shown (replicate 65537 0) [] listing (text "refused 1\n")
     ∷ shown (replicate 2048 0) [] listing (text "refused 2\n")
     ∷ shown (set desk 3 3) [] listing (text "refused 3\n")
+    ∷ shown (set desk 1280 6) [] listing (text "refused 17\n")
     ∷ []
 
 pub listings-hold : Hold listings

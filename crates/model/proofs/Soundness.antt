@@ -1,4 +1,5 @@
--- The facts of a sound image one by one: an image that lacks just that fact, and what the judge finds first in it. And what does not count.
+-- The facts of a sound image one by one: an image that lacks just that fact, and the fault that is told of it, by number and place. Which of two
+-- faults is told. And what does not count.
 use mathlib.Core.Path.{refl}
 use Prim.Native.Nat.{ℕ}
 use mathlib.Core.Bool.{true, false}
@@ -9,19 +10,15 @@ use Rattle.volume.specs.Lists.{upTo}
 use Rattle.volume.specs.Geometry as On
 use Rattle.model.specs.Layout.{version1}
 use Rattle.model.specs.Sound.{sound, ownedPages, owners}
-use Rattle.model.specs.Call.{verdict, find, list, makeFile, makeDirectory, write, remove, isFile, isDirectory, empty, granted}
+use Rattle.model.specs.Call.{verdict, find, list, makeFile, makeDirectory, write, remove, isFile, isDirectory, empty, refused, granted}
 use Rattle.model.specs.Text.{text}
-use Rattle.model.specs.Judge.{Fault, badEntry, badChain, ownedTwice, markedFree, lostPage, badCount, fault, clean, thenJudge, judgePage, judgeChain, freshName, judgeEntry, judgeEntries, judgeDirectory, lostOr, judgeRest, judge, isClean}
-use Rattle.model.proofs.Run.{computing, Case, _gives_, done, sized, shown, Hold, computed, stated, hold}
-use Rattle.model.proofs.Desk.{day1, refusal, found, entry, whole, header, stored, fresh, one, two, desk, shelf}
+use Rattle.model.specs.Judge.{clean, judge, isClean}
+use Rattle.model.proofs.Run.{computing, Case, _gives_, done, sized, answered, shown, Hold, computed, stated, hold}
+use Rattle.model.proofs.Desk.{day1, found, entry, whole, header, stored, fresh, one, two, desk, shelf}
 
-unfoldable pub judging : Unit {0}
-unfolding thenJudge judgePage judgeChain freshName judgeEntry judgeEntries judgeDirectory lostOr judgeRest judge isClean
-judging = tt
-
--- refused by 3, and this is the first fault
-abbrev unsound : Bytes → Fault → Case
-unsound b f = shown b (verdict gives refusal 3 ∷ []) judge (fault f)
+-- refused by this number, with the three numbers of its place (paper 02 §2)
+abbrev unsound : Bytes → (number x y z : ℕ) → Case
+unsound b n x y z = answered b (verdict gives refused (record { number = n; place = (x, y, z) }) ∷ [])
 
 -- sound, with so many free pages; the judge marks these pages of 8
 abbrev clear : Bytes → ℕ → List ℕ → Case
@@ -53,90 +50,116 @@ facts =
     ∷ shown (set one 1 2) [] sound false
     ∷ shown (set one 2 2) [] sound false
     -- bit 0 of the bitmap, with the count that then is right; byte 3 off by one
-    ∷ unsound (put 3 (7 ∷ 0b10 ∷ []) one) badCount
-    ∷ unsound (set one 3 5) badCount
-    ∷ unsound (set one 3 7) badCount
+    ∷ unsound (put 3 (7 ∷ 0b10 ∷ []) one) 3 0 0 0
+    ∷ unsound (set one 3 5) 3 0 0 0
+    ∷ unsound (set one 3 7) 3 0 0 0
     -- legal names: the bytes 1F, 20, 2F, 7E and 7F, first and later
-    ∷ unsound (set one 65 0x1F) (badEntry 0 0)
+    ∷ unsound (set one 65 0x1F) 16 0 0 0
     ∷ clear (set one 65 0x20) 6 (1 ∷ [])
-    ∷ unsound (set one 65 0x2F) (badEntry 0 0)
+    ∷ unsound (set one 65 0x2F) 16 0 0 0
     ∷ clear (set one 65 0x7E) 6 (1 ∷ [])
-    ∷ unsound (set one 65 0x7F) (badEntry 0 0)
-    ∷ unsound (set one 66 0x1F) (badEntry 0 0)
+    ∷ unsound (set one 65 0x7F) 16 0 0 0
+    ∷ unsound (set one 66 0x1F) 16 0 0 0
     ∷ clear (set one 66 0x20) 6 (1 ∷ [])
-    ∷ unsound (set one 66 0x2F) (badEntry 0 0)
+    ∷ unsound (set one 66 0x2F) 16 0 0 0
     ∷ clear (set one 66 0x7E) 6 (1 ∷ [])
-    ∷ unsound (set one 66 0x7F) (badEntry 0 0)
+    ∷ unsound (set one 66 0x7F) 16 0 0 0
     -- no byte at all, a byte behind the padding, and 16 bytes without padding
-    ∷ unsound (set one 65 0) (badEntry 0 0)
-    ∷ unsound (set one 67 0x41) (badEntry 0 0)
-    ∷ unsound (set one 80 0x41) (badEntry 0 0)
+    ∷ unsound (set one 65 0) 16 0 0 0
+    ∷ unsound (set one 67 0x41) 16 0 0 0
+    ∷ unsound (set one 80 0x41) 16 0 0 0
     ∷ clear (put 65 (replicate 16 0x41) one) 6 (1 ∷ [])
-    ∷ unsound (set box 65 0x7F) (badEntry 0 0)
-    ∷ unsound (set desk 513 0x7F) (badEntry 2 0)
-    ∷ unsound (set desk 545 0x7F) (badEntry 2 1)
+    ∷ unsound (set box 65 0x7F) 16 0 0 0
+    ∷ unsound (set desk 513 0x7F) 16 2 0 0
+    ∷ unsound (set desk 545 0x7F) 16 2 1 0
     -- equal names in one directory, told at the later entry; in two directories they are apart
-    ∷ unsound (set two 97 0x41) (badEntry 0 1)
-    ∷ unsound (set desk 545 0x37) (badEntry 2 1)
-    ∷ unsound (put 3 (5 ∷ 0b111 ∷ []) (put 96 (stored 0x80 (text "A" ++ replicate 15 0) 2 0x00 0x00 day1) (set box 512 0))) (badEntry 0 1)
+    ∷ unsound (set two 97 0x41) 16 0 1 0
+    ∷ unsound (set desk 545 0x37) 16 2 1 0
+    ∷ unsound (put 3 (5 ∷ 0b111 ∷ []) (put 96 (stored 0x80 (text "A" ++ replicate 15 0) 2 0x00 0x00 day1) (set box 512 0))) 16 0 1 0
     ∷ clear (set desk 513 0x41) 2 (4 ∷ 3 ∷ 2 ∷ 5 ∷ 1 ∷ [])
     -- a directory's size
-    ∷ unsound (set box 82 0x01) (badEntry 0 0)
-    ∷ unsound (set box 83 0x00) (badEntry 0 0)
-    ∷ unsound (set box 83 0x02) (badEntry 0 0)
-    ∷ unsound (set desk 563 0x00) (badEntry 2 1)
+    ∷ unsound (set box 82 0x01) 16 0 0 0
+    ∷ unsound (set box 83 0x00) 16 0 0 0
+    ∷ unsound (set box 83 0x02) 16 0 0 0
+    ∷ unsound (set desk 563 0x00) 16 2 1 0
     -- the last page's link is not 0; it may lead back, to a free page, or out of the image
-    ∷ unsound (set one 256 1) (badChain 0 0 1)
-    ∷ unsound (set one 256 5) (badChain 0 0 1)
-    ∷ unsound (set one 256 8) (badChain 0 0 1)
-    ∷ unsound (set two 512 1) (badChain 0 1 1)
-    ∷ unsound (set shelf 1024 7) (badChain 0 1 3)
+    ∷ unsound (set one 256 1) 17 0 0 1
+    ∷ unsound (set one 256 5) 17 0 0 1
+    ∷ unsound (set one 256 8) 17 0 0 1
+    ∷ unsound (set two 512 1) 17 0 1 1
+    ∷ unsound (set shelf 1024 7) 17 0 1 3
     -- an empty file's page does not begin with 0
-    ∷ unsound (set note 256 1) (badChain 0 0 1)
-    ∷ unsound (set note 256 5) (badChain 0 0 1)
-    ∷ unsound (set note 256 0xE5) (badChain 0 0 1)
-    ∷ unsound (set desk 768 6) (badChain 2 0 1)
+    ∷ unsound (set note 256 1) 17 0 0 1
+    ∷ unsound (set note 256 5) 17 0 0 1
+    ∷ unsound (set note 256 0xE5) 17 0 0 1
+    ∷ unsound (set desk 768 6) 17 2 0 1
     -- an empty file with start page 0, and one whose start page is out of range
-    ∷ unsound (put 3 (7 ∷ 0b1 ∷ []) (set note 81 0)) (badChain 0 0 0)
-    ∷ unsound (put 3 (3 ∷ 0b110111 ∷ []) (set desk 529 0)) (badChain 2 0 0)
-    ∷ unsound (put 3 (7 ∷ 0b1 ∷ []) (set note 81 8)) (badChain 0 0 0)
+    ∷ unsound (put 3 (7 ∷ 0b1 ∷ []) (set note 81 0)) 17 0 0 0
+    ∷ unsound (put 3 (3 ∷ 0b110111 ∷ []) (set desk 529 0)) 17 2 0 0
+    ∷ unsound (put 3 (7 ∷ 0b1 ∷ []) (set note 81 8)) 17 0 0 0
     -- a page out of range: of a file, of a directory, and after the first
-    ∷ unsound (put 3 (7 ∷ 0b1 ∷ []) (set one 81 8)) (badChain 0 0 0)
-    ∷ unsound (put 3 (7 ∷ 0b1 ∷ []) (set one 81 255)) (badChain 0 0 0)
-    ∷ unsound (put 3 (7 ∷ 0b1 ∷ []) (set one 81 0)) (badChain 0 0 0)
-    ∷ unsound (put 3 (7 ∷ 0b1 ∷ []) (set box 81 8)) (badChain 0 0 0)
-    ∷ unsound (put 3 (7 ∷ 0b1 ∷ []) (set box 81 0)) (badChain 0 0 0)
-    ∷ unsound (put 3 (6 ∷ 0b11 ∷ []) (put 82 (0x00 ∷ 0x01 ∷ []) (set one 256 8))) (badChain 0 0 1)
+    ∷ unsound (put 3 (7 ∷ 0b1 ∷ []) (set one 81 8)) 17 0 0 0
+    ∷ unsound (put 3 (7 ∷ 0b1 ∷ []) (set one 81 255)) 17 0 0 0
+    ∷ unsound (put 3 (7 ∷ 0b1 ∷ []) (set one 81 0)) 17 0 0 0
+    ∷ unsound (put 3 (7 ∷ 0b1 ∷ []) (set box 81 8)) 17 0 0 0
+    ∷ unsound (put 3 (7 ∷ 0b1 ∷ []) (set box 81 0)) 17 0 0 0
+    ∷ unsound (put 3 (6 ∷ 0b11 ∷ []) (put 82 (0x00 ∷ 0x01 ∷ []) (set one 256 8))) 17 0 0 1
     -- the chain ends early
-    ∷ unsound (put 82 (0x00 ∷ 0x01 ∷ []) one) (badChain 0 0 1)
-    ∷ unsound (put 82 (0xFD ∷ 0x02 ∷ []) (set (set two 96 0) 256 2)) (badChain 0 0 2)
+    ∷ unsound (put 82 (0x00 ∷ 0x01 ∷ []) one) 17 0 0 1
+    ∷ unsound (put 82 (0xFD ∷ 0x02 ∷ []) (set (set two 96 0) 256 2)) 17 0 0 2
     -- a page owned twice, by two files, a file and a directory, two directories; nothing is lost
-    ∷ unsound (put 3 (6 ∷ 0b11 ∷ []) (set two 113 1)) (ownedTwice 1)
-    ∷ unsound (put 128 (stored 0x80 (text "C" ++ replicate 15 0) 2 0xFF 0x00 day1) two) (ownedTwice 2)
-    ∷ unsound (put 96 (stored 0x80 (text "B" ++ replicate 15 0) 1 0xFF 0x00 day1) box) (ownedTwice 1)
-    ∷ unsound (put 96 (stored 0x81 (text "B" ++ replicate 15 0) 1 0x00 0x01 day1) box) (ownedTwice 1)
+    ∷ unsound (put 3 (6 ∷ 0b11 ∷ []) (set two 113 1)) 18 1 0 0
+    ∷ unsound (put 128 (stored 0x80 (text "C" ++ replicate 15 0) 2 0xFF 0x00 day1) two) 18 2 0 0
+    ∷ unsound (put 96 (stored 0x80 (text "B" ++ replicate 15 0) 1 0xFF 0x00 day1) box) 18 1 0 0
+    ∷ unsound (put 96 (stored 0x81 (text "B" ++ replicate 15 0) 1 0x00 0x01 day1) box) 18 1 0 0
     -- the page of an empty file owned twice: by two empty files, by an empty file and a longer one, by an empty file and a directory
-    ∷ unsound (put 96 (stored 0x80 (text "B" ++ replicate 15 0) 1 0x00 0x00 day1) note) (ownedTwice 1)
-    ∷ unsound (put 96 (stored 0x80 (text "B" ++ replicate 15 0) 1 0x00 0x00 day1) one) (ownedTwice 1)
-    ∷ unsound (put 96 (stored 0x80 (text "B" ++ replicate 15 0) 1 0xFF 0x00 day1) note) (ownedTwice 1)
-    ∷ unsound (put 96 (stored 0x80 (text "B" ++ replicate 15 0) 1 0x00 0x00 day1) box) (ownedTwice 1)
+    ∷ unsound (put 96 (stored 0x80 (text "B" ++ replicate 15 0) 1 0x00 0x00 day1) note) 18 1 0 0
+    ∷ unsound (put 96 (stored 0x80 (text "B" ++ replicate 15 0) 1 0x00 0x00 day1) one) 18 1 0 0
+    ∷ unsound (put 96 (stored 0x80 (text "B" ++ replicate 15 0) 1 0xFF 0x00 day1) note) 18 1 0 0
+    ∷ unsound (put 96 (stored 0x80 (text "B" ++ replicate 15 0) 1 0x00 0x00 day1) box) 18 1 0 0
     -- a chain that returns to itself
-    ∷ unsound (put 82 (0xFE ∷ 0x01 ∷ []) (set one 256 1)) (ownedTwice 1)
-    ∷ unsound (put 82 (0xFD ∷ 0x02 ∷ []) (set (set (set two 96 0) 256 2) 512 1)) (ownedTwice 1)
+    ∷ unsound (put 82 (0xFE ∷ 0x01 ∷ []) (set one 256 1)) 18 1 0 0
+    ∷ unsound (put 82 (0xFD ∷ 0x02 ∷ []) (set (set (set two 96 0) 256 2) 512 1)) 18 1 0 0
     -- a directory that holds itself, and one that holds what it stands in
-    ∷ unsound (put 256 (stored 0x81 (text "A" ++ replicate 15 0) 1 0x00 0x01 day1) box) (ownedTwice 1)
-    ∷ unsound (put 1024 (stored 0x81 (text "A" ++ replicate 15 0) 2 0x00 0x01 day1) desk) (ownedTwice 2)
+    ∷ unsound (put 256 (stored 0x81 (text "A" ++ replicate 15 0) 1 0x00 0x01 day1) box) 18 1 0 0
+    ∷ unsound (put 1024 (stored 0x81 (text "A" ++ replicate 15 0) 2 0x00 0x01 day1) desk) 18 2 0 0
     -- a page that is owned and marked free, of a file, of an empty one and of a directory
-    ∷ unsound (put 3 (7 ∷ 0b1 ∷ []) one) (markedFree 1)
-    ∷ unsound (put 3 (7 ∷ 0b1 ∷ []) note) (markedFree 1)
-    ∷ unsound (put 3 (7 ∷ 0b1 ∷ []) box) (markedFree 1)
-    ∷ unsound (put 3 (3 ∷ 0b110111 ∷ []) desk) (markedFree 3)
-    ∷ unsound (put 3 (3 ∷ 0b101111 ∷ []) desk) (markedFree 4)
+    ∷ unsound (put 3 (7 ∷ 0b1 ∷ []) one) 20 1 0 0
+    ∷ unsound (put 3 (7 ∷ 0b1 ∷ []) note) 20 1 0 0
+    ∷ unsound (put 3 (7 ∷ 0b1 ∷ []) box) 20 1 0 0
+    ∷ unsound (put 3 (3 ∷ 0b110111 ∷ []) desk) 20 3 0 0
+    ∷ unsound (put 3 (3 ∷ 0b101111 ∷ []) desk) 20 4 0 0
     -- a page that is marked and nobody owns; the lowest is told
-    ∷ unsound (put 3 (6 ∷ 0b11 ∷ []) fresh) (lostPage 1)
-    ∷ unsound (put 3 (5 ∷ 0b100011 ∷ []) one) (lostPage 5)
-    ∷ unsound (put 3 (5 ∷ 0b10000011 ∷ []) one) (lostPage 7)
-    ∷ unsound (put 3 (4 ∷ 0b1010011 ∷ []) one) (lostPage 4)
+    ∷ unsound (put 3 (6 ∷ 0b11 ∷ []) fresh) 19 1 0 0
+    ∷ unsound (put 3 (5 ∷ 0b100011 ∷ []) one) 19 5 0 0
+    ∷ unsound (put 3 (5 ∷ 0b10000011 ∷ []) one) 19 7 0 0
+    ∷ unsound (put 3 (4 ∷ 0b1010011 ∷ []) one) 19 4 0 0
+    ∷ []
+
+-- Two faults in one image: the first in the order of paper 02 §2 is told.
+pub order : List Case
+order =
+    -- of an entry: its name, then a directory's size, then its pages, then a directory's contents
+    unsound (set (set one 65 0x7F) 81 8) 16 0 0 0
+    ∷ unsound (set (set two 97 0x41) 113 8) 16 0 1 0
+    ∷ unsound (set (set box 83 0x02) 81 8) 16 0 0 0
+    ∷ unsound (put 3 (3 ∷ 0b111011 ∷ []) (set desk 513 0x7F)) 20 2 0 0
+    -- entries in order, each with all of its pages
+    ∷ unsound (set (set two 256 5) 97 0x7F) 17 0 0 1
+    ∷ unsound (set (set two 97 0x7F) 512 5) 16 0 1 0
+    -- depth first: what a directory holds, then the entry after it
+    ∷ unsound (put 128 (stored 0x80 (0x7F ∷ replicate 15 0) 6 0x00 0x00 day1) (set desk 545 0x7F)) 16 2 1 0
+    -- of a chain: one page after the other, and behind the last its link
+    ∷ unsound (put 3 (7 ∷ 0b1 ∷ []) (put 82 (0x00 ∷ 0x01 ∷ []) (set one 256 8))) 20 1 0 0
+    ∷ unsound (put 3 (7 ∷ 0b1 ∷ []) (set one 256 5)) 20 1 0 0
+    -- the walk before lost pages, and before the count
+    ∷ unsound (put 3 (5 ∷ 0b100011 ∷ []) (set one 256 5)) 17 0 0 1
+    ∷ unsound (put 3 (6 ∷ 0b101 ∷ []) one) 20 1 0 0
+    ∷ unsound (set (set one 65 0x7F) 3 9) 16 0 0 0
+    -- lost pages before bit 0, and before the count
+    ∷ unsound (put 3 (5 ∷ 0b110 ∷ []) one) 19 2 0 0
+    ∷ unsound (put 3 (5 ∷ 0b100010 ∷ []) one) 19 5 0 0
+    ∷ unsound (put 3 (9 ∷ 0b100011 ∷ []) one) 19 5 0 0
     ∷ []
 
 -- Other flags, reserved bytes, bitmap bytes past the first N/8, stored dates and empty entries may hold anything, and are kept.
@@ -176,17 +199,21 @@ owning =
     ∷ []
 
 pub sounds-hold : Hold sounds
-unfolding computing judging computed stated sounds fresh note one two box desk shelf
+unfolding computing computed stated sounds fresh note one two box desk shelf
 sounds-hold = hold sounds refl
 
 pub facts-hold : Hold facts
-unfolding computing judging computed stated facts fresh note one two box desk shelf
+unfolding computing computed stated facts fresh note one two box desk shelf
 facts-hold = hold facts refl
 
+pub order-hold : Hold order
+unfolding computing computed stated order one two box desk
+order-hold = hold order refl
+
 pub kept-hold : Hold kept
-unfolding computing judging computed stated kept loose one box note
+unfolding computing computed stated kept loose one box note
 kept-hold = hold kept refl
 
 pub owning-hold : Hold owning
-unfolding computing judging computed stated owning one two desk
+unfolding computing computed stated owning one two desk
 owning-hold = hold owning refl

@@ -61,7 +61,7 @@ bufferBefore (remove path) = []
 -- ---- answers
 
 -- Number and place of a refusal. The place is up to three numbers, 0 where there is nothing to point at: for 5 and 6 the byte of the path
--- at which the name begins that isn't there, or that is a file's.
+-- at which the name begins that isn't there, or that is a file's; for 16 to 20 where the image is unsound (paper 02 §2).
 pub record Refusal : Type 0 where
   pub number : ℕ
   pub place : ℕ × ℕ × ℕ
@@ -69,7 +69,7 @@ pub record Refusal : Type 0 where
 abbrev pub refusal : ℕ → Refusal
 refusal n = record { number = n; place = (0, 0, 0) }
 
-abbrev pub refusalAt : (number byte : ℕ) → Refusal
+abbrev pub refusalAt : (number first : ℕ) → Refusal
 refusalAt n i = record { number = n; place = (i, 0, 0) }
 
 pub data Answer (A : Type 0) : Type 0 where

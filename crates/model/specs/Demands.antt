@@ -8,13 +8,14 @@ use lib.ListN.{length}
 use lib.Dec.{T}
 use Rattle.volume.specs.Bytes.{Bytes, same}
 use Rattle.volume.specs.Lists.{member}
-use Rattle.model.specs.Layout.{pageCount, validLength, freeCount, pageBit, zeroBits}
+use Rattle.model.specs.Layout.{pageCount, validLength, validHeader, freeCount, pageBit, zeroBits}
 use Rattle.model.specs.Sound.{sound, owners}
+use Rattle.model.specs.Judge.{Fault, fault, judge, isClean}
 use Rattle.model.specs.Tree.{Tree, needs, freeNumber}
 use Rattle.model.specs.Image.{treeOf}
 use Rattle.model.specs.Call.{Call, format, verdict, Told, bufferBefore, Refusal, refusal, Answer, refused, granted}
 use Rattle.model.specs.Refusal.{earlier, wanted, Passes, tableOrder}
-use Rattle.model.specs.Meaning.{freshTree, treeAnswer, treeBuffer, treeAfter, isFormat, answer, after, bufferAfter}
+use Rattle.model.specs.Meaning.{freshTree, treeAnswer, treeBuffer, treeAfter, faultTold, isFormat, answer, after, bufferAfter}
 
 -- ---- Demand 1: any input, an answer; a refusal has a number of the table and changes nothing.
 -- (That there is always an answer is the type of `answer`, which has no condition.)
@@ -30,12 +31,12 @@ Demand1 = (c : Call) (b : Bytes) (f : Refusal) → answer c b ≡ refused f → 
 -- ---- Demand 2: bytes mean a tree; an image that is not sound is refused; on a sound one each call answers, and changes tree and bytes, as the
 -- plain tree does; names differ when any byte differs.
 
--- numbers 1 to 3, by any call but format
-pub record Unsound (c : Call) (b : Bytes) : Type 0 where
-  pub number : ℕ
-  pub low : 1 ≤ number
-  pub high : number ≤ 3
-  pub told : answer c b ≡ refused (refusal number)
+-- by any call but format: with 1, with 2, or with the first fault by its number and place
+pub data Unsound (c : Call) (b : Bytes) : Type 0 where
+  byLength : T (not (validLength (length b))) → answer c b ≡ refused (refusal 1) → Unsound c b
+  byHeader : T (validLength (length b)) → T (not (validHeader b)) → answer c b ≡ refused (refusal 2) → Unsound c b
+  byFault : T (validLength (length b)) → T (validHeader b)
+      → (f : Fault) → judge b ≡ fault f → answer c b ≡ refused (faultTold f) → Unsound c b
 
 pub record AsTree (c : Call) (b : Bytes) : Type 0 where
   pub answered : answer c b ≡ treeAnswer c (treeOf b)
@@ -44,6 +45,8 @@ pub record AsTree (c : Call) (b : Bytes) : Type 0 where
   pub means : treeOf (after c b) ≡ treeAfter c (treeOf b)
 
 pub record Demand2 : Type 0 where
+  -- no fault is told exactly if the image is sound (paper 02 §2)
+  pub faultless : (b : Bytes) → T (validLength (length b)) → T (validHeader b) → isClean (judge b) ≡ sound b
   pub unsound : (c : Call) (b : Bytes) → T (not (isFormat c)) → T (not (sound b)) → Unsound c b
   pub asTree : (c : Call) (b : Bytes) → T (sound b) → AsTree c b
   pub fresh : (b : Bytes) → T (validLength (length b)) → T (sound (after format b)) × (treeOf (after format b) ≡ freshTree (pageCount b))

@@ -1,6 +1,6 @@
--- Soundness as a walk that stops at the first fault: depth first, entries in order, with a mark for each page, 1 once it has an owner; then the
--- lost pages, then bit 0 and the count. The order and the places are those that request §2 asks for; the base answers 3 for every fault.
--- Law `judge-sound`: an image of right length and header is judged clean exactly if it is sound.
+-- Paper 02 §2: what is unsound, and where. The walk is depth first, entries in order, with an owner mark for each page (not the bitmap's), 1
+-- once an earlier step owned it, and it stops at the first fault; then come the lost pages, and last bit 0 and the count. `Meaning` gives each
+-- fault its number. Law `judge-sound`: an image of right length and header is judged clean exactly if it is sound.
 use Prim.Native.Nat.{ℕ, zero, suc, _-_}
 use mathlib.Core.Bool.{Bool, true, false, not, _&&_}
 use mathlib.Core.Option.{Option, none, some}
@@ -14,12 +14,19 @@ use Rattle.model.specs.Name.{legalName}
 use Rattle.model.specs.Entry.{entries, Entry, vacant, aFile, aDirectory, entryAt}
 use Rattle.model.specs.Sound.{isNamed, inRange}
 
+-- An entry is told by the page of the directory that holds it, 0 for the root, and its number there, counted from 0.
 pub data Fault : Type 0 where
+  -- the name is not legal or is that of an earlier entry, or a directory's size is not 0x0100
   badEntry : (directory entry : ℕ) → Fault
+  -- a page is out of range, or the chain does not end where the size says; so many of its pages passed before
   badChain : (directory entry passed : ℕ) → Fault
+  -- an earlier step owned the page
   ownedTwice : (page : ℕ) → Fault
+  -- the page is owned and its bitmap bit is 0
   markedFree : (page : ℕ) → Fault
+  -- nobody owns the page and its bitmap bit is 1
   lostPage : (page : ℕ) → Fault
+  -- bit 0 is not 1, or byte 3 is not the number of zero bits
   badCount : Fault
 
 -- the owner marks so far, or the first fault
@@ -38,7 +45,7 @@ judgePage b range p marks =
     then (if eqb (getD marks p 0) 0 then (if eqb (pageBit b p) 1 then clean (set marks p 1) else fault (markedFree p)) else fault (ownedTwice p))
     else fault range
 
--- k pages from p on, of entry i of the directory on page d, of which some have passed; then the link is 0
+-- k pages from p on, of entry i of the directory on page d, of which some have passed; the last of them then begins with 0
 unfoldable pub judgeChain : Bytes → (d i k passed p : ℕ) → List ℕ → Judged
 judgeChain b d i zero passed p marks = if eqb p 0 then clean marks else fault (badChain d i passed)
 judgeChain b d i (suc k) passed p marks = thenJudge (judgePage b (badChain d i passed) p marks) (judgeChain b d i k (suc passed) (link b p))
@@ -47,7 +54,8 @@ judgeChain b d i (suc k) passed p marks = thenJudge (judgePage b (badChain d i p
 unfoldable pub freshName : Bytes → (earlier : List ℕ) → Bytes → Bool
 freshName b earlier name = legalName name && all (λ at. not (isNamed name (entryAt b at))) earlier
 
--- entry i of the directory on page d, after the earlier ones; `below` judges the directory on a page
+-- Entry i of the directory on page d, after the earlier ones: its name, then equality with an earlier entry, then a directory's size, then its
+-- pages in chain order, then a directory's contents. `below` judges the directory on a page.
 unfoldable pub judgeEntry : (ℕ → List ℕ → Judged) → Bytes → (d i : ℕ) (earlier : List ℕ) → Entry → List ℕ → Judged
 judgeEntry below b d i earlier vacant marks = clean marks
 judgeEntry below b d i earlier (aFile name date start size) marks =
@@ -62,6 +70,8 @@ judgeEntries below b d i earlier [] marks = clean marks
 judgeEntries below b d i earlier (at ∷ ats) marks =
     thenJudge (judgeEntry below b d i earlier (entryAt b at) marks) (judgeEntries below b d (suc i) (at ∷ earlier) ats)
 
+-- Every directory has a page of its own, so depth N is enough: any greater depth tells the same (law `judge-depth`), and the first line
+-- decides nothing.
 unfoldable pub judgeDirectory : (depth : ℕ) → Bytes → (page : ℕ) → List ℕ → Judged
 judgeDirectory zero b p marks = fault badCount
 judgeDirectory (suc depth) b p marks = judgeEntries (judgeDirectory depth b) b p 0 [] (entries p) marks

@@ -1,5 +1,5 @@
--- The specification: what a reader must believe, in the order of document 01. It rests on the crate `volume`, which says how pages are
--- taken, linked and given back in any image; `Layout` says where version 1 keeps them.
+-- The specification: what a reader must believe, in the order of document 01, with the requests of paper 02 that are named where they count.
+-- It rests on the crate `volume`, which says how pages are taken, linked and given back in any image; `Layout` says where version 1 keeps them.
 --
 -- Words. The paper's word stands left where ours is another one.
 --   record            file: an entry with a name, a date and a byte string
@@ -8,6 +8,7 @@
 --   link              the first byte of a file's page: the number of the page that follows, 0 for none
 --   chain             the pages of a file, from the start page on by their links
 --   mark              a page's bit in the bitmap, 1 if it is allocated
+--   owner mark        the judge's, one a page: 1 once an earlier step owned it
 --   N                 pageCount: the number of pages of an image
 --   k                 pagesFor: the number of pages of a file of some size
 --   plain tree        Tree: N and the root's row
@@ -20,6 +21,7 @@ pub mod Name
 pub mod Date
 pub mod Entry
 pub mod Sound
+pub mod Judge
 pub mod Tree
 pub mod Path
 pub mod Image
@@ -31,5 +33,3 @@ pub mod Meaning
 pub mod Demands
 pub mod Text
 pub mod Listing
--- Not to be believed: soundness as the code tests it. The laws say that it is the same.
-pub mod Judge

@@ -1,5 +1,5 @@
--- Document 01, "The plain tree" and "The numbers that say no": what each call answers and does, on the plain tree and on the bytes of any
--- image. A public call's contract cites `answer`, `after` and `bufferAfter`.
+-- Document 01, "The plain tree" and "The numbers that say no", and paper 02 §2: what each call answers and does, on the plain tree and on the
+-- bytes of any image. A public call's contract cites `answer`, `after` and `bufferAfter`.
 use Prim.Native.Nat.{ℕ, zero, suc}
 use mathlib.Core.Bool.{Bool, true, false, not}
 use mathlib.Core.List.{List, [], _∷_, _++_}
@@ -8,12 +8,13 @@ use Rattle.volume.specs.Bytes.{Bytes, put, if_then_else_}
 use Rattle.volume.specs.Lists.{all}
 use Rattle.model.specs.Layout.{pageSize, pageCount, validLength, validHeader}
 use Rattle.model.specs.Sound.{pagesAt, inRange, sound}
+use Rattle.model.specs.Judge.{Fault, badEntry, badChain, ownedTwice, markedFree, lostPage, badCount, Judged, fault, clean, judge}
 use Rattle.model.specs.Tree.{Row, end, free, file, dir, Tree, emptyRow, freeNumber, Node, fileNode, directoryNode, fill, rewrite, vacate}
 use Rattle.model.specs.Path.{Path, pathOf, parents, lastName}
 use Rattle.model.specs.Image.{treeOf}
 use Rattle.model.specs.Walk.{changeAt, entryPosition}
 use Rattle.model.specs.Effect.{formatted, fileMade, directoryMade, written, removed}
-use Rattle.model.specs.Call.{Call, format, verdict, find, list, read, makeFile, makeDirectory, write, remove, isFile, isDirectory, Found, Listed, empty, holds, Told, bufferBefore, refusal, Answer, refused, granted}
+use Rattle.model.specs.Call.{Call, format, verdict, find, list, read, makeFile, makeDirectory, write, remove, isFile, isDirectory, Found, Listed, empty, holds, Told, bufferBefore, Refusal, refusal, refusalAt, Answer, refused, granted}
 use Rattle.model.specs.Refusal.{Line, refusals, settle, node, directoryRow, contentIn}
 
 -- ---- on the plain tree
@@ -117,14 +118,37 @@ brokenLine (makeDirectory path date) b = []
 brokenLine (write path at v) b = (isBroken b (pathOf path), refusal 15) ∷ []
 brokenLine (remove path) b = (isBroken b (pathOf path), refusal 15) ∷ []
 
+-- 16 bad entry (directory page, entry); 17 page out of range, or chain not ending where the size says (directory page, entry, how many of its
+-- pages passed); 18 page owned twice, 20 owned page marked free, 19 lost page (the page); 3 bit 0 or byte 3
+abbrev pub faultTold : Fault → Refusal
+faultTold (badEntry d i) = record { number = 16; place = (d, i, 0) }
+faultTold (badChain d i passed) = record { number = 17; place = (d, i, passed) }
+faultTold (ownedTwice p) = refusalAt 18 p
+faultTold (markedFree p) = refusalAt 20 p
+faultTold (lostPage p) = refusalAt 19 p
+faultTold badCount = refusal 3
+
+-- the first fault; where there is none the image is sound (law `judge-sound`), and this is never asked
+abbrev pub firstFault : Judged → Refusal
+firstFault (fault f) = faultTold f
+firstFault (clean marks) = refusal 3
+
+-- the line where 3 stood
+abbrev pub soundLine : Bytes → Line
+soundLine b = (not (sound b), firstFault (judge b))
+
+-- what stands above the lines of a call that judges the image
+abbrev pub imageLines : Bytes → List Line
+imageLines b = (not (validLength (length b)), refusal 1) ∷ (not (validHeader b), refusal 2) ∷ soundLine b ∷ []
+
 -- Format judges only the image's length. Every other call judges the image first: 1, its length is not one of the allowed; 2, byte 0, 1 or
--- 2 is wrong; 3, it is not sound.
+-- 2 is wrong; then its first fault, if it is not sound.
 unfoldable pub lines : Call → Bytes → List Line
 lines c b =
     (not (validLength (length b)), refusal 1)
     ∷ (if isFormat c then [] else (
     (not (validHeader b), refusal 2)
-    ∷ (not (sound b), refusal 3)
+    ∷ soundLine b
     ∷ (refusals c (treeOf b) ++ brokenLine c b)))
 
 -- the bytes after a granted call

@@ -14,7 +14,6 @@ use Rattle.volume.specs.Lists.{first}
 use Rattle.model.specs.Layout.{pageSize, pageCount}
 use Rattle.model.specs.Date.{goodDate}
 use Rattle.model.specs.Entry.{entries, Entry, vacant, aFile, aDirectory, entryAt}
-use Rattle.model.specs.Sound.{sound}
 use Rattle.model.specs.Tree.{Row, end, free, file, dir, width, held, lookup}
 use Rattle.model.specs.Path.{Name, Path, below, pathOf, isNoPath, isRoot, parents, lastName}
 use Rattle.model.specs.Image.{entryRow, rowOf, rowAt, treeOf}

@@ -1,20 +1,18 @@
 -- Where a make puts its entry, in the model's words, and the values of the code's enum there.
 use Prim.Native.Nat.{ℕ, _-_, _≤_}
-use mathlib.Core.Bool.{not}
 use mathlib.Core.Option.{Option, none, some}
-use mathlib.Core.List.{_∷_}
+use mathlib.Core.List.{_++_}
 use lib.ListN.{length}
 use Rattle.volume.specs.Bytes.{Bytes}
 use Rattle.volume.specs.Lists.{first}
-use Rattle.model.specs.Layout.{validLength, validHeader}
 use Rattle.model.specs.Entry.{entries, entryAt}
-use Rattle.model.specs.Sound.{sound}
 use Rattle.model.specs.Path.{Name, pathOf, lastName}
 use Rattle.model.specs.Image.{treeOf}
 use Rattle.model.specs.Walk.{entryNamed, parentPage}
 use Rattle.model.specs.Effect.{isVacant, lowestVacant}
 use Rattle.model.specs.Call.{Refusal as Model, refusal, Answer, refused, granted}
 use Rattle.model.specs.Refusal.{makeLines, settle}
+use Rattle.model.specs.Meaning.{imageLines}
 use Rattle.walk.specs.Steps.{nameIn}
 use Rattle.refusals.specs.Told.{told}
 use Rattle.openings.specs.declared.Opening.{Opening}
@@ -47,8 +45,7 @@ unfoldable pub openingWalked : Bytes → (path date : Bytes) → Answer Place
 openingWalked b path date = settle (makeLines path date (treeOf b)) refused (granted (found b path))
 
 unfoldable pub opening : Bytes → (path date : Bytes) → Answer Place
-opening b path date =
-    settle ((not (validLength (length b)), refusal 1) ∷ (not (validHeader b), refusal 2) ∷ (not (sound b), refusal 3) ∷ makeLines path date (treeOf b)) refused (granted (found b path))
+opening b path date = settle (imageLines b ++ makeLines path date (treeOf b)) refused (granted (found b path))
 
 -- ---- the code's enum
 

@@ -76,6 +76,6 @@ pub fn find_opening(image: &[u8], path: &[u8], date: &[u8]) -> Opening
         Judgement::Sound(_, _) => opening_walked(image, path, date),
         Judgement::BadLength => Opening::Stopped(Refusal::BadLength),
         Judgement::BadHeader => Opening::Stopped(Refusal::BadHeader),
-        Judgement::Unsound(_) => Opening::Stopped(Refusal::Unsound),
+        Judgement::Unsound(fault) => Opening::Stopped(Refusal::Unsound(fault)),
     }
 }

@@ -15,7 +15,8 @@ use Rattle.model.specs.Sound.{sound}
 use Rattle.model.specs.Path.{Name, Path, noPath, root, below, pathOf, isNoPath}
 use Rattle.model.specs.Walk.{Walked, arrived, missing, blocked, inWalked, entryNamed, walkOn}
 use Rattle.model.specs.Call.{Refusal as Model, refusal, refusalAt, Answer, refused, granted}
-use Rattle.model.specs.Refusal.{Line, settle}
+use Rattle.model.specs.Refusal.{settle}
+use Rattle.model.specs.Meaning.{faultTold, firstFault, imageLines}
 use Rattle.model.specs.Judge.{Judged, fault, clean, judge, isClean}
 use Rattle.judge.specs.Answers as found
 use Rattle.judge.specs.Answers.{Finding, judgedAs, concluded}
@@ -128,14 +129,11 @@ module _ (b path : Bytes) where
 
 -- ---- the image
 
-abbrev imageLines : Bytes → List Line
-imageLines b = (not (validLength (length b)), refusal 1) ∷ (not (validHeader b), refusal 2) ∷ (not (sound b), refusal 3) ∷ []
-
 -- f of the finding's number, or x on a sound image
 abbrev pub judgedTo : {A : Type 0} → (Model → A) → A → Finding → A
 judgedTo f x found.badLength = f (refusal 1)
 judgedTo f x found.badHeader = f (refusal 2)
-judgedTo f x (found.unsound y) = f (refusal 3)
+judgedTo f x (found.unsound y) = f (faultTold y)
 judgedTo f x (found.isSound pages free) = x
 
 module _ (b : Bytes) where
@@ -143,18 +141,18 @@ module _ (b : Bytes) where
   unfolding judgedAs concluded isClean settle
   image-lines {A} f x = by-length (validLength (length b)) refl
     where
-      judged : (j : Judged) (s : Bool) → isClean j ≡ s → judgedTo f x (concluded b j) ≡ (if not s then f (refusal 3) else x)
+      judged : (j : Judged) (s : Bool) → isClean j ≡ s → judgedTo f x (concluded b j) ≡ (if not s then f (firstFault j) else x)
       judged (fault y) s e = rw (sym e)
       judged (clean marks) s e = rw (sym e)
 
       by-header : (h : Bool) → validHeader b ≡ h → validLength (length b) ≡ true
-          → judgedTo f x (if h then concluded b (judge b) else found.badHeader) ≡ (if not h then f (refusal 2) else if not (sound b) then f (refusal 3) else x)
+          → judgedTo f x (if h then concluded b (judge b) else found.badHeader) ≡ (if not h then f (refusal 2) else if not (sound b) then f (firstFault (judge b)) else x)
       by-header false h v = refl
       by-header true h v = judged (judge b) (sound b) (judge-sound b (subst T (sym v) tt) (subst T (sym h) tt))
 
       by-length : (v : Bool) → validLength (length b) ≡ v
           → judgedTo f x (if v then (if validHeader b then concluded b (judge b) else found.badHeader) else found.badLength)
-          ≡ (if not v then f (refusal 1) else if not (validHeader b) then f (refusal 2) else if not (sound b) then f (refusal 3) else x)
+          ≡ (if not v then f (refusal 1) else if not (validHeader b) then f (refusal 2) else if not (sound b) then f (firstFault (judge b)) else x)
       by-length false v = refl
       by-length true v = by-header (validHeader b) refl v
 

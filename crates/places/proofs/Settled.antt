@@ -1,25 +1,23 @@
 -- What a call does that takes a path is settled by the place that the path leads to: the lines above the walk and the walk itself are the
 -- place's refusals, and at a place only the call's own lines are left.
 use mathlib.Core.Path.{_≡_, refl, sym, ap, _∙_, subst}
-use mathlib.Core.Bool.{Bool, true, false, not}
+use mathlib.Core.Bool.{Bool, true, false}
 use mathlib.Core.Option.{none, some}
 use mathlib.Core.List.{List, [], _∷_, _++_}
-use lib.ListN.{length}
 use lib.Dec.{T}
 use Rattle.volume.specs.Bytes.{Bytes, if_then_else_}
-use Rattle.volume.proofs.Tests.{not-not-of}
-use Rattle.model.specs.Layout.{validLength, validHeader}
 use Rattle.model.specs.Sound.{sound}
 use Rattle.model.specs.Tree.{end, Node, directoryNode}
 use Rattle.model.specs.Path.{pathOf}
 use Rattle.model.specs.Image.{treeOf}
 use Rattle.model.specs.Walk.{Walked, arrived, missing, blocked, arrivedOr}
-use Rattle.model.specs.Call.{Call, Refusal, refusal, Answer, refused, granted}
+use Rattle.model.specs.Call.{Call, Refusal, Answer, refused, granted}
 use Rattle.model.specs.Refusal.{Line, pathLine, walkLines, isMissing, isBlocked, stoppedAt, walked, node, refusals, settle, Passes}
 use Rattle.model.specs.Meaning.{isFormat, lines}
 use Rattle.laws.proofs.Facts.{Facts, sound-facts}
-use Rattle.laws.proofs.Lines.{passed, settle-skip, not-granted}
-use Rattle.laws.proofs.Steps.{settled}
+use Rattle.laws.proofs.Lines.{not-granted}
+use Rattle.laws.proofs.Passed.{image-passed}
+use Rattle.laws.proofs.Steps.{image-skip, settled}
 use Rattle.laws.proofs.Walks.{mapWalked}
 use Rattle.places.specs.Places.{Spot, located, walkedAnswer, firstLines, placed}
 use Rattle.places.proofs.Arrivals.{nodeAt, walk-located, At, located-at}
@@ -61,17 +59,13 @@ pub placed-arrived : (b path : Bytes) (s : Spot) → granted s ≡ placed b path
 unfolding placed walkedAnswer
 placed-arrived b path s e =
     let two = settle-granted (firstLines b path) (walkedAnswer (located b (pathOf path))) s e in
-    let h = passed (not (sound b), refusal 3) _ (passed (not (validHeader b), refusal 2) _ (passed (not (validLength (length b)), refusal 1) _ (two .0) .1) .1) .0 in
+    let h = image-passed b (pathLine path ∷ []) (two .0) .0 in
     record {
-      isSound = yes (sound b) h;
-      facts = sound-facts b (yes (sound b) h);
+      isSound = h;
+      facts = sound-facts b h;
       at = located-at b (pathOf path) s (go (located b (pathOf path)) (two .1));
     }
   where
-    yes : (c : Bool) → T (not (not c)) → T c
-    yes true k = tt
-    yes false k = k
-
     go : (w : Walked Spot) → granted s ≡ walkedAnswer w → w ≡ arrived s
     go (arrived x) u = cc u
     go (missing i) u = absurd (not-granted u)
@@ -91,12 +85,7 @@ module _ {A : Type 0} (b path : Bytes) (f : Refusal → A) where
       z = opened f y (walkedAnswer (located b (pathOf path)))
 
       is-sound : T (sound b) → settle (lines c b) f x ≡ settle (firstLines b path) f z
-      is-sound s =
-          let facts = sound-facts b s in
-          settled b s f x c ∙ h facts ∙ sym (
-          settle-skip f (not (validLength (length b))) (refusal 1) ((not (validHeader b), refusal 2) ∷ (not (sound b), refusal 3) ∷ pathLine path ∷ []) z (not-not-of (validLength (length b)) (facts .fits))
-          ∙ settle-skip f (not (validHeader b)) (refusal 2) ((not (sound b), refusal 3) ∷ pathLine path ∷ []) z (not-not-of (validHeader b) (facts .headed))
-          ∙ settle-skip f (not (sound b)) (refusal 3) (pathLine path ∷ []) z (not-not-of (sound b) s))
+      is-sound s = settled b s f x c ∙ h (sound-facts b s) ∙ sym (image-skip b s f z (pathLine path ∷ []))
 
       go : (s : Bool) → sound b ≡ s → settle (lines c b) f x ≡ settle (firstLines b path) f z
       go true e = is-sound (subst T (sym e) tt)

@@ -1,17 +1,14 @@
 -- Where a path leads on the bytes of an image, in the model's words, and the values of the code's enums there.
 use Prim.Native.Nat.{ℕ}
-use mathlib.Core.Bool.{not}
 use mathlib.Core.Option.{Option, none, some}
-use mathlib.Core.List.{List, [], _∷_}
-use lib.ListN.{length}
+use mathlib.Core.List.{List, [], _∷_, _++_}
 use Rattle.volume.specs.Bytes.{Bytes}
-use Rattle.model.specs.Layout.{validLength, validHeader}
 use Rattle.model.specs.Entry.{Entry, vacant, aFile, aDirectory, entryAt}
-use Rattle.model.specs.Sound.{sound}
 use Rattle.model.specs.Path.{Name, Path, noPath, root, below, pathOf}
 use Rattle.model.specs.Walk.{Walked, arrived, missing, blocked, inWalked, entryNamed, walkOn}
 use Rattle.model.specs.Call.{Refusal as Model, refusal, refusalAt, Answer, refused, granted}
 use Rattle.model.specs.Refusal.{Line, pathLine, settle}
+use Rattle.model.specs.Meaning.{imageLines}
 use Rattle.refusals.specs.Told.{told}
 use Rattle.places.specs.declared.Place.{Place}
 use Rattle.places.specs.declared.Place.the-variants as at
@@ -56,14 +53,9 @@ placeNamed b p n = walkedAnswer (spotNamed b n (entryNamed b p (n .bytes)))
 unfoldable pub placeWalked : Bytes → Bytes → Answer Spot
 placeWalked b path = settle (pathLine path ∷ []) refused (walkedAnswer (located b (pathOf path)))
 
--- the lines that stand above the walk: 1, 2, 3 and 4
+-- the lines that stand above the walk: those of the image, and 4
 abbrev pub firstLines : Bytes → Bytes → List Line
-firstLines b path =
-    (not (validLength (length b)), refusal 1)
-    ∷ (not (validHeader b), refusal 2)
-    ∷ (not (sound b), refusal 3)
-    ∷ pathLine path
-    ∷ []
+firstLines b path = imageLines b ++ (pathLine path ∷ [])
 
 unfoldable pub placed : Bytes → Bytes → Answer Spot
 placed b path = settle (firstLines b path) refused (walkedAnswer (located b (pathOf path)))

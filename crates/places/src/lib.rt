@@ -101,6 +101,6 @@ pub fn arrive(image: &[u8], path: &[u8]) -> Arrival
         Judgement::Sound(_, _) => walked(image, path),
         Judgement::BadLength => Arrival::Stopped(Refusal::BadLength),
         Judgement::BadHeader => Arrival::Stopped(Refusal::BadHeader),
-        Judgement::Unsound(_) => Arrival::Stopped(Refusal::Unsound),
+        Judgement::Unsound(fault) => Arrival::Stopped(Refusal::Unsound(fault)),
     }
 }

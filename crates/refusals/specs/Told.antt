@@ -1,13 +1,14 @@
 -- The paper's number and place of each case of the enum `Refusal`.
-use Prim.Native.Nat.{ℕ}
 use Rattle.model.specs.Call.{Refusal as Model, refusal, refusalAt}
+use Rattle.model.specs.Meaning.{faultTold}
+use Rattle.judge.specs.Answers.{faultOf}
 use Rattle.refusals.specs.declared.Refusal.{Refusal}
 use Rattle.refusals.specs.declared.Refusal.the-variants.{BadLength, BadHeader, Unsound, NoPath, BadDate, IsRoot, NoSuchName, NotADirectory, NameTaken, IsADirectory, PastEnd, DirectoryFull, NoFreePages, NotEmpty}
 
 abbrev pub told : Refusal → Model
 told BadLength = refusal 1
 told BadHeader = refusal 2
-told Unsound = refusal 3
+told (Unsound fault) = faultTold (faultOf fault)
 told NoPath = refusal 4
 told BadDate = refusal 11
 told IsRoot = refusal 14

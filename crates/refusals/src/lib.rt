@@ -1,7 +1,10 @@
-// Why a call says no: one case for each number of the paper's table that a call can give, with its place where it has one.
+// Why a call says no: one case for each number of the paper's table that a call can give, with its place where it has one;
+// the faults of an image are the judge's own cases.
 // The code says the case, the contracts say its number and place, by `told` in specs/; nothing else decides a number.
+use judge::Fault;
 ghost use mathlib.Core.Path.{_≡_};
-ghost use Prim.Native.Nat.{_<_};
+ghost use Rattle.model.specs.Meaning.{faultTold};
+ghost use Rattle.judge.specs.Answers.{faultOf};
 ghost use Rattle.refusals.specs.Told.{told};
 
 // Number 15 has no case: in a sound image a chain neither ends nor leaves the image early.
@@ -10,8 +13,8 @@ pub enum Refusal {
     BadLength,
     // 2: byte 0, 1 or 2 is not 5A, 01, N/8.
     BadHeader,
-    // 3: the image is not sound.
-    Unsound,
+    // 16 to 20, or 3: the image is not sound; its first fault (02 §2).
+    Unsound(Fault),
     // 4: the path is no path.
     NoPath,
     // 11: make: the date is not good.
@@ -36,6 +39,20 @@ pub enum Refusal {
     NotEmpty,
 }
 
+// The paper's number of a fault. 20 is told before 19.
+fn fault_number(fault: Fault) -> u8
+    ensures { λ n. ⌜ n ≡ faultTold (faultOf fault) .number ⌝ }
+{
+    match fault {
+        Fault::BadEntry(_, _) => 16,
+        Fault::BadChain(_, _, _) => 17,
+        Fault::OwnedTwice(_) => 18,
+        Fault::MarkedFree(_) => 20,
+        Fault::LostPage(_) => 19,
+        Fault::BadCount => 3,
+    }
+}
+
 // The paper's number.
 pub fn number(r: Refusal) -> u8
     ensures { λ n. ⌜ n ≡ told r .number ⌝ }
@@ -43,7 +60,7 @@ pub fn number(r: Refusal) -> u8
     match r {
         Refusal::BadLength => 1,
         Refusal::BadHeader => 2,
-        Refusal::Unsound => 3,
+        Refusal::Unsound(fault) => fault_number(fault),
         Refusal::NoPath => 4,
         Refusal::BadDate => 11,
         Refusal::IsRoot => 14,

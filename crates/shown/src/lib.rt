@@ -4,6 +4,7 @@ ghost use mathlib.Core.Path.{_≡_};
 ghost use Prim.Native.Nat.{_≤_};
 ghost use lib.ListN.{length};
 use fields::Position;
+use judge::Fault;
 use refusals::Refusal;
 use zealfs::ChangeAnswer;
 use zealfs::FindAnswer;
@@ -107,12 +108,35 @@ pub fn end_line() {
     put(b"\n");
 }
 
-// The place of a refusal: the byte of the path for 5 and 6, and 0 where there is nothing to point at.
-fn place(r: Refusal) -> usize {
+// Where an image is unsound: the page, or the directory's page and the entry, and for a chain how many of its pages passed.
+fn fault_place(fault: Fault) {
+    match fault {
+        Fault::BadEntry(directory, entry) => {
+            number(directory.0);
+            put(b" ");
+            number(entry);
+        }
+        Fault::BadChain(directory, entry, passed) => {
+            number(directory.0);
+            put(b" ");
+            number(entry);
+            put(b" ");
+            number(passed);
+        }
+        Fault::OwnedTwice(page) => number(page.0),
+        Fault::MarkedFree(page) => number(page.0),
+        Fault::LostPage(page) => number(page.0),
+        Fault::BadCount => number(0),
+    }
+}
+
+// The place of a refusal: the byte of the path for 5 and 6, that of a fault, and 0 where there is nothing to point at.
+fn place(r: Refusal) {
     match r {
-        Refusal::NoSuchName(byte) => byte,
-        Refusal::NotADirectory(byte) => byte,
-        _ => 0,
+        Refusal::Unsound(fault) => fault_place(fault),
+        Refusal::NoSuchName(byte) => number(byte),
+        Refusal::NotADirectory(byte) => number(byte),
+        _ => number(0),
     }
 }
 
@@ -120,7 +144,7 @@ fn refused(r: Refusal) {
     put(b"refused ");
     number(fields::wide(refusals::number(r)));
     put(b" at ");
-    number(place(r));
+    place(r);
 }
 
 fn changed(answer: ChangeAnswer) {

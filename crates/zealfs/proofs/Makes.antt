@@ -2,17 +2,16 @@
 use mathlib.Core.Path.{_≡_, refl, sym, ap, _∙_, subst}
 use Prim.Native.Nat.{ℕ, _+_, _≤_, _<_}
 use native.Mathlib.Omega.{arith}
-use mathlib.Core.Bool.{true, false, not}
+use mathlib.Core.Bool.{true, false}
 use mathlib.Core.Option.{Option, none, some, Option·getD}
-use mathlib.Core.List.{List, [], _∷_}
+use mathlib.Core.List.{List, [], _∷_, _++_}
 use lib.ListN.{length}
 use lib.Dec.{T, ltb}
 use borrow.Author.Tests.{lt-ltb, le-ltb}
 use Rattle.volume.specs.Bytes.{Bytes, put}
 use Rattle.volume.specs.Field.{byte}
 use Rattle.volume.specs.Geometry as On
-use Rattle.volume.proofs.Tests.{not-not}
-use Rattle.model.specs.Layout.{version1, pageCount, pagesFor, validLength, validHeader, freeCount}
+use Rattle.model.specs.Layout.{version1, pageCount, pagesFor, freeCount}
 use Rattle.model.specs.Entry.{newEntry}
 use Rattle.model.specs.Sound.{sound}
 use Rattle.model.specs.Tree.{freeNumber}
@@ -22,12 +21,12 @@ use Rattle.model.specs.Walk.{Walked, arrivedOr, parentPage}
 use Rattle.model.specs.Effect.{lowestVacant, made}
 use Rattle.model.specs.Call.{makeFile, makeDirectory, Refusal, refusal, Answer, refused, granted}
 use Rattle.model.specs.Refusal.{Line, makeLines, wanted, earlier, later, refusals, settle, Passes}
-use Rattle.model.specs.Meaning.{told, isFormat, brokenLine, lines, effect, answer, after}
+use Rattle.model.specs.Meaning.{told, imageLines, isFormat, brokenLine, lines, effect, answer, after}
 use Rattle.laws.proofs.Facts.{Facts, sound-facts}
 use Rattle.laws.proofs.Counting.{free-number}
 use Rattle.laws.proofs.Slots.{size}
-use Rattle.laws.proofs.Lines.{passed, settle-append}
-use Rattle.laws.proofs.Passed.{Makes, make-passed}
+use Rattle.laws.proofs.Lines.{settle-append}
+use Rattle.laws.proofs.Passed.{image-passed, Makes, make-passed}
 use Rattle.laws.proofs.Make.{place-of}
 use Rattle.places.proofs.Settled.{opened, settle-opened, settle-granted}
 use Rattle.changes.specs.Asked.{Making}
@@ -61,7 +60,7 @@ module _ (b path date : Bytes) (k : ℕ) where
   space = (ltb (freeNumber (treeOf b)) k, refusal 10)
 
   abbrev first : List Line
-  first = (not (validLength (length b)), refusal 1) ∷ (not (validHeader b), refusal 2) ∷ (not (sound b), refusal 3) ∷ makeLines path date (treeOf b)
+  first = imageLines b ++ makeLines path date (treeOf b)
 
   make-placed : {A : Type 0} (f : Refusal → A) (x : A) → makeSettled b path date k f x ≡ opened f (λ (p : Place). settle (space ∷ []) f x) (opening b path date)
   unfolding makeSettled opening
@@ -85,11 +84,11 @@ module _ (b path date : Bytes) (k : ℕ) where
     is-found : _≡_ {A = Place} (at, name) (found b path)
     is-found = cc (granted-lines .1)
 
-    behind : T (not (not (sound b))) × Passes (makeLines path date (treeOf b))
-    behind = passed (not (sound b), refusal 3) _ (passed (not (validHeader b), refusal 2) _ (passed (not (validLength (length b)), refusal 1) _ (granted-lines .0) .1) .1)
+    behind : T (sound b) × Passes (makeLines path date (treeOf b))
+    behind = image-passed b (makeLines path date (treeOf b)) (granted-lines .0)
 
     facts : Facts b
-    facts = sound-facts b (not-not (sound b) (behind .0))
+    facts = sound-facts b (behind .0)
 
     pub long : 4 ≤ length b
     long = omega (arith, size b facts .low, size b facts .whole)

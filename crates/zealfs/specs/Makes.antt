@@ -1,26 +1,20 @@
 -- What the two makes have in common: their lines differ in the pages wanted alone, and their effect in the entry's flags, size and pages.
 use Prim.Native.Nat.{ℕ}
-use mathlib.Core.Bool.{not}
 use mathlib.Core.List.{[], _∷_, _++_}
-use lib.ListN.{length}
 use lib.Dec.{ltb}
 use Rattle.volume.specs.Bytes.{Bytes}
-use Rattle.model.specs.Layout.{validLength, validHeader}
-use Rattle.model.specs.Sound.{sound}
 use Rattle.model.specs.Tree.{freeNumber}
 use Rattle.model.specs.Path.{pathOf}
 use Rattle.model.specs.Image.{treeOf}
 use Rattle.model.specs.Effect.{made}
 use Rattle.model.specs.Call.{Refusal, refusal, Answer, refused, granted}
 use Rattle.model.specs.Refusal.{makeLines, settle}
+use Rattle.model.specs.Meaning.{imageLines}
 
 -- f of the first line's refusal that holds, or x
 unfoldable pub makeSettled : {A : Type 0} → Bytes → (path date : Bytes) → (pages : ℕ) → (Refusal → A) → A → A
-makeSettled b path date pages f x = settle (
-    (not (validLength (length b)), refusal 1)
-    ∷ (not (validHeader b), refusal 2)
-    ∷ (not (sound b), refusal 3)
-    ∷ (makeLines path date (treeOf b) ++ ((ltb (freeNumber (treeOf b)) pages, refusal 10) ∷ []))) f x
+makeSettled b path date pages f x =
+    settle (imageLines b ++ (makeLines path date (treeOf b) ++ ((ltb (freeNumber (treeOf b)) pages, refusal 10) ∷ []))) f x
 
 abbrev pub makeAnswer : Bytes → (path date : Bytes) → (pages : ℕ) → Answer (Unit {0})
 makeAnswer b path date pages = makeSettled b path date pages refused (granted tt)

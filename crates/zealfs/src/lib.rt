@@ -53,7 +53,7 @@ pub fn verdict(image: &[u8]) -> VerdictAnswer
         Judgement::Sound(pages, free) => VerdictAnswer::Sound(pages, free),
         Judgement::BadLength => VerdictAnswer::Refused(Refusal::BadLength),
         Judgement::BadHeader => VerdictAnswer::Refused(Refusal::BadHeader),
-        Judgement::Unsound(_) => VerdictAnswer::Refused(Refusal::Unsound),
+        Judgement::Unsound(fault) => VerdictAnswer::Refused(Refusal::Unsound(fault)),
     }
 }
 
@@ -234,7 +234,7 @@ fn make(
     ChangeAnswer::Done
 }
 
-// Makes an empty file, which has the pages of one.
+// Makes an empty file, with the zeroed page that it owns (02 §1).
 pub fn make_file(image: &mut [u8], path: &[u8], date: &[u8]) -> ChangeAnswer
     ensures { λ r. ⌜ changeAnswer r ≡ answer (makeFile (now (path .entry)) (now (date .entry))) (now (image .entry)) ⌝ }
     ensures { λ _. ⌜ now (image .exit) ≡ after (makeFile (now (path .entry)) (now (date .entry))) (now (image .entry)) ⌝ }

@@ -1,6 +1,6 @@
--- What a refusal's code is made of, case by case.
+-- The refusals that point nowhere, and how much room a place takes.
 use mathlib.Core.Path.{_≡_, refl}
-use Prim.Native.Nat.{ℕ, _+_, _*_}
+use Prim.Native.Nat.{ℕ, _<_}
 use native.Mathlib.Omega.{arith}
 use mathlib.Core.List.{List, [], _∷_}
 use types.Run.{OneOf, miss}
@@ -9,16 +9,17 @@ use Rattle.refusals.specs.Told.{told}
 use Rattle.refusals.specs.declared.Refusal.{Refusal}
 use Rattle.refusals.specs.declared.Refusal.the-variants.{BadLength, BadHeader, Unsound, NoPath, BadDate, IsRoot, NoSuchName, NotADirectory, NameTaken, IsADirectory, PastEnd, DirectoryFull, NoFreePages, NotEmpty}
 use Rattle.refusals.proofs.Refusal.{the-type}
-use Rattle.zealfs_c.specs.Codes.{refusalCode}
+use Rattle.zealfs_c.specs.Codes.{packed, Fits}
 
--- the cases that a `match` on the two with a place leaves
+-- the cases that a `match` on the three with a place leaves
 abbrev pub others : List ℕ
-others = 0 ∷ 1 ∷ 2 ∷ 3 ∷ 4 ∷ 5 ∷ 8 ∷ 9 ∷ 10 ∷ 11 ∷ 12 ∷ 13 ∷ []
+others = 0 ∷ 1 ∷ 3 ∷ 4 ∷ 5 ∷ 8 ∷ 9 ∷ 10 ∷ 11 ∷ 12 ∷ 13 ∷ []
 
-pub no-place : (r : Refusal) → OneOf others (tagOf the-type r) → 0 ≡ told r .place .0
+pub no-place : (r : Refusal) → OneOf others (tagOf the-type r) → 0 ≡ packed (told r .place)
+unfolding packed
 no-place BadLength h = refl
 no-place BadHeader h = refl
-no-place Unsound h = refl
+no-place (Unsound fault) h = absurd (miss others 2 tt h)
 no-place NoPath h = refl
 no-place BadDate h = refl
 no-place IsRoot h = refl
@@ -31,20 +32,7 @@ no-place DirectoryFull h = refl
 no-place NoFreePages h = refl
 no-place NotEmpty h = refl
 
--- the place is one number at most
-pub code-sum : (r : Refusal) → told r .number + 256 * told r .place .0 ≡ refusalCode (told r)
-unfolding refusalCode
-code-sum BadLength = refl
-code-sum BadHeader = refl
-code-sum Unsound = refl
-code-sum NoPath = refl
-code-sum BadDate = refl
-code-sum IsRoot = refl
-code-sum (NoSuchName byte) = omega arith
-code-sum (NotADirectory byte) = omega arith
-code-sum NameTaken = refl
-code-sum IsADirectory = refl
-code-sum PastEnd = refl
-code-sum DirectoryFull = refl
-code-sum NoFreePages = refl
-code-sum NotEmpty = refl
+-- a place that fits has 48 bits
+pub place-low : {place : ℕ × ℕ × ℕ} → Fits place → packed place < 281474976710656
+unfolding packed
+place-low f = omega (arith, f .first, f .second, f .third)

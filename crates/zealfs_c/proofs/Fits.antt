@@ -1,23 +1,25 @@
--- A refusal fits its code: its number is one of the table, and its place is the byte at which a walk stopped, or none.
+-- A refusal fits its code: its number is one of the table, and its place is the byte at which a walk stopped, that of a fault, or none.
 use mathlib.Core.Path.{_≡_, refl, sym, subst}
-use Prim.Native.Nat.{_+_, _*_, _%_, _≤_, _<_}
+use Prim.Native.Nat.{_+_, _*_, _≤_, _<_}
 use native.Mathlib.Omega.{arith}
 use mathlib.Core.Bool.{Bool, true, false, not}
 use mathlib.Core.List.{List, [], _∷_, _++_}
 use lib.ListN.{length}
-use lib.Dec.{T, eqb, leb, ltb, leb→le, ltb→lt}
+use lib.Dec.{T, leb, ltb, leb→le, ltb→lt}
 use borrow.Author.Tests.{lt-ltb}
 use Rattle.volume.specs.Bytes.{Bytes, if_then_else_}
 use Rattle.volume.specs.Lists.{all, conditions}
-use Rattle.volume.proofs.Tests.{and-both, conditions-cons}
+use Rattle.volume.proofs.Tests.{and-both, both-and}
 use Rattle.model.specs.Layout.{pageCount, validLength, validHeader}
-use Rattle.model.specs.Sound.{sound}
+use Rattle.model.specs.Judge.{Fault, badEntry, badChain, ownedTwice, markedFree, lostPage, badCount, Judged, fault, clean, judge}
 use Rattle.model.specs.Path.{Path, pathOf, noPath, root, below, parents, names}
 use Rattle.model.specs.Image.{treeOf}
 use Rattle.model.specs.Call.{Call, format, verdict, find, list, read, makeFile, makeDirectory, write, remove, Told, Refusal, refusal, Answer, refused, granted}
 use Rattle.model.specs.Refusal.{Line, stoppedAt, walked, walkedParent, walkedDirectory, makeLines, earlier, later, refusals, settle}
-use Rattle.model.specs.Meaning.{told, isFormat, brokenLine, lines, answer}
-use Rattle.zealfs_c.specs.Codes.{refusalCode, codeOf, Apart, placeByte}
+use Rattle.model.specs.Meaning.{told, firstFault, soundLine, isFormat, brokenLine, lines, answer}
+use Rattle.judge.proofs.Image.{allowed}
+use Rattle.judge.proofs.Placed.{InPlace, fault-placed}
+use Rattle.zealfs_c.specs.Codes.{packed, codeOf, Apart, Fits, placeOf}
 use Rattle.zealfs_c.proofs.Stops.{height, height-at, Spaced, spaced-left, path-spaced, walk-stops, walk-to-stops}
 
 -- ---- where a walk in an image stops
@@ -62,48 +64,72 @@ settle-in {A} (l ∷ ls) x h =
     go true rest t next = t
     go false rest t next = next
 
+abbrev AllIn : List Line → Type 0
+AllIn ls = T (all (λ (l : Line). inCode (l .1)) ls)
+
+-- an image of an allowed length has pages, and at most 256
+pages-in : (b : Bytes) → validLength (length b) ≡ true → (1 ≤ pageCount b) × (pageCount b ≤ 256)
+pages-in b e = let two = allowed (length b) e in (omega (arith, two .0), omega (arith, two .1))
+
+-- the place of a fault
+fault-in : (b : Bytes) → 1 ≤ pageCount b → pageCount b ≤ 256 → T (inCode (firstFault (judge b)))
+unfolding inCode all
+fault-in b low few = go (judge b) (fault-placed b low)
+  where
+    go : (j : Judged) → ((f : Fault) → j ≡ fault f → InPlace (pageCount b) f) → T (inCode (firstFault j))
+    go (fault (badEntry d i)) h = let p = h _ refl in rw (lt-ltb d 65536 (omega (arith, p .0)), lt-ltb i 65536 (omega (arith, p .1))) tt
+    go (fault (badChain d i passed)) h =
+        let p = h _ refl in
+        rw (lt-ltb d 65536 (omega (arith, p .0)), lt-ltb i 65536 (omega (arith, p .1)), lt-ltb passed 65536 (omega (arith, p .2))) tt
+    go (fault (ownedTwice p)) h = rw (lt-ltb p 65536 (omega (arith, h _ refl))) tt
+    go (fault (markedFree p)) h = rw (lt-ltb p 65536 (omega (arith, h _ refl))) tt
+    go (fault (lostPage p)) h = rw (lt-ltb p 65536 (omega (arith, h _ refl))) tt
+    go (fault badCount) h = tt
+    go (clean marks) h = tt
+
+image-in : (b : Bytes) → 1 ≤ pageCount b → pageCount b ≤ 256 → (ls : List Line) → AllIn ls → AllIn ((not (validHeader b), refusal 2) ∷ soundLine b ∷ ls)
+unfolding all inCode
+image-in b low few ls h = both-and (inCode (firstFault (judge b))) (all (λ (l : Line). inCode (l .1)) ls) (fault-in b low few) h
+
+-- a call's own lines
+own-in : (c : Call) (b : Bytes) → pageCount b ≤ 256 → AllIn (refusals c (treeOf b) ++ brokenLine c b)
+unfolding refusals earlier later makeLines brokenLine all inCode
+own-in format b n = tt
+own-in verdict b n = tt
+own-in (find path) b n = rw (lt-ltb _ _ (to-stops b n path)) tt
+own-in (list path i) b n = rw (lt-ltb _ _ (directory-stops b n path)) tt
+own-in (read path at room) b n = rw (lt-ltb _ _ (to-stops b n path)) tt
+own-in (makeFile path date) b n = rw (lt-ltb _ _ (parent-stops b n path)) tt
+own-in (makeDirectory path date) b n = rw (lt-ltb _ _ (parent-stops b n path)) tt
+own-in (write path at v) b n = rw (lt-ltb _ _ (to-stops b n path)) tt
+own-in (remove path) b n = rw (lt-ltb _ _ (to-stops b n path)) tt
+
 -- the lines below the first, which judges the length
-abbrev further : Call → Bytes → List Line
-further c b = if isFormat c then [] else (
-    (not (validHeader b), refusal 2)
-    ∷ (not (sound b), refusal 3)
-    ∷ (refusals c (treeOf b) ++ brokenLine c b))
+abbrev further : Bool → Call → Bytes → List Line
+further m c b = if m then [] else ((not (validHeader b), refusal 2) ∷ soundLine b ∷ (refusals c (treeOf b) ++ brokenLine c b))
 
-further-in : (c : Call) (b : Bytes) → pageCount b ≤ 256 → T (all (λ (l : Line). inCode (l .1)) (further c b))
-unfolding isFormat refusals earlier later makeLines brokenLine all inCode
-further-in format b n = tt
-further-in verdict b n = tt
-further-in (find path) b n = rw (lt-ltb _ _ (to-stops b n path)) tt
-further-in (list path i) b n = rw (lt-ltb _ _ (directory-stops b n path)) tt
-further-in (read path at room) b n = rw (lt-ltb _ _ (to-stops b n path)) tt
-further-in (makeFile path date) b n = rw (lt-ltb _ _ (parent-stops b n path)) tt
-further-in (makeDirectory path date) b n = rw (lt-ltb _ _ (parent-stops b n path)) tt
-further-in (write path at v) b n = rw (lt-ltb _ _ (to-stops b n path)) tt
-further-in (remove path) b n = rw (lt-ltb _ _ (to-stops b n path)) tt
-
-few-pages : (b : Bytes) → T (validLength (length b)) → pageCount b ≤ 256
-unfolding validLength
-few-pages b h =
-    let two = conditions-cons (eqb (length b % 2048) 0) (leb 2048 (length b) ∷ leb (length b) 65536 ∷ []) h .1 in
-    let three = conditions-cons (leb 2048 (length b)) (leb (length b) 65536 ∷ []) two .1 in
-    omega (arith, leb→le (length b) 65536 (conditions-cons (leb (length b) 65536) [] three .0))
+further-in : (m : Bool) (c : Call) (b : Bytes) → 1 ≤ pageCount b → pageCount b ≤ 256 → AllIn (further m c b)
+unfolding all
+further-in true c b low few = tt
+further-in false c b low few = image-in b low few (refusals c (treeOf b) ++ brokenLine c b) (own-in c b few)
 
 answer-in : (c : Call) (b : Bytes) → T (answerIn (answer c b))
 unfolding answer lines settle answerIn inCode all
-answer-in c b = go (validLength (length b)) (few-pages b)
+answer-in c b = go (validLength (length b)) refl
   where
-    go : (v : Bool) → (T v → pageCount b ≤ 256) → T (answerIn (if not v then refused (refusal 1) else settle (further c b) refused (granted (told c (treeOf b)))))
-    go true n = settle-in (further c b) (told c (treeOf b)) (further-in c b (n tt))
-    go false n = tt
+    go : (v : Bool) → validLength (length b) ≡ v
+        → T (answerIn (if not v then refused (refusal 1) else settle (further (isFormat c) c b) refused (granted (told c (treeOf b)))))
+    go true e =
+        let two = pages-in b e in
+        settle-in (further (isFormat c) c b) (told c (treeOf b)) (further-in (isFormat c) c b (two .0) (two .1))
+    go false e = tt
 
 -- ---- what the code tells
 
 record InCode (m : Refusal) : Type 0 where
   pub refuses : 1 ≤ m .number
   pub number : m .number < 256
-  pub first : m .place .0 < 65536
-  pub second : m .place .1 < 65536
-  pub third : m .place .2 < 65536
+  pub place : Fits (m .place)
 
 in-code : (m : Refusal) → T (inCode m) → InCode m
 unfolding inCode all
@@ -116,9 +142,7 @@ in-code m h =
     record {
       refuses = leb→le 1 (m .number) (a .0);
       number = ltb→lt (m .number) 256 (b .0);
-      first = ltb→lt (m .place .0) 65536 (c .0);
-      second = ltb→lt (m .place .1) 65536 (d .0);
-      third = ltb→lt (m .place .2) 65536 (e .0);
+      place = record { first = ltb→lt (m .place .0) 65536 (c .0); second = ltb→lt (m .place .1) 65536 (d .0); third = ltb→lt (m .place .2) 65536 (e .0) };
     }
 
 refused-in : (c : Call) (b : Bytes) (m : Refusal) → answer c b ≡ refused m → InCode m
@@ -127,20 +151,20 @@ refused-in c b m e = in-code m (subst (λ (a : Answer (Told c)). T (answerIn a))
 
 -- The code of a refused call is not 0, and it tells number and place.
 pub code-apart : (c : Call) (b : Bytes) (m : Refusal) → answer c b ≡ refused m → Apart (codeOf (answer c b)) m
-unfolding codeOf refusalCode
+unfolding codeOf packed
 code-apart c b m e =
     let i = refused-in c b m e in
+    let f = i .place in
     let k : codeOf (answer c b) ≡ m .number + 256 * (m .place .0 + 65536 * (m .place .1 + 65536 * m .place .2)) = rw e in
     record { refuses = omega arith; number = omega arith; first = omega arith; second = omega arith; third = omega arith }
 
 -- the same of the place alone, as the code's functions ask it
-pub refused-fits : (c : Call) (b : Bytes) {m : Refusal} → refused m ≡ answer c b → m .place .0 < 65536
-refused-fits c b {m} e = refused-in c b m (sym e) .first
+pub refused-fits : (c : Call) (b : Bytes) {m : Refusal} → refused m ≡ answer c b → Fits (m .place)
+refused-fits c b {m} e = refused-in c b m (sym e) .place
 
-pub place-fits : (c : Call) (b : Bytes) → placeByte (answer c b) < 65536
-unfolding placeByte
+pub place-fits : (c : Call) (b : Bytes) → Fits (placeOf (answer c b))
 place-fits c b = go (answer c b) (refused-in c b)
   where
-    go : (a : Answer (Told c)) → ((m : Refusal) → a ≡ refused m → InCode m) → placeByte a < 65536
-    go (refused m) i = i m refl .first
-    go (granted x) i = omega arith
+    go : (a : Answer (Told c)) → ((m : Refusal) → a ≡ refused m → InCode m) → Fits (placeOf a)
+    go (refused m) i = i m refl .place
+    go (granted x) i = record { first = omega arith; second = omega arith; third = omega arith }

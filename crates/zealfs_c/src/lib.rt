@@ -2,6 +2,7 @@
 // returns the code of the model's `answer`, puts what the answer tells into the out arrays, zeros beside a refusal, and leaves the image and
 // the reader's buffer as `after` and `bufferAfter` say. To C a slice is a pointer and then a length, and a reference to an array a pointer.
 use fields::Position;
+use judge::Fault;
 use refusals::Refusal;
 use zealfs::ChangeAnswer;
 use zealfs::FindAnswer;
@@ -9,27 +10,53 @@ use zealfs::ListAnswer;
 use zealfs::ReadAnswer;
 use zealfs::VerdictAnswer;
 ghost use mathlib.Core.Path.{_≡_};
-ghost use Prim.Native.Nat.{_<_};
 ghost use Rattle.model.specs.Call.{format, verdict, find, list, read, makeFile, makeDirectory, write, remove};
-ghost use Rattle.model.specs.Meaning.{answer, after, bufferAfter};
+ghost use Rattle.model.specs.Meaning.{faultTold, answer, after, bufferAfter};
+ghost use Rattle.judge.specs.Answers.{faultOf};
 ghost use Rattle.refusals.specs.Told.{told};
 ghost use Rattle.zealfs.specs.Answers.{changeAnswer, findDate, listName, listDate};
-ghost use Rattle.zealfs_c.specs.Codes.{refusalCode, codeOf, placeByte, verdictOut, findOut, listOut, readOut};
+ghost use Rattle.zealfs_c.specs.Codes.{packed, refusalCode, codeOf, Fits, placeOf, verdictOut, findOut, listOut, readOut};
 
-// The byte of the path that a refusal points at, 0 where there is none.
+// The three numbers of a place as one.
+fn pack(a: usize, b: usize, c: usize) -> u64
+    requires { ⌜ Fits (a, b, c) ⌝ }
+    ensures { λ n. ⌜ n ≡ packed (a, b, c) ⌝ }
+{
+    a as u64 + 65536 * (b as u64 + 65536 * c as u64)
+}
+
+// Where the image is unsound.
+fn fault_place(fault: Fault) -> u64
+    requires { ⌜ Fits (faultTold (faultOf fault) .place) ⌝ }
+    ensures { λ n. ⌜ n ≡ packed (faultTold (faultOf fault) .place) ⌝ }
+{
+    match fault {
+        Fault::BadEntry(directory, entry) => pack(directory.0, entry, 0),
+        Fault::BadChain(directory, entry, passed) => pack(directory.0, entry, passed),
+        Fault::OwnedTwice(page) => pack(page.0, 0, 0),
+        Fault::MarkedFree(page) => pack(page.0, 0, 0),
+        Fault::LostPage(page) => pack(page.0, 0, 0),
+        Fault::BadCount => pack(0, 0, 0),
+    }
+}
+
+// Where a refusal points: the byte of the path, or the fault's place; 0 where there is none.
 fn place(r: Refusal) -> u64
-    ensures { λ n. ⌜ n ≡ told r .place .0 ⌝ }
+    requires { ⌜ Fits (told r .place) ⌝ }
+    ensures { λ n. ⌜ n ≡ packed (told r .place) ⌝ }
 {
     match r {
-        Refusal::NoSuchName(byte) => byte as u64,
-        Refusal::NotADirectory(byte) => byte as u64,
+        Refusal::Unsound(fault) => fault_place(fault),
+        Refusal::NoSuchName(byte) => pack(byte, 0, 0),
+        Refusal::NotADirectory(byte) => pack(byte, 0, 0),
         _ => 0,
     }
 }
 
-// A refusal as C gets it. A walk stops within the first 65,536 bytes of a path of any length, so the place has room: law `place-fits`.
+// A refusal as C gets it. A walk stops within the first 65,536 bytes of a path of any length, and pages, entries and what passed are
+// few, so the place has room: law `place-fits`.
 fn code(r: Refusal) -> u64
-    requires { ⌜ told r .place .0 < 65536 ⌝ }
+    requires { ⌜ Fits (told r .place) ⌝ }
     ensures { λ n. ⌜ n ≡ refusalCode (told r) ⌝ }
 {
     refusals::number(r) as u64 + 256 * place(r)
@@ -37,7 +64,7 @@ fn code(r: Refusal) -> u64
 
 // The code of a call that tells nothing else.
 fn change_code(a: ChangeAnswer) -> u64
-    requires { ⌜ placeByte (changeAnswer a) < 65536 ⌝ }
+    requires { ⌜ Fits (placeOf (changeAnswer a)) ⌝ }
     ensures { λ n. ⌜ n ≡ codeOf (changeAnswer a) ⌝ }
 {
     match a {

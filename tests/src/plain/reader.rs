@@ -1,4 +1,5 @@
-//! The judge: reads an image into the tree, or gives the number that says no.
+//! The judge: reads an image into the tree, or tells its first fault, in the
+//! order of document 02 §2.
 
 use super::path::is_legal_name;
 use super::tree::{Directory, Entry, Node, Tree};
@@ -6,12 +7,7 @@ use super::{pages_of_file, pages_of_image};
 use super::{BITMAP_AT, CONTENT, DIRECTORY_ENTRIES, ENTRY, PAGE, ROOT_ENTRIES, ROOT_ENTRIES_AT};
 use crate::calls::{Refusal, NAME_BYTES};
 
-const UNSOUND: Refusal = Refusal {
-    number: 3,
-    place: [0; 3],
-};
-
-/// The tree that a sound image means; else refusal 1, 2 or 3.
+/// The tree that a sound image means; else refusal 1, 2, 3 or 16 to 20.
 pub fn judge(image: &[u8]) -> Result<Tree, Refusal> {
     let pages = pages_of_image(image.len())?;
     let in_use = (pages / 8) as u8;
@@ -22,11 +18,9 @@ pub fn judge(image: &[u8]) -> Result<Tree, Refusal> {
         image,
         owned: vec![false; pages],
     };
-    reader.judge_free_count()?;
-    // The header owns page 0, so nobody else may.
-    reader.owned[0] = true;
-    let root = reader.directory(ROOT_ENTRIES_AT, ROOT_ENTRIES)?;
-    reader.judge_bitmap()?;
+    let root = reader.directory(0)?;
+    reader.judge_lost_pages()?;
+    reader.judge_header()?;
     Ok(Tree { pages, root })
 }
 
@@ -35,97 +29,150 @@ pub fn is_allocated(image: &[u8], page: usize) -> bool {
     image[BITMAP_AT + page / 8] >> (page % 8) & 1 == 1
 }
 
+/// Which entry it is: the page of its directory, 0 for the root, and its
+/// number there.
+#[derive(Clone, Copy)]
+struct Place {
+    directory: usize,
+    number: usize,
+}
+
+impl Place {
+    /// The 32 bytes of the entry.
+    fn bytes(self, image: &[u8]) -> &[u8] {
+        let entries_at = match self.directory {
+            0 => ROOT_ENTRIES_AT,
+            page => page * PAGE,
+        };
+        let at = entries_at + self.number * ENTRY;
+        &image[at..at + ENTRY]
+    }
+
+    fn bad_entry(self) -> Refusal {
+        Refusal::at_entry(self.directory, self.number)
+    }
+
+    fn bad_chain(self, passed: usize) -> Refusal {
+        Refusal::at_chain(self.directory, self.number, passed)
+    }
+}
+
 struct Reader<'a> {
     image: &'a [u8],
-    /// Which pages have been met, one flag for each page of the image.
+    /// Which pages entries have been found to own, one flag for each page of
+    /// the image.
     owned: Vec<bool>,
 }
 
 impl Reader<'_> {
-    fn judge_free_count(&self) -> Result<(), Refusal> {
-        let pages = self.owned.len();
-        let zero_bits = (0..pages).filter(|&page| !is_allocated(self.image, page));
-        let counted = zero_bits.count() == usize::from(self.image[3]);
-        sound_if(counted && is_allocated(self.image, 0))
-    }
-
-    /// Every page is allocated exactly if it is owned.
-    fn judge_bitmap(&self) -> Result<(), Refusal> {
-        let mut pages = self.owned.iter().enumerate();
-        sound_if(pages.all(|(page, &owned)| is_allocated(self.image, page) == owned))
-    }
-
-    /// Takes a page for one owner.
-    fn own(&mut self, page: usize) -> Result<(), Refusal> {
-        sound_if(page < self.owned.len() && !self.owned[page])?;
-        self.owned[page] = true;
-        Ok(())
-    }
-
-    fn directory(&mut self, entries_at: usize, count: usize) -> Result<Directory, Refusal> {
-        let mut entries: Vec<Option<Entry>> = Vec::with_capacity(count);
+    /// The directory on that page.
+    fn directory(&mut self, page: usize) -> Result<Directory, Refusal> {
+        let count = match page {
+            0 => ROOT_ENTRIES,
+            _ => DIRECTORY_ENTRIES,
+        };
+        let mut entries = Vec::with_capacity(count);
         for number in 0..count {
-            let entry = self.entry(entries_at + number * ENTRY)?;
-            if let Some(new) = &entry {
-                sound_if(entries.iter().flatten().all(|old| old.name != new.name))?;
-            }
+            let place = Place {
+                directory: page,
+                number,
+            };
+            let entry = self.entry(place, &entries)?;
             entries.push(entry);
         }
         Ok(Directory { entries })
     }
 
-    fn entry(&mut self, at: usize) -> Result<Option<Entry>, Refusal> {
-        let image = self.image;
-        let bytes = &image[at..at + ENTRY];
+    /// The entry there, after the `earlier` ones of its directory.
+    fn entry(&mut self, place: Place, earlier: &[Option<Entry>]) -> Result<Option<Entry>, Refusal> {
+        let bytes = place.bytes(self.image);
         let is_occupied = bytes[0] & 0x80 != 0;
         if !is_occupied {
             return Ok(None);
         }
-        let name = stored_name(&bytes[1..1 + NAME_BYTES])?;
+        let name = stored_name(&bytes[1..1 + NAME_BYTES]).ok_or(place.bad_entry())?;
+        if earlier.iter().flatten().any(|other| other.name == name) {
+            return Err(place.bad_entry());
+        }
         let start = usize::from(bytes[17]);
         let size = usize::from(u16::from_le_bytes([bytes[18], bytes[19]]));
         let date = bytes[20..28].try_into().expect("a date has 8 bytes");
         let is_directory = bytes[0] & 0x01 != 0;
         let node = if is_directory {
-            sound_if(size == 0x0100)?;
-            self.own(start)?;
-            Node::Directory(self.directory(start * PAGE, DIRECTORY_ENTRIES)?)
+            if size != 0x0100 {
+                return Err(place.bad_entry());
+            }
+            self.own(start, place, 0)?;
+            Node::Directory(self.directory(start)?)
         } else {
-            Node::File(self.content(start, size)?)
+            Node::File(self.content(start, size, place)?)
         };
         Ok(Some(Entry { name, date, node }))
     }
 
+    /// Takes a page for the entry, of whose pages so many have passed.
+    fn own(&mut self, page: usize, place: Place, passed: usize) -> Result<(), Refusal> {
+        let in_range = 1..self.owned.len();
+        if !in_range.contains(&page) {
+            return Err(place.bad_chain(passed));
+        }
+        if self.owned[page] {
+            return Err(Refusal::at_page(18, page));
+        }
+        if !is_allocated(self.image, page) {
+            return Err(Refusal::at_page(20, page));
+        }
+        self.owned[page] = true;
+        Ok(())
+    }
+
     /// The content of a file, by its chain of pages.
-    fn content(&mut self, start: usize, size: usize) -> Result<Vec<u8>, Refusal> {
+    fn content(&mut self, start: usize, size: usize, place: Place) -> Result<Vec<u8>, Refusal> {
         let mut content = Vec::with_capacity(size);
+        let count = pages_of_file(size);
         let mut page = start;
-        for _ in 0..pages_of_file(size) {
-            // A chain that ends early comes to page 0, which is owned.
-            self.own(page)?;
+        for passed in 0..count {
+            // A chain that ends early comes to page 0, which is out of range.
+            self.own(page, place, passed)?;
             let bytes = &self.image[page * PAGE..(page + 1) * PAGE];
             let wanted = (size - content.len()).min(CONTENT);
             content.extend_from_slice(&bytes[1..1 + wanted]);
             page = usize::from(bytes[0]);
         }
-        // The last link is 0.
-        sound_if(page == 0)?;
+        let last_link = page;
+        if last_link != 0 {
+            return Err(place.bad_chain(count));
+        }
         Ok(content)
     }
+
+    /// After the walk every page that is marked has an owner. Page 0 is the
+    /// header's, whatever its bit says.
+    fn judge_lost_pages(&self) -> Result<(), Refusal> {
+        let is_lost = |&page: &usize| is_allocated(self.image, page) && !self.owned[page];
+        match (1..self.owned.len()).find(is_lost) {
+            Some(page) => Err(Refusal::at_page(19, page)),
+            None => Ok(()),
+        }
+    }
+
+    /// Bit 0 and byte 3.
+    fn judge_header(&self) -> Result<(), Refusal> {
+        let pages = 0..self.owned.len();
+        let zero_bits = pages.filter(|&page| !is_allocated(self.image, page));
+        let is_counted = zero_bits.count() == usize::from(self.image[3]);
+        if is_counted && is_allocated(self.image, 0) {
+            Ok(())
+        } else {
+            Err(Refusal::number(3))
+        }
+    }
 }
 
-/// The name in the 16 name bytes, without its padding.
-fn stored_name(bytes: &[u8]) -> Result<Vec<u8>, Refusal> {
+/// The name in the 16 name bytes, without its padding; None if it isn't legal.
+pub fn stored_name(bytes: &[u8]) -> Option<Vec<u8>> {
     let length = bytes.iter().position(|&byte| byte == 0);
     let (name, padding) = bytes.split_at(length.unwrap_or(bytes.len()));
-    sound_if(is_legal_name(name) && padding.iter().all(|&byte| byte == 0))?;
-    Ok(name.to_vec())
-}
-
-fn sound_if(holds: bool) -> Result<(), Refusal> {
-    if holds {
-        Ok(())
-    } else {
-        Err(UNSOUND)
-    }
+    let is_good = is_legal_name(name) && padding.iter().all(|&byte| byte == 0);
+    is_good.then(|| name.to_vec())
 }

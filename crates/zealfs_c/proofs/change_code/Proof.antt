@@ -1,11 +1,10 @@
 -- Each arm is the code of its case.
-use Rattle.zealfs_c.specs.Codes.{codeOf, placeByte}
+use Rattle.zealfs_c.specs.Codes.{codeOf}
 use borrow.Author.Needs.{needs}
 use Rattle.zealfs_c.proofs.change_code.Statement.{statement}
 use Rattle.zealfs_c.proofs.change_code.Tie as tie
 
 code-requires : tie.Need-code-requires
-unfolding placeByte
 code-requires c κs = rw (c .before .a .given .1) at (c .before .before .before .pre)
 
 returns : tie.Need-returns

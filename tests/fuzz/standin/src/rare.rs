@@ -43,7 +43,7 @@ impl Rarely {
     /// The image as the faulty verdict sees it.
     fn judged(&self, image: &[u8]) -> Vec<u8> {
         let mut seen = image.to_vec();
-        if Plain.verdict(image).number != 3 {
+        if !judge(image).is_err_and(|refusal| refusal.says_unsound()) {
             return seen;
         }
         for (at, pages) in Survey::of(image).entries {
