@@ -62,7 +62,10 @@ uint64_t zealfs_list(const uint8_t *image, size_t image_len, const uint8_t *path
 uint64_t zealfs_read(const uint8_t *image, size_t image_len, const uint8_t *path, size_t path_len, uint64_t position, uint8_t *buffer,
                      size_t buffer_len, uint64_t out[1]);
 
-/* A date has 8 bytes of two BCD digits: century, year, month, day, weekday, hour, minute, second. */
+/*
+ * A date has 8 bytes of two BCD digits: century, year, month, day, weekday, hour, minute, second. It is a day of the Gregorian calendar
+ * (0000 is a leap year) and a time from 00:00:00 to 23:59:59; the weekday is any two digits.
+ */
 uint64_t zealfs_make_file(uint8_t *image, size_t image_len, const uint8_t *path, size_t path_len, const uint8_t *date, size_t date_len);
 uint64_t zealfs_make_directory(uint8_t *image, size_t image_len, const uint8_t *path, size_t path_len, const uint8_t *date, size_t date_len);
 

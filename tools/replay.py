@@ -7,6 +7,7 @@ The tree is that of document 01, "The plain tree": rows of entries, each empty o
 no image, no page numbers and no chains; of pages it knows N and how many are free. The list below is that of crates/calls/src/main.rt,
 in the same order, and what is answered follows from the calls' arguments alone.
 """
+import calendar
 import sys
 
 N = 8
@@ -92,8 +93,14 @@ def is_good(date):
     text = date.hex()
     if len(date) != 8 or not text.isdecimal():
         return False
-    month, day, hour, minute, second = (int(text[i:i + 2]) for i in (4, 6, 10, 12, 14))
-    return 1 <= month <= 12 and 1 <= day <= 31 and hour <= 23 and minute <= 59 and second <= 59
+    year, month, day = int(text[:4]), int(text[4:6]), int(text[6:8])
+    hour, minute, second = (int(text[i:i + 2]) for i in (10, 12, 14))
+    return 1 <= month <= 12 and 1 <= day <= days_in(year, month) and hour <= 23 and minute <= 59 and second <= 59
+
+
+def days_in(year, month):
+    """The days of a month of the Gregorian calendar, in which 0000 is a leap year (document 02 §3)."""
+    return calendar.monthrange(year, month)[1]
 
 
 # ---- the walk
@@ -253,7 +260,9 @@ def answered(root, name, *arguments):
 
 NOON = bytes.fromhex("2026072506120000")
 NIGHT = bytes.fromhex("1999123105235959")
+LEAP_DAY = bytes.fromhex("2000022902000000")
 MONTH_13 = bytes.fromhex("2026130100000000")
+FEBRUARY_31 = bytes.fromhex("2026023100000000")
 DIGIT_A = bytes.fromhex("2026070a00000000")
 SHORT = bytes.fromhex("20260725061200")
 
@@ -293,12 +302,12 @@ REFUSED_MAKES = [
     ("make_file", b"/new", MONTH_13),
     ("make_directory", b"/new", DIGIT_A),
     ("make_file", b"/new", SHORT),
-    ("make_file", b"/0042", MONTH_13),
+    ("make_file", b"/0042", FEBRUARY_31),
     ("make_file", b"//new", MONTH_13),
     ("make_directory", b"/new/", NOON),
     ("make_file", b"/seventeen letters", NOON),
     ("make_file", b"/bell\x07", NOON),
-    ("make_file", b"/sixteen letters!", NIGHT),
+    ("make_file", b"/sixteen letters!", LEAP_DAY),
 ]
 
 SHORT_WRITES = [

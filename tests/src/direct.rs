@@ -258,12 +258,24 @@ fn check_date(date: &[u8]) -> Result<(), Refusal> {
         return refuse(11);
     }
     // BCD pairs stand in the order of the numbers they mean.
-    let month = (0x01..=0x12).contains(&date[2]);
-    let day = (0x01..=0x31).contains(&date[3]);
-    if month && day && date[5] <= 0x23 && date[6] <= 0x59 && date[7] <= 0x59 {
+    let day = (0x01..=last_day(date)).contains(&date[3]);
+    if day && date[5] <= 0x23 && date[6] <= 0x59 && date[7] <= 0x59 {
         Ok(())
     } else {
         refuse(11)
+    }
+}
+
+/// The last day of a date's month, in BCD; 0 if there is no such month.
+fn last_day(date: &[u8]) -> u8 {
+    // The century decides where the year in it is 0. Ten is 2 in fours.
+    let years = if date[1] == 0 { date[0] } else { date[1] };
+    let is_leap = ((years >> 4) * 2 + (years & 15)) % 4 == 0;
+    match date[2] {
+        0x02 => 0x28 + u8::from(is_leap),
+        0x04 | 0x06 | 0x09 | 0x11 => 0x30,
+        0x01..=0x12 => 0x31,
+        _ => 0,
     }
 }
 

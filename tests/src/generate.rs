@@ -4,6 +4,7 @@
 use crate::assemble::{assemble, nest, Order};
 use crate::calls::{Call, DATE_BYTES};
 use crate::harness::Scenario;
+use crate::plain::path::days_in;
 use crate::plain::tree::{Entry, Node, Tree};
 use crate::plain::{pages_of_file, Replay, CONTENT, PAGE};
 use crate::random::Random;
@@ -400,13 +401,15 @@ impl<'r> Generator<'r> {
         path
     }
 
-    /// Mostly a good date; else one with one field wrong, or of another length.
+    /// Mostly a good date; else one with one field wrong, one that no calendar
+    /// has, or one of another length.
     fn date(&mut self) -> Vec<u8> {
         let good = good_date(self.random);
-        match self.random.weighted(&[30, 2, 1, 1]) {
+        match self.random.weighted(&[30, 2, 2, 1, 1]) {
             0 => good.to_vec(),
             1 => bad_date(good, self.random).to_vec(),
-            2 => self.random.bytes(DATE_BYTES),
+            2 => unreal_date(good, self.random).to_vec(),
+            3 => self.random.bytes(DATE_BYTES),
             _ => {
                 let length = *self.random.pick(&[0, 1, 7, 9, 16]);
                 good.iter().copied().cycle().take(length).collect()
@@ -435,7 +438,8 @@ fn bcd(number: usize) -> u8 {
     (number / 10 * 16 + number % 10) as u8
 }
 
-/// The lowest and the highest value of each field of a date.
+/// The lowest and the highest value of each field of a date; of the day, in the
+/// longest month.
 const FIELDS: [(usize, usize); DATE_BYTES] = [
     (0, 99),
     (0, 99),
@@ -447,15 +451,37 @@ const FIELDS: [(usize, usize); DATE_BYTES] = [
     (0, 59),
 ];
 
+/// Years at which the rule of leap years turns.
+const YEARS: [usize; 12] = [0, 1, 4, 100, 400, 1600, 1900, 2000, 2023, 2024, 2100, 9999];
+
+/// Any good date, often of February and often the last day of its month.
 fn good_date(random: &mut Random) -> [u8; DATE_BYTES] {
-    FIELDS.map(|(low, high)| {
-        let number = match random.below(4) {
-            0 => low,
-            1 => high,
-            _ => random.between(low, high),
-        };
-        bcd(number)
-    })
+    let mut date = FIELDS.map(|(low, high)| bcd(near_an_end(low, high, random)));
+    if random.chance(1, 2) {
+        let year = *random.pick(&YEARS);
+        (date[0], date[1]) = (bcd(year / 100), bcd(year % 100));
+    }
+    if random.chance(1, 4) {
+        date[2] = 0x02;
+    }
+    date[3] = bcd(near_an_end(1, last_day(&date), random));
+    date
+}
+
+/// A number of a range: half of the time its first or its last.
+fn near_an_end(low: usize, high: usize, random: &mut Random) -> usize {
+    match random.below(4) {
+        0 => low,
+        1 => high,
+        _ => random.between(low, high),
+    }
+}
+
+/// The last day of the month of a good date.
+fn last_day(date: &[u8; DATE_BYTES]) -> usize {
+    let number = |byte: u8| byte / 16 * 10 + byte % 16;
+    let year = u16::from(number(date[0])) * 100 + u16::from(number(date[1]));
+    usize::from(days_in(year, number(date[2])))
 }
 
 /// Makes one field of a good date wrong, by its digits or by its range.
@@ -469,5 +495,12 @@ fn bad_date(mut date: [u8; DATE_BYTES], random: &mut Random) -> [u8; DATE_BYTES]
         2 => date[field] & 0xF0 | digit,
         _ => date[field] & 0x0F | digit << 4,
     };
+    date
+}
+
+/// A day that the month of a good date doesn't have, but another month may.
+fn unreal_date(mut date: [u8; DATE_BYTES], random: &mut Random) -> [u8; DATE_BYTES] {
+    let past = last_day(&date) + 1;
+    date[3] = bcd(random.between(past, past.max(31)));
     date
 }

@@ -456,7 +456,8 @@ fn lengths_of_more_than_32_bits() {
     }
 }
 
-/// Every byte of a date through all its values.
+/// Every byte of a date through all its values, the others those of a day in
+/// November.
 #[test]
 fn dates() {
     let image = Desk::fresh(&Plain, 2048).image;
@@ -464,7 +465,7 @@ fn dates() {
         (0, 99),
         (0, 99),
         (1, 12),
-        (1, 31),
+        (1, 30),
         (0, 99),
         (0, 23),
         (0, 59),
@@ -484,6 +485,85 @@ fn dates() {
                 assert_eq!(answer.number, expected, "{}: {date:02X?}", subject.name);
             }
         }
+    }
+}
+
+fn bcd(number: u16) -> u8 {
+    (number / 10 * 16 + number % 10) as u8
+}
+
+/// Whether a file is made with the date.
+fn is_made(calls: &dyn Calls, image: &[u8], year: u16, month: u16, day: u16) -> bool {
+    let mut date = DATE;
+    let numbers = [year / 100, year % 100, month, day];
+    date[..4].copy_from_slice(&numbers.map(bcd));
+    let answer = calls.make_file(&mut image.to_vec(), b"/F", &date);
+    assert!([0, 11].contains(&answer.number), "{date:02X?}");
+    answer.is_granted()
+}
+
+/// The 29th of February, and the 30th and 31st of every month.
+#[test]
+fn last_days_of_months() {
+    let image = Desk::fresh(&Plain, 2048).image;
+    let leap_days = [
+        (0, true),
+        (1500, false),
+        (1600, true),
+        (1900, false),
+        (2000, true),
+        (2023, false),
+        (2024, true),
+        (2100, false),
+    ];
+    for subject in all() {
+        let is_made = |year, month, day| is_made(subject.calls.as_ref(), &image, year, month, day);
+        for (year, is_leap) in leap_days {
+            assert!(is_made(year, 2, 28), "{}: {year}", subject.name);
+            assert_eq!(is_made(year, 2, 29), is_leap, "{}: {year}", subject.name);
+        }
+        for month in 1..=12 {
+            let (thirty, thirty_one) = (is_made(2023, month, 30), is_made(2023, month, 31));
+            assert_eq!(thirty, month != 2, "{}: {month}", subject.name);
+            let long = [1, 3, 5, 7, 8, 10, 12].contains(&month);
+            assert_eq!(thirty_one, long, "{}: {month}", subject.name);
+        }
+        // No day is left out where the older calendar ended.
+        assert!((1..=31).all(|day| is_made(1582, 10, day)));
+    }
+}
+
+/// The calendar repeats after 400 years, which have 146,097 days: 20,871 weeks.
+#[test]
+fn days_of_400_years() {
+    let image = Desk::fresh(&Plain, 2048).image;
+    for subject in all() {
+        for first in [0, 1600, 9600] {
+            let mut days = 0;
+            for year in first..first + 400 {
+                for month in 0..=13 {
+                    let made =
+                        |&day: &u16| is_made(subject.calls.as_ref(), &image, year, month, day);
+                    days += (0..=32).filter(made).count();
+                }
+            }
+            assert_eq!(days, 146_097, "{}: from {first}", subject.name);
+        }
+    }
+}
+
+/// The verdict judges no stored date, and find and list tell it as it is.
+#[test]
+fn stored_dates_are_not_judged() {
+    let mut sound = Desk::fresh(&Plain, 2048);
+    assert_eq!(sound.make_file("/F"), 0);
+    let unreal = [0x20, 0x26, 0x02, 0x31, 0x07, 0x20, 0x30, 0x59];
+    sound.image[64 + 20..64 + 28].copy_from_slice(&unreal);
+    for subject in all() {
+        let calls = subject.calls.as_ref();
+        assert!(calls.verdict(&sound.image).is_granted());
+        assert_eq!(calls.find(&sound.image, b"/F").date, unreal);
+        assert_eq!(calls.list(&sound.image, b"/", 0).date, unreal);
     }
 }
 

@@ -7,8 +7,12 @@ const NOON: [u8; 8] = [0x20, 0x26, 0x07, 0x25, 0x06, 0x12, 0x00, 0x00];
 
 const NIGHT: [u8; 8] = [0x19, 0x99, 0x12, 0x31, 0x05, 0x23, 0x59, 0x59];
 
-// Three dates that are not good: of a month 13, with a digit A, and of seven bytes.
+const LEAP_DAY: [u8; 8] = [0x20, 0x00, 0x02, 0x29, 0x02, 0x00, 0x00, 0x00];
+
+// Four dates that are not good: of a month 13, of a day that February never has, with a digit A, and of seven bytes.
 const MONTH_13: [u8; 8] = [0x20, 0x26, 0x13, 0x01, 0x00, 0x00, 0x00, 0x00];
+
+const FEBRUARY_31: [u8; 8] = [0x20, 0x26, 0x02, 0x31, 0x00, 0x00, 0x00, 0x00];
 
 const DIGIT_A: [u8; 8] = [0x20, 0x26, 0x07, 0x0A, 0x00, 0x00, 0x00, 0x00];
 
@@ -52,12 +56,12 @@ fn refused_makes(image: &mut Image) {
     shown::make_file(image, b"/new", &MONTH_13);
     shown::make_directory(image, b"/new", &DIGIT_A);
     shown::make_file(image, b"/new", &SHORT);
-    shown::make_file(image, b"/0042", &MONTH_13);
+    shown::make_file(image, b"/0042", &FEBRUARY_31);
     shown::make_file(image, b"//new", &MONTH_13);
     shown::make_directory(image, b"/new/", &NOON);
     shown::make_file(image, b"/seventeen letters", &NOON);
     shown::make_file(image, b"/bell\x07", &NOON);
-    shown::make_file(image, b"/sixteen letters!", &NIGHT);
+    shown::make_file(image, b"/sixteen letters!", &LEAP_DAY);
 }
 
 fn short_writes(image: &mut Image) {

@@ -11,3 +11,5 @@ pub mod Changes
 pub mod Soundness
 pub mod Pictures
 pub mod Values
+-- Dates that are in the calendar, and dates that are not.
+pub mod Calendar

@@ -9,7 +9,7 @@ use Rattle.volume.specs.Chain.{chain, beyond, spread}
 use Rattle.volume.specs.Geometry as On
 use Rattle.model.specs.Layout.{pagesFor, validLength, validHeader}
 use Rattle.model.specs.Name.{legalByte, legalRest, legalName, legalText, padded, unpadded}
-use Rattle.model.specs.Date.{isBcd, bcd, between, goodDate}
+use Rattle.model.specs.Date.{isBcd, bcd, between, isLeap, daysIn, goodDate}
 use Rattle.model.specs.Entry.{entries, entryAt, newEntry}
 use Rattle.model.specs.Sound.{pagesOf, goodEntry, isNamed, sameName, namesApart, goodDirectory, reachedBy, reached, soundTo, sound, owners}
 use Rattle.model.specs.Judge.{thenJudge, judgePage, judgeChain, freshName, judgeEntry, judgeEntries, judgeDirectory, lostOr, judgeRest, judge, isClean}
@@ -78,7 +78,7 @@ turns-are (c ∷ cs) b =
 
 -- Everything that a list of calls computes with: to unfold this is to unfold them all.
 unfoldable pub computing : Unit {0}
-unfolding flatMap same all any keep lastOr distinct countFrom first chain beyond spread On.pageBit On.zeroBits On.lowestFree On.mark On.unmark On.taken On.released On.grown On.gained On.jointOf On.written pagesFor validLength validHeader legalByte legalRest legalName legalText padded unpadded isBcd bcd between goodDate entries entryAt newEntry pagesOf goodEntry isNamed sameName namesApart goodDirectory reachedBy reached soundTo sound owners thenJudge judgePage judgeChain freshName judgeEntry judgeEntries judgeDirectory lostOr judgeRest judge isClean emptyRow width held needs freeNumber lookup before texts namesFrom pathTo pathOf isNoPath isRoot contentOf entryRow rowOf rowAt treeOf enter walk nodeNamed inWalked walkTo entryNamed enterOn walkOn arrivedOr formatted isVacant lowestVacant made rewritten written removed isMissing isBlocked stoppedAt isThere isDirectoryNode contentIn rowIn wanted makeLines earlier later refusals settle foundAt listed told filled isFormat brokenLine lines effect answer after bufferAfter text run results turn turns
+unfolding flatMap same all any keep lastOr distinct countFrom first chain beyond spread On.pageBit On.zeroBits On.lowestFree On.mark On.unmark On.taken On.released On.grown On.gained On.jointOf On.written pagesFor validLength validHeader legalByte legalRest legalName legalText padded unpadded isBcd bcd between isLeap daysIn goodDate entries entryAt newEntry pagesOf goodEntry isNamed sameName namesApart goodDirectory reachedBy reached soundTo sound owners thenJudge judgePage judgeChain freshName judgeEntry judgeEntries judgeDirectory lostOr judgeRest judge isClean emptyRow width held needs freeNumber lookup before texts namesFrom pathTo pathOf isNoPath isRoot contentOf entryRow rowOf rowAt treeOf enter walk nodeNamed inWalked walkTo entryNamed enterOn walkOn arrivedOr formatted isVacant lowestVacant made rewritten written removed isMissing isBlocked stoppedAt isThere isDirectoryNode contentIn rowIn wanted makeLines earlier later refusals settle foundAt listed told filled isFormat brokenLine lines effect answer after bufferAfter text run results turn turns
 computing = tt
 
 -- ---- cases

@@ -48,17 +48,28 @@ pub fn good_date(date: &[u8]) -> Result<[u8; DATE_BYTES], Refusal> {
     for (field, &byte) in fields.iter_mut().zip(&stored) {
         *field = two_digits(byte).ok_or(bad)?;
     }
-    let [_century, _year, month, day, _weekday, hour, minute, second] = fields;
-    let in_range = (1..=12).contains(&month)
-        && (1..=31).contains(&day)
-        && hour <= 23
-        && minute <= 59
-        && second <= 59;
-    if in_range {
+    let [century, year, month, day, _weekday, hour, minute, second] = fields;
+    let year = u16::from(century) * 100 + u16::from(year);
+    let is_day = (1..=12).contains(&month) && (1..=days_in(year, month)).contains(&day);
+    if is_day && hour <= 23 && minute <= 59 && second <= 59 {
         Ok(stored)
     } else {
         Err(bad)
     }
+}
+
+/// The days of a month, 1 to 12, of the Gregorian calendar (document 02 §3).
+pub fn days_in(year: u16, month: u8) -> u8 {
+    match month {
+        2 if is_leap(year) => 29,
+        2 => 28,
+        4 | 6 | 9 | 11 => 30,
+        _ => 31,
+    }
+}
+
+fn is_leap(year: u16) -> bool {
+    year % 4 == 0 && year % 100 != 0 || year % 400 == 0
 }
 
 /// The number that two BCD digits stand for.
@@ -115,5 +126,19 @@ mod tests {
         }
         assert!(good_date(&good[..7]).is_err());
         assert!(good_date(&[0; 8]).is_err());
+    }
+
+    #[test]
+    fn months_of_a_year() {
+        let days = |year| [1, 2, 3, 4, 5, 6, 7, 8, 9, 10, 11, 12].map(|month| days_in(year, month));
+        let common = [31, 28, 31, 30, 31, 30, 31, 31, 30, 31, 30, 31];
+        let mut leap = common;
+        leap[1] = 29;
+        for year in [0, 1600, 2000, 2024] {
+            assert_eq!(days(year), leap, "{year}");
+        }
+        for year in [1900, 2023, 2100] {
+            assert_eq!(days(year), common, "{year}");
+        }
     }
 }

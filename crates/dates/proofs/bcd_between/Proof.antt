@@ -7,11 +7,11 @@ use Rattle.dates.proofs.bcd_between.Tie as tie
 
 returns : tie.Need-returns
 unfolding between
-returns c = rw (← c .before .bcd .ensures, lt-leb _ _ (c .if1 .taken))
+returns c = rw (← c .before .bcd .ensures .0, lt-leb _ _ (c .if1 .taken))
 
 returns-2 : tie.Need-returns-2
 unfolding between
-returns-2 c = rw (← c .before .bcd .ensures, le-leb _ _ (c .if1 .left))
+returns-2 c = rw (← c .before .bcd .ensures .0, le-leb _ _ (c .if1 .left))
 
 pub bcd-between-spec : {M : Type 1} → statement M
 bcd-between-spec = tie.close (tie.spec (λ c κs. search needs) returns returns-2)

@@ -1,4 +1,4 @@
--- The month's test decides first, then the day's.
+-- The month's test decides first, then the day's, up to the last of that month in that year.
 use mathlib.Core.Path.{sym, _∙_}
 use borrow.Author.Tests.{not-true, not-false}
 use borrow.Author.Needs.{needs}
@@ -9,7 +9,12 @@ returns : tie.Need-returns
 returns c = rw (sym (c .before .bcd-between .ensures) ∙ not-true _ (c .if1 .taken))
 
 returns-2 : tie.Need-returns-2
-returns-2 c = rw (sym (c .before .before .before .bcd-between .ensures) ∙ not-false _ (c .before .before .if1 .left)) (c .bcd-between2 .ensures)
+returns-2 c =
+    let last = c .before .before in
+    let year = last .before .before .before in
+    let month = year .before in
+    rw (sym (month .before .bcd-between .ensures) ∙ not-false _ (month .if1 .left), ← year .year-of .ensures, ← last .before .bcd .ensures .0, ← last .days-in .ensures)
+    (c .bcd-between2 .ensures)
 
 pub is-day-spec : {M : Type 1} → statement M
 is-day-spec =
@@ -18,6 +23,10 @@ is-day-spec =
     (λ c. search needs)
     (λ c κs. search needs)
     returns
+    (λ c κs. search needs)
+    (λ c. search needs)
+    (λ c κs. search needs)
+    (λ c κs. search needs)
     (λ c. search needs)
     (λ c κs. search needs)
     returns-2)
