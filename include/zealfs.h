@@ -30,7 +30,7 @@
  * Entries go in order, what a directory holds before the entry after it; of one entry 16 comes first, then its pages one after the other. 19
  * comes after all entries, and 3 last.
  *
- * (15, a broken chain, is never given: such an image has a fault.) A refused call sets its out arrays to zeros and changes no other byte.
+ * A refused call sets its out arrays to zeros and changes no other byte.
  *
  * What the caller sees to: a pointer is not null and points to as many initialized elements as the length after it or the array's bound
  * says, and what a function may write overlaps nothing else that it is handed. A path has a length and no final 0.

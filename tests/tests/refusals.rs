@@ -8,8 +8,8 @@ use zealfs_tests::subjects::all;
 
 /// The numbers in the order of the table. Of the faults that the judge's walk
 /// tells, [`WALK`], no image here has two; tests/first_fault.rs has their order.
-const TABLE: [u8; 20] = [
-    1, 2, 16, 17, 18, 20, 19, 3, 4, 11, 14, 5, 6, 8, 7, 12, 9, 10, 13, 15,
+const TABLE: [u8; 19] = [
+    1, 2, 16, 17, 18, 20, 19, 3, 4, 11, 14, 5, 6, 8, 7, 12, 9, 10, 13,
 ];
 
 const WALK: [u8; 4] = [16, 17, 18, 20];

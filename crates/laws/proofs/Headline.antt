@@ -4,10 +4,11 @@ use lib.Dec.{T}
 use Rattle.volume.specs.Bytes.{Bytes}
 use Rattle.model.specs.Sound.{sound}
 use Rattle.model.specs.Image.{treeOf}
-use Rattle.model.specs.Demands.{Demand1, Demand2, Demand3, soundly, freshly}
+use Rattle.model.specs.Demands.{Demand1, Demand2, Demand3, soundly, freshly, Chains}
 use Rattle.laws.proofs.Steps.{as-tree, untouched, unsound, after-format, names-apart}
 use Rattle.laws.proofs.Judged.{judge-sound}
 use Rattle.laws.proofs.Lists.{demanded}
+use Rattle.laws.proofs.Broken.{never-broken}
 
 pub demand-1 : Demand1
 demand-1 = untouched
@@ -20,3 +21,7 @@ demand-3 b t (soundly h e) cs rs b′ run = demanded cs b t h e rs b′ run
 demand-3 b t (freshly old v q e) cs rs b′ run =
     let r = after-format old v in
     demanded cs b t (subst (λ (x : Bytes). T (sound x)) (sym q) (r .0)) (ap treeOf q ∙ r .1 ∙ e) rs b′ run
+
+-- paper 02 §9
+pub unbroken : Chains
+unbroken = never-broken

@@ -22,15 +22,6 @@ passed l ls e = go (l .0) e
     go true u = absurd (Option·some-ne-none (l .1) u)
     go false u = (tt, u)
 
-pub passes-left : (ls ms : List Line) → Passes (ls ++ ms) → Passes ls
-unfolding settle
-passes-left [] ms e = refl
-passes-left (l ∷ ls) ms e = go (l .0) e (passes-left ls ms)
-  where
-    go : (c : Bool) → (if c then some (l .1) else settle (ls ++ ms) some none) ≡ none → (Passes (ls ++ ms) → Passes ls) → (if c then some (l .1) else settle ls some none) ≡ none
-    go true u next = u
-    go false u next = next u
-
 module _ {A : Type 0} (f : Refusal → A) where
   pub settle-skip : (c : Bool) (r : Refusal) (ls : List Line) (x : A) → T (not c) → settle ((c, r) ∷ ls) f x ≡ settle ls f x
   unfolding settle

@@ -18,11 +18,11 @@ use Rattle.model.specs.Image.{rowAt, treeOf}
 use Rattle.model.specs.Walk.{Walked, arrived, missing, blocked, walk, walkTo, arrivedOr}
 use Rattle.model.specs.Call.{Call, write, remove, Refusal, refusal}
 use Rattle.model.specs.Refusal.{Line, isMissing, isBlocked, isThere, isDirectoryNode, rowIn, node, size, wanted, makeLines, earlier, later, refusals, Passes}
-use Rattle.model.specs.Meaning.{soundLine, imageLines, isFormat, brokenLine, lines}
+use Rattle.model.specs.Meaning.{soundLine, imageLines, isFormat, lines}
 use Rattle.laws.proofs.Facts.{Facts}
 use Rattle.laws.proofs.Counting.{free-number}
 use Rattle.laws.proofs.Make.{Clear}
-use Rattle.laws.proofs.Lines.{passed, passes-left}
+use Rattle.laws.proofs.Lines.{passed}
 use Rattle.laws.proofs.Names.{last-legal, date-length}
 
 pub image-passed : (b : Bytes) (ls : List Line) → Passes (imageLines b ++ ls) → T (sound b) × Passes ls
@@ -38,7 +38,7 @@ sound-passed c b h e =
     let p1 = passed _ _ e in
     let p2 = passed _ _ (subst Passes (if-no (isFormat c) [] _ h) (p1 .1)) in
     let p3 = passed _ _ (p2 .1) in
-    (not-not (sound b) (p3 .0), passes-left (refusals c (treeOf b)) (brokenLine c b) (p3 .1))
+    (not-not (sound b) (p3 .0), p3 .1)
 
 -- ---- the calls that change an image: what their lines say, where the path leads to a last name
 

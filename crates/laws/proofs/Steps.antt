@@ -16,34 +16,20 @@ use Rattle.model.specs.Layout.{pageCount, validLength, validHeader}
 use Rattle.model.specs.Sound.{sound}
 use Rattle.model.specs.Judge.{badEntry, badChain, ownedTwice, markedFree, lostPage, badCount, Judged, fault, clean, judge, isClean}
 use Rattle.model.specs.Tree.{Tree, freeNumber}
-use Rattle.model.specs.Path.{pathOf}
 use Rattle.model.specs.Image.{treeOf}
 use Rattle.model.specs.Call.{Call, format, verdict, find, list, read, makeFile, makeDirectory, write, remove, bufferBefore, Refusal, refusal, refused, granted}
 use Rattle.model.specs.Refusal.{Line, wanted, makeLines, earlier, later, refusals, settle, Passes, tableOrder}
-use Rattle.model.specs.Meaning.{freshTree, told, filled, changed, treeAnswer, treeBuffer, treeAfter, firstFault, soundLine, imageLines, isFormat, isBroken, brokenLine, lines, effect, answer, after, bufferAfter}
+use Rattle.model.specs.Meaning.{freshTree, told, filled, changed, treeAnswer, treeBuffer, treeAfter, firstFault, soundLine, imageLines, isFormat, lines, effect, answer, after, bufferAfter}
 use Rattle.model.specs.Demands.{Untouched, Unsound, byLength, byHeader, byFault, AsTree}
 use Rattle.laws.proofs.Facts.{sound-facts}
 use Rattle.laws.proofs.Judged.{judge-sound}
-use Rattle.laws.proofs.Broken.{never-broken}
 use Rattle.laws.proofs.Format.{fresh}
 use Rattle.laws.proofs.Grants.{granted-law}
-use Rattle.laws.proofs.Lines.{settle-skip, settle-append, settle-both, settle-refused, Numbered, refused-numbered, NoTen, ten-given, rankIn, ranks, rising, InOrder}
+use Rattle.laws.proofs.Lines.{settle-skip, settle-both, settle-refused, Numbered, refused-numbered, NoTen, ten-given, rankIn, ranks, rising, InOrder}
 
 -- ---- on a sound image only the plain tree's lines count
 
 module _ {A : Type 0} (b : Bytes) (h : T (sound b)) (f : Refusal → A) (x : A) where
-  broken-skip : (c : Call) → settle (brokenLine c b) f x ≡ x
-  unfolding settle brokenLine
-  broken-skip format = refl
-  broken-skip verdict = refl
-  broken-skip (find path) = refl
-  broken-skip (list path i) = refl
-  broken-skip (read path at room) = settle-skip f (isBroken b (pathOf path)) (refusal 15) [] x (never-broken b h (pathOf path))
-  broken-skip (makeFile path date) = refl
-  broken-skip (makeDirectory path date) = refl
-  broken-skip (write path at v) = settle-skip f (isBroken b (pathOf path)) (refusal 15) [] x (never-broken b h (pathOf path))
-  broken-skip (remove path) = settle-skip f (isBroken b (pathOf path)) (refusal 15) [] x (never-broken b h (pathOf path))
-
   length-skip : (ls : List Line) → settle ((not (validLength (length b)), refusal 1) ∷ ls) f x ≡ settle ls f x
   length-skip ls = settle-skip f (not (validLength (length b))) (refusal 1) ls x (not-not-of (validLength (length b)) (sound-facts b h .fits))
 
@@ -53,23 +39,17 @@ module _ {A : Type 0} (b : Bytes) (h : T (sound b)) (f : Refusal → A) (x : A) 
       ∙ settle-skip f (not (validHeader b)) (refusal 2) (soundLine b ∷ ls) x (not-not-of (validHeader b) (sound-facts b h .headed))
       ∙ settle-skip f (not (sound b)) (firstFault (judge b)) ls x (not-not-of (sound b) h)
 
-  judged : (c : Call) → settle (imageLines b ++ (refusals c (treeOf b) ++ brokenLine c b)) f x ≡ settle (refusals c (treeOf b)) f x
-  judged c =
-      image-skip (refusals c (treeOf b) ++ brokenLine c b)
-      ∙ settle-append f (refusals c (treeOf b)) (brokenLine c b) x
-      ∙ ap (settle (refusals c (treeOf b)) f) (broken-skip c)
-
   pub settled : (c : Call) → settle (lines c b) f x ≡ settle (refusals c (treeOf b)) f x
   unfolding lines isFormat settle refusals earlier later wanted
   settled format = length-skip [] ∙ rw (leb·suc-zero (freeNumber (treeOf b)))
-  settled verdict = judged verdict
-  settled (find path) = judged (find path)
-  settled (list path i) = judged (list path i)
-  settled (read path at room) = judged (read path at room)
-  settled (makeFile path date) = judged (makeFile path date)
-  settled (makeDirectory path date) = judged (makeDirectory path date)
-  settled (write path at v) = judged (write path at v)
-  settled (remove path) = judged (remove path)
+  settled verdict = image-skip (refusals verdict (treeOf b))
+  settled (find path) = image-skip (refusals (find path) (treeOf b))
+  settled (list path i) = image-skip (refusals (list path i) (treeOf b))
+  settled (read path at room) = image-skip (refusals (read path at room) (treeOf b))
+  settled (makeFile path date) = image-skip (refusals (makeFile path date) (treeOf b))
+  settled (makeDirectory path date) = image-skip (refusals (makeDirectory path date) (treeOf b))
+  settled (write path at v) = image-skip (refusals (write path at v) (treeOf b))
+  settled (remove path) = image-skip (refusals (remove path) (treeOf b))
 
 -- ---- a call on a sound image
 
@@ -101,7 +81,7 @@ fault-numbered (fault badCount) = refl
 fault-numbered (clean marks) = refl
 
 numbered : (c : Call) (b : Bytes) → Numbered (lines c b)
-unfolding all any lines isFormat refusals earlier later makeLines brokenLine tableOrder
+unfolding all any lines isFormat refusals earlier later makeLines tableOrder
 numbered format b = tt
 numbered verdict b = rw (fault-numbered (judge b)) tt
 numbered (find path) b = rw (fault-numbered (judge b)) tt
@@ -138,16 +118,16 @@ fault-rising b ls h = go (judge b)
 
 -- each call's lines stand in the order of the table
 pub in-order : (c : Call) (b : Bytes) → InOrder (lines c b)
-unfolding lines isFormat refusals earlier later makeLines brokenLine tableOrder rankIn rising
+unfolding lines isFormat refusals earlier later makeLines tableOrder rankIn rising
 in-order format b = tt
-in-order verdict b = fault-rising b (refusals verdict (treeOf b) ++ brokenLine verdict b) (tt {0})
-in-order (find path) b = fault-rising b (refusals (find path) (treeOf b) ++ brokenLine (find path) b) (tt {0})
-in-order (list path i) b = fault-rising b (refusals (list path i) (treeOf b) ++ brokenLine (list path i) b) (tt {0})
-in-order (read path at room) b = fault-rising b (refusals (read path at room) (treeOf b) ++ brokenLine (read path at room) b) (tt {0})
-in-order (makeFile path date) b = fault-rising b (refusals (makeFile path date) (treeOf b) ++ brokenLine (makeFile path date) b) (tt {0})
-in-order (makeDirectory path date) b = fault-rising b (refusals (makeDirectory path date) (treeOf b) ++ brokenLine (makeDirectory path date) b) (tt {0})
-in-order (write path at v) b = fault-rising b (refusals (write path at v) (treeOf b) ++ brokenLine (write path at v) b) (tt {0})
-in-order (remove path) b = fault-rising b (refusals (remove path) (treeOf b) ++ brokenLine (remove path) b) (tt {0})
+in-order verdict b = fault-rising b (refusals verdict (treeOf b)) (tt {0})
+in-order (find path) b = fault-rising b (refusals (find path) (treeOf b)) (tt {0})
+in-order (list path i) b = fault-rising b (refusals (list path i) (treeOf b)) (tt {0})
+in-order (read path at room) b = fault-rising b (refusals (read path at room) (treeOf b)) (tt {0})
+in-order (makeFile path date) b = fault-rising b (refusals (makeFile path date) (treeOf b)) (tt {0})
+in-order (makeDirectory path date) b = fault-rising b (refusals (makeDirectory path date) (treeOf b)) (tt {0})
+in-order (write path at v) b = fault-rising b (refusals (write path at v) (treeOf b)) (tt {0})
+in-order (remove path) b = fault-rising b (refusals (remove path) (treeOf b)) (tt {0})
 
 pub untouched : (c : Call) (b : Bytes) (f : Refusal) → answer c b ≡ refused f → Untouched c b f
 unfolding answer after bufferAfter
@@ -163,7 +143,7 @@ unfolding answer lines settle isClean
 unsound c b n u = go (isFormat c) (validLength (length b)) (validHeader b) (sound b) refl refl refl n u refl
   where
     lines-of : Bool → Bool → Bool → Bool → List Line
-    lines-of m l d s = (not l, refusal 1) ∷ (if m then [] else ((not d, refusal 2) ∷ (not s, firstFault (judge b)) ∷ (refusals c (treeOf b) ++ brokenLine c b)))
+    lines-of m l d s = (not l, refusal 1) ∷ (if m then [] else ((not d, refusal 2) ∷ (not s, firstFault (judge b)) ∷ refusals c (treeOf b)))
 
     -- what is not sound is not judged clean
     faulty : T (validLength (length b)) → T (validHeader b) → (j : Judged) → judge b ≡ j → isClean j ≡ false → answer c b ≡ refused (firstFault j) → Unsound c b

@@ -1,4 +1,4 @@
--- The three demands of document 00, as statements about `answer`, `after` and `bufferAfter`. The crate `laws` proves them.
+-- The three demands of document 00, as statements about `answer`, `after` and `bufferAfter`, and that of paper 02 §9. The crate `laws` proves them.
 use mathlib.Core.Path.{_≡_}
 use mathlib.Core.Logic.{_↔_, _≢_}
 use Prim.Native.Nat.{ℕ, _+_, _≤_, _<_}
@@ -7,12 +7,16 @@ use mathlib.Core.List.{List, [], _∷_}
 use lib.ListN.{length}
 use lib.Dec.{T}
 use Rattle.volume.specs.Bytes.{Bytes, same}
-use Rattle.volume.specs.Lists.{member}
-use Rattle.model.specs.Layout.{pageCount, validLength, validHeader, freeCount, pageBit, zeroBits}
-use Rattle.model.specs.Sound.{sound, owners}
+use Rattle.volume.specs.Lists.{all, member}
+use Rattle.volume.specs.Chain.{chain, beyond}
+use Rattle.model.specs.Layout.{pageCount, pagesFor, validLength, validHeader, freeCount, pageBit, zeroBits, link}
+use Rattle.model.specs.Entry.{aFile, aDirectory, entryAt}
+use Rattle.model.specs.Sound.{inRange, sound, reachedEntries, owners}
 use Rattle.model.specs.Judge.{Fault, fault, judge, isClean}
-use Rattle.model.specs.Tree.{Tree, needs, freeNumber}
-use Rattle.model.specs.Image.{treeOf}
+use Rattle.model.specs.Tree.{Row, Tree, needs, freeNumber, fileNode, directoryNode}
+use Rattle.model.specs.Path.{Path, isRoot}
+use Rattle.model.specs.Image.{contentOf, treeOf}
+use Rattle.model.specs.Walk.{arrived, walkTo, entryPosition}
 use Rattle.model.specs.Call.{Call, format, verdict, Told, bufferBefore, Refusal, refusal, Answer, refused, granted}
 use Rattle.model.specs.Refusal.{earlier, wanted, Passes, tableOrder}
 use Rattle.model.specs.Meaning.{freshTree, treeAnswer, treeBuffer, treeAfter, faultTold, isFormat, answer, after, bufferAfter}
@@ -119,3 +123,43 @@ pub data Starts (b : Bytes) (t : Tree) : Type 0 where
 
 abbrev pub Demand3 : Type 0
 Demand3 = (b : Bytes) (t : Tree) → Starts b t → (cs : List Call) (rs : Results cs) (b′ : Bytes) → Runs b cs rs b′ → Demanded b t cs rs b′
+
+-- ---- Paper 02 §9: after the judging the walk of a chain cannot end early or leave the image, so nothing is refused with 15.
+
+-- A chain has as many pages as the size wants, each of them one of the image's and none the header, and ends after them. (An early end is link 0,
+-- which would be the header's page.)
+pub record Unbroken (b : Bytes) (start size : ℕ) : Type 0 where
+  pub inside : T (all (inRange (pageCount b)) (chain (link b) (pagesFor size) start))
+  pub ends : beyond (link b) (pagesFor size) start ≡ 0
+
+-- the entry at a position is a file, whose chain is unbroken and holds this content
+pub record WholeFile (b : Bytes) (at : ℕ) (date content : Bytes) : Type 0 where
+  pub name : Bytes
+  pub start : ℕ
+  pub size : ℕ
+  pub is : entryAt b at ≡ aFile name date start size
+  pub unbroken : Unbroken b start size
+  pub holds : contentOf b size (chain (link b) (pagesFor size) start) ≡ content
+
+-- the entry at a position is a directory, on a page of the image that is not the header
+pub record WholeDirectory (b : Bytes) (at : ℕ) (date : Bytes) : Type 0 where
+  pub name : Bytes
+  pub start : ℕ
+  pub size : ℕ
+  pub is : entryAt b at ≡ aDirectory name date start size
+  pub inside : T (inRange (pageCount b) start)
+
+pub record NeverBroken (b : Bytes) : Type 0 where
+  -- every file and every directory
+  pub everyFile : (at : ℕ) → T (member at (reachedEntries b)) → (name date : Bytes) (start size : ℕ) → entryAt b at ≡ aFile name date start size
+      → Unbroken b start size
+  pub everyDirectory : (at : ℕ) → T (member at (reachedEntries b)) → (name date : Bytes) (start size : ℕ) → entryAt b at ≡ aDirectory name date start size
+      → T (inRange (pageCount b) start)
+  -- what read, write and remove walk: the entry that a path leads to is one of these
+  pub toFile : (path : Path) (date content : Bytes) → walkTo path (treeOf b .root) ≡ arrived (fileNode date content)
+      → WholeFile b (entryPosition b path) date content
+  pub toDirectory : (path : Path) (date : Bytes) (r : Row) → walkTo path (treeOf b .root) ≡ arrived (directoryNode date r) → T (not (isRoot path))
+      → WholeDirectory b (entryPosition b path) date
+
+abbrev pub Chains : Type 0
+Chains = (b : Bytes) → T (sound b) → NeverBroken b

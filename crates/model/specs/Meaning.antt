@@ -2,17 +2,16 @@
 -- bytes of any image. A public call's contract cites `answer`, `after` and `bufferAfter`.
 use Prim.Native.Nat.{ℕ, zero, suc}
 use mathlib.Core.Bool.{Bool, true, false, not}
-use mathlib.Core.List.{List, [], _∷_, _++_}
+use mathlib.Core.List.{List, [], _∷_}
 use lib.ListN.{length, take, drop}
 use Rattle.volume.specs.Bytes.{Bytes, put, if_then_else_}
-use Rattle.volume.specs.Lists.{all}
-use Rattle.model.specs.Layout.{pageSize, pageCount, validLength, validHeader}
-use Rattle.model.specs.Sound.{pagesAt, inRange, sound}
+use Rattle.model.specs.Layout.{pageSize, validLength, validHeader}
+use Rattle.model.specs.Sound.{sound}
 use Rattle.model.specs.Judge.{Fault, badEntry, badChain, ownedTwice, markedFree, lostPage, badCount, Judged, fault, clean, judge}
 use Rattle.model.specs.Tree.{Row, end, free, file, dir, Tree, emptyRow, freeNumber, Node, fileNode, directoryNode, fill, rewrite, vacate}
 use Rattle.model.specs.Path.{Path, pathOf, parents, lastName}
 use Rattle.model.specs.Image.{treeOf}
-use Rattle.model.specs.Walk.{changeAt, entryPosition}
+use Rattle.model.specs.Walk.{changeAt}
 use Rattle.model.specs.Effect.{formatted, fileMade, directoryMade, written, removed}
 use Rattle.model.specs.Call.{Call, format, verdict, find, list, read, makeFile, makeDirectory, write, remove, isFile, isDirectory, Found, Listed, empty, holds, Told, bufferBefore, Refusal, refusal, refusalAt, Answer, refused, granted}
 use Rattle.model.specs.Refusal.{Line, refusals, settle, node, directoryRow, contentIn}
@@ -103,21 +102,6 @@ isFormat (makeDirectory path date) = false
 isFormat (write path at v) = false
 isFormat (remove path) = false
 
--- 15: read, write or remove: the chain ends or leaves the image early. Law `never-broken`: in a sound image it does not.
-abbrev pub isBroken : Bytes → Path → Bool
-isBroken b path = not (all (inRange (pageCount b)) (pagesAt b (entryPosition b path)))
-
-unfoldable pub brokenLine : Call → Bytes → List Line
-brokenLine format b = []
-brokenLine verdict b = []
-brokenLine (find path) b = []
-brokenLine (list path i) b = []
-brokenLine (read path at room) b = (isBroken b (pathOf path), refusal 15) ∷ []
-brokenLine (makeFile path date) b = []
-brokenLine (makeDirectory path date) b = []
-brokenLine (write path at v) b = (isBroken b (pathOf path), refusal 15) ∷ []
-brokenLine (remove path) b = (isBroken b (pathOf path), refusal 15) ∷ []
-
 -- 16 bad entry (directory page, entry); 17 page out of range, or chain not ending where the size says (directory page, entry, how many of its
 -- pages passed); 18 page owned twice, 20 owned page marked free, 19 lost page (the page); 3 bit 0 or byte 3
 abbrev pub faultTold : Fault → Refusal
@@ -149,7 +133,7 @@ lines c b =
     ∷ (if isFormat c then [] else (
     (not (validHeader b), refusal 2)
     ∷ soundLine b
-    ∷ (refusals c (treeOf b) ++ brokenLine c b)))
+    ∷ refusals c (treeOf b)))
 
 -- the bytes after a granted call
 unfoldable pub effect : Call → Bytes → Bytes

@@ -1,5 +1,5 @@
 -- Document 01, "The numbers that say no", on the plain tree. Each call's lines stand in the order of the paper's table, and the first
--- that holds is given. Lines 1 and 2, the faults of paper 02 §2, and 15 ask the bytes and stand in `Meaning`.
+-- that holds is given. Lines 1 and 2 and the faults of paper 02 §2 ask the bytes and stand in `Meaning`.
 use mathlib.Core.Path.{_≡_}
 use Prim.Native.Nat.{ℕ, _+_, _-_, max}
 use mathlib.Core.Bool.{Bool, true, false, not, _||_}
@@ -152,6 +152,6 @@ settle (l ∷ ls) f x = let rest = settle ls f x in if l .0 then f (l .1) else r
 abbrev pub Passes : List Line → Type 0
 Passes ls = settle ls some none ≡ none
 
--- the paper's table from the top down; where 3 stood stand the faults of paper 02 §2, in the order told
+-- the paper's table from the top down; where 3 stood stand the faults of paper 02 §2, in the order told, and 15 is gone (paper 02 §9)
 unfoldable pub tableOrder : List ℕ
-tableOrder = 1 ∷ 2 ∷ 16 ∷ 17 ∷ 18 ∷ 20 ∷ 19 ∷ 3 ∷ 4 ∷ 11 ∷ 14 ∷ 5 ∷ 6 ∷ 8 ∷ 7 ∷ 12 ∷ 9 ∷ 10 ∷ 13 ∷ 15 ∷ []
+tableOrder = 1 ∷ 2 ∷ 16 ∷ 17 ∷ 18 ∷ 20 ∷ 19 ∷ 3 ∷ 4 ∷ 11 ∷ 14 ∷ 5 ∷ 6 ∷ 8 ∷ 7 ∷ 12 ∷ 9 ∷ 10 ∷ 13 ∷ []

@@ -7,7 +7,6 @@ ghost use Rattle.model.specs.Meaning.{faultTold};
 ghost use Rattle.judge.specs.Answers.{faultOf};
 ghost use Rattle.refusals.specs.Told.{told};
 
-// Number 15 has no case: in a sound image a chain neither ends nor leaves the image early.
 pub enum Refusal {
     // 1: the image's length is not one of the allowed.
     BadLength,

@@ -21,7 +21,7 @@ use Rattle.model.specs.Walk.{Walked, arrivedOr, parentPage}
 use Rattle.model.specs.Effect.{lowestVacant, made}
 use Rattle.model.specs.Call.{makeFile, makeDirectory, Refusal, refusal, Answer, refused, granted}
 use Rattle.model.specs.Refusal.{Line, makeLines, wanted, earlier, later, refusals, settle, Passes}
-use Rattle.model.specs.Meaning.{told, imageLines, isFormat, brokenLine, lines, effect, answer, after}
+use Rattle.model.specs.Meaning.{told, imageLines, isFormat, lines, effect, answer, after}
 use Rattle.laws.proofs.Facts.{Facts, sound-facts}
 use Rattle.laws.proofs.Counting.{free-number}
 use Rattle.laws.proofs.Slots.{size}
@@ -38,19 +38,19 @@ use Rattle.zealfs.specs.Makes.{makeSettled, makeAnswer, makeAfter}
 
 module _ (b path date : Bytes) where
   pub file-answer : makeAnswer b path date (pagesFor 0) ≡ answer (makeFile path date) b
-  unfolding makeSettled answer lines isFormat refusals earlier later wanted brokenLine told makeLines
+  unfolding makeSettled answer lines isFormat refusals earlier later wanted told makeLines
   file-answer = refl
 
   pub file-after : makeAfter 0x80 0 (pagesFor 0) b path date ≡ after (makeFile path date) b
-  unfolding makeSettled after lines isFormat refusals earlier later wanted brokenLine effect makeLines
+  unfolding makeSettled after lines isFormat refusals earlier later wanted effect makeLines
   file-after = refl
 
   pub directory-answer : makeAnswer b path date 1 ≡ answer (makeDirectory path date) b
-  unfolding makeSettled answer lines isFormat refusals earlier later wanted brokenLine told makeLines
+  unfolding makeSettled answer lines isFormat refusals earlier later wanted told makeLines
   directory-answer = refl
 
   pub directory-after : makeAfter 0x81 0x0100 1 b path date ≡ after (makeDirectory path date) b
-  unfolding makeSettled after lines isFormat refusals earlier later wanted brokenLine effect makeLines
+  unfolding makeSettled after lines isFormat refusals earlier later wanted effect makeLines
   directory-after = refl
 
 -- ---- a make

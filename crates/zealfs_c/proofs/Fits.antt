@@ -3,7 +3,7 @@ use mathlib.Core.Path.{_≡_, refl, sym, subst}
 use Prim.Native.Nat.{_+_, _*_, _≤_, _<_}
 use native.Mathlib.Omega.{arith}
 use mathlib.Core.Bool.{Bool, true, false, not}
-use mathlib.Core.List.{List, [], _∷_, _++_}
+use mathlib.Core.List.{List, [], _∷_}
 use lib.ListN.{length}
 use lib.Dec.{T, leb, ltb, leb→le, ltb→lt}
 use borrow.Author.Tests.{lt-ltb}
@@ -16,7 +16,7 @@ use Rattle.model.specs.Path.{Path, pathOf, noPath, root, below, parents, names}
 use Rattle.model.specs.Image.{treeOf}
 use Rattle.model.specs.Call.{Call, format, verdict, find, list, read, makeFile, makeDirectory, write, remove, Told, Refusal, refusal, Answer, refused, granted}
 use Rattle.model.specs.Refusal.{Line, stoppedAt, walked, walkedParent, walkedDirectory, makeLines, earlier, later, refusals, settle}
-use Rattle.model.specs.Meaning.{told, firstFault, soundLine, isFormat, brokenLine, lines, answer}
+use Rattle.model.specs.Meaning.{told, firstFault, soundLine, isFormat, lines, answer}
 use Rattle.judge.proofs.Image.{allowed}
 use Rattle.judge.proofs.Placed.{InPlace, fault-placed}
 use Rattle.zealfs_c.specs.Codes.{packed, codeOf, Apart, Fits, placeOf}
@@ -92,8 +92,8 @@ unfolding all inCode
 image-in b low few ls h = both-and (inCode (firstFault (judge b))) (all (λ (l : Line). inCode (l .1)) ls) (fault-in b low few) h
 
 -- a call's own lines
-own-in : (c : Call) (b : Bytes) → pageCount b ≤ 256 → AllIn (refusals c (treeOf b) ++ brokenLine c b)
-unfolding refusals earlier later makeLines brokenLine all inCode
+own-in : (c : Call) (b : Bytes) → pageCount b ≤ 256 → AllIn (refusals c (treeOf b))
+unfolding refusals earlier later makeLines all inCode
 own-in format b n = tt
 own-in verdict b n = tt
 own-in (find path) b n = rw (lt-ltb _ _ (to-stops b n path)) tt
@@ -106,12 +106,12 @@ own-in (remove path) b n = rw (lt-ltb _ _ (to-stops b n path)) tt
 
 -- the lines below the first, which judges the length
 abbrev further : Bool → Call → Bytes → List Line
-further m c b = if m then [] else ((not (validHeader b), refusal 2) ∷ soundLine b ∷ (refusals c (treeOf b) ++ brokenLine c b))
+further m c b = if m then [] else ((not (validHeader b), refusal 2) ∷ soundLine b ∷ refusals c (treeOf b))
 
 further-in : (m : Bool) (c : Call) (b : Bytes) → 1 ≤ pageCount b → pageCount b ≤ 256 → AllIn (further m c b)
 unfolding all
 further-in true c b low few = tt
-further-in false c b low few = image-in b low few (refusals c (treeOf b) ++ brokenLine c b) (own-in c b few)
+further-in false c b low few = image-in b low few (refusals c (treeOf b)) (own-in c b few)
 
 answer-in : (c : Call) (b : Bytes) → T (answerIn (answer c b))
 unfolding answer lines settle answerIn inCode all
