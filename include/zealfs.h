@@ -12,8 +12,8 @@
  *      3  bit 0 of the bitmap or the count in byte 3 is wrong 10  make or write: more pages wanted than are free
  *      4  the path is no path                                 11  make: the date is not good
  *      5  a name of the path isn't in its directory           12  position past the size, or entry past the directory's last
- *      6  a file stands where a directory is needed           13  remove: the directory holds something
- *      7  read or write: the path is a directory              14  remove: the path is "/"
+ *      6  a file stands where a directory is needed           13  remove directory: it holds something
+ *      7  read, write or remove file: the path is a directory 14  removals: the path is "/"
  *
  * For 5 and 6, a is the byte of the path at which the name begins.
  *
@@ -73,8 +73,9 @@ uint64_t zealfs_make_directory(uint8_t *image, size_t image_len, const uint8_t *
 uint64_t zealfs_write(uint8_t *image, size_t image_len, const uint8_t *path, size_t path_len, uint64_t position, const uint8_t *bytes,
                       size_t bytes_len);
 
-/* Removes a file or an empty directory. */
-uint64_t zealfs_remove(uint8_t *image, size_t image_len, const uint8_t *path, size_t path_len);
+/* Each removes only its kind; a directory has to be empty. */
+uint64_t zealfs_remove_file(uint8_t *image, size_t image_len, const uint8_t *path, size_t path_len);
+uint64_t zealfs_remove_directory(uint8_t *image, size_t image_len, const uint8_t *path, size_t path_len);
 
 /* The parts of a code: the number, 0 when the call was granted, and number i of the place, i being 0, 1 or 2. */
 static inline unsigned zealfs_number(uint64_t code) { return (unsigned)(code & 0xff); }

@@ -3,7 +3,7 @@
 //! The archive may carry a runtime of its own: an allocator, what to do on a
 //! panic. Linked as it is, its symbols would take the place of the tests' own,
 //! and a failing test would end the process instead of telling why. So the
-//! archive is joined into one object of which only the nine calls are seen.
+//! archive is joined into one object of which only the calls are seen.
 
 use std::env;
 use std::path::{Path, PathBuf};
@@ -12,7 +12,7 @@ use std::process::Command;
 /// The environment variable that overrides the library's directory.
 const DIRECTORY: &str = "ZEALFS_LIBRARY_DIR";
 
-const CALLS: [&str; 9] = [
+const CALLS: [&str; 10] = [
     "zealfs_format",
     "zealfs_verdict",
     "zealfs_find",
@@ -21,7 +21,8 @@ const CALLS: [&str; 9] = [
     "zealfs_make_file",
     "zealfs_make_directory",
     "zealfs_write",
-    "zealfs_remove",
+    "zealfs_remove_file",
+    "zealfs_remove_directory",
 ];
 
 fn main() {

@@ -202,21 +202,38 @@ def do_write(root, path, position, new):
     return root, "done"
 
 
-def do_remove(root, path):
+def names_to_remove(path):
     names = names_of(path)
     if not names:
         raise Refused(14)
-    entry = walk(root, names)
-    if isinstance(entry, Directory) and entry.held():
-        raise Refused(13)
+    return names
+
+
+def vacate(root, names, entry):
     parent = walk(root, names[:-1])
     parent.entries[parent.entries.index(entry)] = None
     return root, "done"
 
 
+def do_remove_file(root, path):
+    names = names_to_remove(path)
+    file = walk(root, names)
+    if isinstance(file, Directory):
+        raise Refused(7)
+    return vacate(root, names, file)
+
+
+def do_remove_directory(root, path):
+    names = names_to_remove(path)
+    directory = walk_to_directory(root, names)
+    if directory.held():
+        raise Refused(13)
+    return vacate(root, names, directory)
+
+
 CALLS_BY_NAME = {
     "format": do_format, "verdict": do_verdict, "find": do_find, "list": do_list, "read": do_read, "make_file": do_make_file,
-    "make_directory": do_make_directory, "write": do_write, "remove": do_remove,
+    "make_directory": do_make_directory, "write": do_write, "remove_file": do_remove_file, "remove_directory": do_remove_directory,
 }
 
 
@@ -284,7 +301,8 @@ FRESH_IMAGE = [
     ("find", b"/0042"),
     ("read", b"/0042", 0, 4),
     ("find", b""),
-    ("remove", b"/"),
+    ("remove_file", b"/"),
+    ("remove_directory", b"/"),
 ]
 
 TWO_NAMES = [
@@ -343,7 +361,8 @@ DIRECTORIES = [
     ("list", b"/A/7", 0),
     ("read", b"/A", 300, 4),
     ("write", b"/", 0, b"x"),
-    ("remove", b"/A"),
+    ("remove_directory", b"/A"),
+    ("remove_directory", b"/A/7"),
 ]
 
 NO_PAGE_LEFT = [
@@ -360,15 +379,25 @@ NO_PAGE_LEFT = [
 ]
 
 REMOVALS = [
-    ("remove", b"/A/inner"),
-    ("remove", b"/A/7"),
+    ("remove_directory", b"/A/inner"),
+    ("remove_file", b"/A"),
+    ("remove_file", b"/A/7/x"),
+    ("remove_directory", b"/A/7/x"),
+    ("remove_file", b"/A/7"),
     ("find", b"/A/7"),
-    ("remove", b"/A"),
-    ("remove", b"/A/empty"),
-    ("remove", b"/A"),
+    ("make_directory", b"/A/inner", NIGHT),
+    ("remove_file", b"/A/inner"),
+    ("remove_directory", b"/A"),
+    ("remove_directory", b"/A/inner"),
+    ("remove_file", b"/A"),
+    ("remove_directory", b"/A"),
+    ("remove_file", b"/A/empty"),
+    ("remove_directory", b"/A"),
     ("find", b"/A/7"),
-    ("remove", b"/42"),
-    ("remove", b"/42"),
+    ("remove_directory", b"/42"),
+    ("remove_file", b"/42"),
+    ("remove_file", b"/42"),
+    ("remove_directory", b"42"),
     ("verdict",),
 ]
 

@@ -97,9 +97,12 @@ int main(void)
     expect("  free", out[1], 4);
     for (size_t i = 0; i < sizeof damages / sizeof damages[0]; i++)
         judge(&damages[i]);
-    expect("remove /A, refused", zealfs_remove(IMAGE, PATH("/A")), 13);
-    expect("remove /A/0042", zealfs_remove(IMAGE, PATH("/A/0042")), 0);
+    expect("remove file /A, refused", zealfs_remove_file(IMAGE, PATH("/A")), 7);
+    expect("remove directory /A, refused", zealfs_remove_directory(IMAGE, PATH("/A")), 13);
+    expect("remove directory 0042, refused", zealfs_remove_directory(IMAGE, PATH("/A/0042")), 6 + 256 * 3);
+    expect("remove file /A/0042", zealfs_remove_file(IMAGE, PATH("/A/0042")), 0);
+    expect("remove directory /A", zealfs_remove_directory(IMAGE, PATH("/A")), 0);
     expect("verdict", zealfs_verdict(IMAGE, out), 0);
-    expect("  free", out[1], 6);
+    expect("  free", out[1], 7);
     return failed;
 }

@@ -47,7 +47,8 @@ declare! {
         date: *const u8, date_len: usize;);
     zealfs_write(image: *mut u8, image_len: usize, path: *const u8, path_len: usize,
         position: u64, bytes: *const u8, bytes_len: usize;);
-    zealfs_remove(image: *mut u8, image_len: usize, path: *const u8, path_len: usize;);
+    zealfs_remove_file(image: *mut u8, image_len: usize, path: *const u8, path_len: usize;);
+    zealfs_remove_directory(image: *mut u8, image_len: usize, path: *const u8, path_len: usize;);
 }
 
 /// The C library.
@@ -162,8 +163,13 @@ impl Calls for Library {
             bytes.as_ptr(), bytes.len();)))
     }
 
-    fn remove(&self, image: &mut [u8], path: &[u8]) -> Answer {
-        answer(call!(zealfs_remove(
+    fn remove_file(&self, image: &mut [u8], path: &[u8]) -> Answer {
+        answer(call!(zealfs_remove_file(
+            image.as_mut_ptr(), image.len(), path.as_ptr(), path.len();)))
+    }
+
+    fn remove_directory(&self, image: &mut [u8], path: &[u8]) -> Answer {
+        answer(call!(zealfs_remove_directory(
             image.as_mut_ptr(), image.len(), path.as_ptr(), path.len();)))
     }
 }

@@ -1,4 +1,4 @@
-//! The nine calls on raw bytes, as a trait, and the form of their answers.
+//! The calls on raw bytes, as a trait, and the form of their answers.
 
 use std::fmt;
 
@@ -74,7 +74,7 @@ impl Kind {
     }
 }
 
-/// Everything that a call answers, in one form for all nine: what a call has
+/// Everything that a call answers, in one form for all calls: what a call has
 /// no use for is zero, and so is all of it on a refusal.
 #[derive(Clone, Debug, Default, PartialEq, Eq)]
 pub struct Answer {
@@ -179,7 +179,7 @@ impl fmt::Display for Answer {
     }
 }
 
-/// An implementation of the nine calls over a lent image.
+/// An implementation of the calls over a lent image.
 pub trait Calls {
     fn format(&self, image: &mut [u8]) -> Answer;
     fn verdict(&self, image: &[u8]) -> Answer;
@@ -189,7 +189,8 @@ pub trait Calls {
     fn make_file(&self, image: &mut [u8], path: &[u8], date: &[u8]) -> Answer;
     fn make_directory(&self, image: &mut [u8], path: &[u8], date: &[u8]) -> Answer;
     fn write(&self, image: &mut [u8], path: &[u8], position: u64, bytes: &[u8]) -> Answer;
-    fn remove(&self, image: &mut [u8], path: &[u8]) -> Answer;
+    fn remove_file(&self, image: &mut [u8], path: &[u8]) -> Answer;
+    fn remove_directory(&self, image: &mut [u8], path: &[u8]) -> Answer;
 }
 
 /// One call with its arguments. The bytes of a read are what the reader's
@@ -204,11 +205,15 @@ pub enum Call {
     MakeFile(Vec<u8>, Vec<u8>),
     MakeDirectory(Vec<u8>, Vec<u8>),
     Write(Vec<u8>, u64, Vec<u8>),
-    Remove(Vec<u8>),
+    RemoveFile(Vec<u8>),
+    RemoveDirectory(Vec<u8>),
 }
 
+/// How many calls there are.
+pub const CALL_COUNT: usize = 10;
+
 /// The names of the calls, in the order of [`Call::index`].
-pub const CALL_NAMES: [&str; 9] = [
+pub const CALL_NAMES: [&str; CALL_COUNT] = [
     "format",
     "verdict",
     "find",
@@ -217,11 +222,12 @@ pub const CALL_NAMES: [&str; 9] = [
     "make_file",
     "make_directory",
     "write",
-    "remove",
+    "remove_file",
+    "remove_directory",
 ];
 
 impl Call {
-    /// Which of the nine it is.
+    /// Which of the calls it is.
     pub fn index(&self) -> usize {
         match self {
             Call::Format => 0,
@@ -232,7 +238,8 @@ impl Call {
             Call::MakeFile(..) => 5,
             Call::MakeDirectory(..) => 6,
             Call::Write(..) => 7,
-            Call::Remove(..) => 8,
+            Call::RemoveFile(..) => 8,
+            Call::RemoveDirectory(..) => 9,
         }
     }
 
@@ -251,7 +258,8 @@ impl Call {
             Call::MakeFile(path, date) => calls.make_file(image, path, date),
             Call::MakeDirectory(path, date) => calls.make_directory(image, path, date),
             Call::Write(path, position, bytes) => calls.write(image, path, *position, bytes),
-            Call::Remove(path) => calls.remove(image, path),
+            Call::RemoveFile(path) => calls.remove_file(image, path),
+            Call::RemoveDirectory(path) => calls.remove_directory(image, path),
         }
     }
 }

@@ -41,8 +41,15 @@ impl<'a> Desk<'a> {
         answer.number
     }
 
-    pub fn remove(&mut self, path: &str) -> u8 {
-        self.calls.remove(&mut self.image, path.as_bytes()).number
+    pub fn remove_file(&mut self, path: &str) -> u8 {
+        let answer = self.calls.remove_file(&mut self.image, path.as_bytes());
+        answer.number
+    }
+
+    pub fn remove_directory(&mut self, path: &str) -> u8 {
+        let path = path.as_bytes();
+        let answer = self.calls.remove_directory(&mut self.image, path);
+        answer.number
     }
 
     pub fn find(&self, path: &str) -> Answer {

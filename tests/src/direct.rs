@@ -1,4 +1,4 @@
-//! The nine calls on the image bytes directly: judge, walk, do. No tree and no
+//! The calls on the image bytes directly: judge, walk, do. No tree and no
 //! allocation; this is what the benchmark measures the library by.
 
 use crate::calls::{Answer, Calls, Kind, Refusal, DATE_BYTES, DIRECTORY_SIZE, NAME_BYTES};
@@ -530,25 +530,40 @@ fn fill(image: &mut [u8], start: u8, position: usize, bytes: &[u8]) {
     }
 }
 
-fn remove(image: &mut [u8], path: &[u8]) -> Result<Answer, Refusal> {
+/// Where the entry to be removed is; the root has none.
+fn entry_to_remove(image: &[u8], path: Path) -> Result<usize, Refusal> {
+    walk_to_entry(image, path)?.ok_or(Refusal::number(14))
+}
+
+fn remove_file(image: &mut [u8], path: &[u8]) -> Result<Answer, Refusal> {
+    judge(image)?;
+    let at = entry_to_remove(image, Path::check(path)?)?;
+    if image[at] & DIRECTORY != 0 {
+        return refuse(7);
+    }
+    let mut page = usize::from(image[at + START]);
+    while page != 0 {
+        release(image, page);
+        page = usize::from(image[page * PAGE]);
+    }
+    image[at] = 0;
+    Ok(Answer::granted())
+}
+
+fn remove_directory(image: &mut [u8], path: &[u8]) -> Result<Answer, Refusal> {
     judge(image)?;
     let path = Path::check(path)?;
-    let Some(at) = walk_to_entry(image, path)? else {
-        return refuse(14);
-    };
-    let mut page = usize::from(image[at + START]);
-    if image[at] & DIRECTORY != 0 {
-        let flags = image[page * PAGE..(page + 1) * PAGE].iter().step_by(ENTRY);
-        if flags.into_iter().any(|flags| flags & OCCUPIED != 0) {
-            return refuse(13);
-        }
-        release(image, page);
-    } else {
-        while page != 0 {
-            release(image, page);
-            page = usize::from(image[page * PAGE]);
-        }
+    let at = entry_to_remove(image, path)?;
+    if image[at] & DIRECTORY == 0 {
+        let begins = path.split_last().map_or(0, |(_, begins, _)| begins);
+        return Err(Refusal::at_name(6, begins));
     }
+    let page = usize::from(image[at + START]);
+    let mut flags = image[page * PAGE..(page + 1) * PAGE].iter().step_by(ENTRY);
+    if flags.any(|flags| flags & OCCUPIED != 0) {
+        return refuse(13);
+    }
+    release(image, page);
     image[at] = 0;
     Ok(Answer::granted())
 }
@@ -594,7 +609,11 @@ impl Calls for Direct {
         write(image, path, position, bytes).into()
     }
 
-    fn remove(&self, image: &mut [u8], path: &[u8]) -> Answer {
-        remove(image, path).into()
+    fn remove_file(&self, image: &mut [u8], path: &[u8]) -> Answer {
+        remove_file(image, path).into()
+    }
+
+    fn remove_directory(&self, image: &mut [u8], path: &[u8]) -> Answer {
+        remove_directory(image, path).into()
     }
 }

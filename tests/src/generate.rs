@@ -2,7 +2,7 @@
 //! tree is replayed while the list is made, so that paths hit what is there.
 
 use crate::assemble::{assemble, nest, Order};
-use crate::calls::{Call, DATE_BYTES};
+use crate::calls::{Call, CALL_COUNT, DATE_BYTES};
 use crate::harness::Scenario;
 use crate::plain::path::days_in;
 use crate::plain::tree::{Entry, Node, Tree};
@@ -38,18 +38,19 @@ const LENGTHS: [usize; 14] = [
     0, 1, 2, 253, 254, 255, 256, 257, 509, 510, 511, 512, 765, 1785,
 ];
 
-/// What a list is mostly about: how often each of the nine calls comes.
-const PROFILES: [[usize; 9]; 5] = [
+/// What a list is mostly about: how often each of the calls comes, in the
+/// order of [`Call::index`].
+const PROFILES: [[usize; CALL_COUNT]; 5] = [
     // Everything.
-    [1, 3, 6, 8, 10, 14, 10, 22, 12],
+    [1, 3, 6, 8, 10, 14, 10, 22, 8, 7],
     // Filling up and making room.
-    [0, 1, 1, 1, 3, 8, 3, 30, 8],
+    [0, 1, 1, 1, 3, 8, 3, 30, 7, 2],
     // Nesting.
-    [0, 1, 3, 4, 1, 4, 24, 3, 6],
+    [0, 1, 3, 4, 1, 4, 24, 3, 2, 5],
     // Making and removing.
-    [0, 1, 2, 3, 1, 14, 14, 3, 16],
+    [0, 1, 2, 3, 1, 14, 14, 3, 9, 9],
     // Looking.
-    [0, 3, 10, 14, 16, 4, 2, 6, 2],
+    [0, 3, 10, 14, 16, 4, 2, 6, 1, 1],
 ];
 
 /// A random list of calls from a random sound image.
@@ -135,7 +136,7 @@ fn scramble_dates(entries: &mut [Option<Entry>], random: &mut Random) {
 pub struct Generator<'r> {
     pub replay: Replay,
     random: &'r mut Random,
-    weights: [usize; 9],
+    weights: [usize; CALL_COUNT],
 }
 
 impl<'r> Generator<'r> {
@@ -151,7 +152,7 @@ impl<'r> Generator<'r> {
     /// The next call; the tree follows it.
     pub fn next_call(&mut self) -> Call {
         let mut which = self.random.weighted(&self.weights);
-        if matches!(which, 4 | 7) && !self.has_file() && self.random.chance(9, 10) {
+        if matches!(which, 4 | 7) && !self.has(is_file) && self.random.chance(9, 10) {
             // Nothing to read or write yet.
             which = 5;
         }
@@ -164,15 +165,17 @@ impl<'r> Generator<'r> {
             5 => Call::MakeFile(self.new_path(), self.date()),
             6 => Call::MakeDirectory(self.new_path(), self.date()),
             7 => self.write_call(),
-            _ => Call::Remove(self.path()),
+            8 => Call::RemoveFile(self.removed_path(is_file)),
+            _ => Call::RemoveDirectory(self.removed_path(is_directory)),
         };
         self.replay.step(&mut call.clone());
         call
     }
 
-    fn has_file(&self) -> bool {
+    /// Whether there is an entry that `wanted` holds of.
+    fn has(&self, wanted: fn(&Entry) -> bool) -> bool {
         let paths = self.replay.tree.paths();
-        paths.iter().any(|(_, entry)| is_file(entry))
+        paths.iter().any(|(_, entry)| wanted(entry))
     }
 
     fn read_call(&mut self) -> Call {
@@ -288,6 +291,16 @@ impl<'r> Generator<'r> {
             0 => self.entry_path(is_directory),
             1 => b"/".to_vec(),
             _ => self.path(),
+        }
+    }
+
+    /// Half of the time the path of an entry of the wanted kind, if there is
+    /// one; else of anything, also of the other kind.
+    fn removed_path(&mut self, wanted: fn(&Entry) -> bool) -> Vec<u8> {
+        if self.has(wanted) && self.random.chance(1, 2) {
+            self.entry_path(wanted)
+        } else {
+            self.path()
         }
     }
 

@@ -124,7 +124,8 @@ fn simpler(call: &Call) -> Vec<Call> {
     match call {
         Call::Format | Call::Verdict => Vec::new(),
         Call::Find(path) => shorter(path).map(Call::Find).collect(),
-        Call::Remove(path) => shorter(path).map(Call::Remove).collect(),
+        Call::RemoveFile(path) => shorter(path).map(Call::RemoveFile).collect(),
+        Call::RemoveDirectory(path) => shorter(path).map(Call::RemoveDirectory).collect(),
         Call::List(path, entry) => {
             let paths = shorter(path).map(|path| Call::List(path, *entry));
             let numbers = smaller(*entry).map(|entry| Call::List(path.clone(), entry));
@@ -235,7 +236,9 @@ fn call_text(call: &Call) -> String {
     let name = call.name();
     match call {
         Call::Format | Call::Verdict => name.to_string(),
-        Call::Find(path) | Call::Remove(path) => format!("{name} {}", text(path)),
+        Call::Find(path) | Call::RemoveFile(path) | Call::RemoveDirectory(path) => {
+            format!("{name} {}", text(path))
+        }
         Call::List(path, entry) => format!("{name} {} entry {entry}", text(path)),
         Call::MakeFile(path, date) | Call::MakeDirectory(path, date) => {
             format!("{name} {} date {}", text(path), hex(date))

@@ -20,9 +20,9 @@ pub enum Fault {
     FirstPageOnly,
     /// A granted write also stamps the entry's date.
     DateOnWrite,
-    /// Remove clears all of the entry.
+    /// A removal clears all of the entry.
     WholeEntryCleared,
-    /// Remove clears the freed page.
+    /// A removal clears the freed page.
     FreedPageCleared,
     /// Read zeroes the rest of the buffer.
     BufferRestZeroed,
@@ -32,8 +32,12 @@ pub enum Fault {
     ShortEntryNumber,
     /// The place of 5 and 6 is the slash and not the name.
     PlaceOfSlash,
-    /// A directory that isn't empty is removed as 7 and not as 13.
+    /// A directory that holds something is told as 7 and not as 13.
     WrongNumber,
+    /// An empty directory is removed as a file.
+    DirectoryAsFile,
+    /// A file is removed as a directory.
+    FileAsDirectory,
     /// The root answers a date.
     RootDate,
     /// Format zeroes the whole image.
@@ -63,7 +67,7 @@ pub enum Fault {
 }
 
 /// All faults.
-pub const FAULTS: [Fault; 25] = [
+pub const FAULTS: [Fault; 27] = [
     Fault::LeadingZeros,
     Fault::TrustedFreeCount,
     Fault::WholeBitmap,
@@ -77,6 +81,8 @@ pub const FAULTS: [Fault; 25] = [
     Fault::ShortEntryNumber,
     Fault::PlaceOfSlash,
     Fault::WrongNumber,
+    Fault::DirectoryAsFile,
+    Fault::FileAsDirectory,
     Fault::RootDate,
     Fault::FormatAll,
     Fault::JudgedWeekday,
@@ -111,6 +117,7 @@ impl Wrong {
         let before = image.to_vec();
         self.spoil_arguments(&mut call);
         let mut answer = call.perform(&Plain, image);
+        self.remove_other_kind(image, &call, &mut answer);
         match &mut call {
             Call::Read(_, _, buffer)
                 if self.has(Fault::BufferRestZeroed) && answer.is_granted() =>
@@ -120,7 +127,9 @@ impl Wrong {
             Call::Write(_, position, bytes) => {
                 self.spoil_write(image, &before, *position, bytes, &answer);
             }
-            Call::Remove(_) if answer.is_granted() => self.spoil_remove(image, &before),
+            Call::RemoveFile(_) | Call::RemoveDirectory(_) if answer.is_granted() => {
+                self.spoil_removal(image, &before);
+            }
             _ => {}
         }
         self.spoil_answer(&mut answer, &call);
@@ -130,7 +139,10 @@ impl Wrong {
 
     fn spoil_arguments(&self, call: &mut Call) {
         match call {
-            Call::Find(path) | Call::Remove(path) | Call::List(path, _) => self.spoil_path(path),
+            Call::Find(path)
+            | Call::RemoveFile(path)
+            | Call::RemoveDirectory(path)
+            | Call::List(path, _) => self.spoil_path(path),
             _ => {}
         }
         match call {
@@ -177,7 +189,23 @@ impl Wrong {
         }
     }
 
-    fn spoil_remove(&self, image: &mut [u8], before: &[u8]) {
+    /// Performs the other removal where this one was refused for the kind.
+    fn remove_other_kind(&self, image: &mut [u8], call: &Call, answer: &mut Answer) {
+        let other = match (self.0, call, answer.number) {
+            (Fault::DirectoryAsFile, Call::RemoveFile(path), 7) => {
+                Plain.remove_directory(image, path)
+            }
+            (Fault::FileAsDirectory, Call::RemoveDirectory(path), 6) => {
+                Plain.remove_file(image, path)
+            }
+            _ => return,
+        };
+        if other.is_granted() {
+            *answer = other;
+        }
+    }
+
+    fn spoil_removal(&self, image: &mut [u8], before: &[u8]) {
         let entry = changed_entry(image, before);
         match self.0 {
             Fault::WholeEntryCleared => image[entry..entry + 32].fill(0),
@@ -298,7 +326,11 @@ impl Calls for Wrong {
         self.perform(image, call).0
     }
 
-    fn remove(&self, image: &mut [u8], path: &[u8]) -> Answer {
-        self.perform(image, Call::Remove(path.to_vec())).0
+    fn remove_file(&self, image: &mut [u8], path: &[u8]) -> Answer {
+        self.perform(image, Call::RemoveFile(path.to_vec())).0
+    }
+
+    fn remove_directory(&self, image: &mut [u8], path: &[u8]) -> Answer {
+        self.perform(image, Call::RemoveDirectory(path.to_vec())).0
     }
 }

@@ -74,7 +74,7 @@ fn case_5_pages_of_a_size() {
             assert_eq!(desk.make_file("/F"), 0);
             assert_eq!(desk.write("/F", 0, size), 0);
             assert_eq!(desk.free(), 7 - pages);
-            assert_eq!(desk.remove("/F"), 0);
+            assert_eq!(desk.remove_file("/F"), 0);
         }
     });
 }
@@ -102,7 +102,7 @@ fn cases_7_and_11_a_full_image() {
         assert_eq!(desk.free(), 0);
         assert_eq!(desk.content("/F"), pattern(1785));
 
-        assert_eq!(desk.remove("/F"), 0);
+        assert_eq!(desk.remove_file("/F"), 0);
         assert_eq!(desk.free(), 7);
         assert_eq!(desk.make_file("/G"), 0);
         assert_eq!(desk.write("/G", 0, 1785), 0);
@@ -212,7 +212,7 @@ fn the_root_is_found() {
 }
 
 #[test]
-fn make_writes_all_of_the_entry_and_remove_only_the_flags() {
+fn make_writes_all_of_the_entry_and_removal_only_the_flags() {
     on_all(2048, |desk| {
         desk.image[64..96].fill(0x7F);
         assert_eq!(desk.make_directory("/A"), 0);
@@ -224,9 +224,9 @@ fn make_writes_all_of_the_entry_and_remove_only_the_flags() {
         assert!(desk.image[256..512].iter().all(|&byte| byte == 0));
 
         assert_eq!(desk.make_file("/A/7"), 0);
-        assert_eq!(desk.remove("/A/7"), 0);
+        assert_eq!(desk.remove_file("/A/7"), 0);
         let page = desk.image[256..512].to_vec();
-        assert_eq!(desk.remove("/A"), 0);
+        assert_eq!(desk.remove_directory("/A"), 0);
         entry[0] = 0;
         assert_eq!(desk.image[64..96], entry);
         assert_eq!(desk.image[256..512], page);
@@ -245,7 +245,7 @@ fn directories_nest_to_the_page_limit() {
         assert_eq!(desk.make_file(&format!("{path}/A")), 0);
         let refusal = desk.find(&format!("{path}/A/B"));
         assert_eq!((refusal.number, refusal.place), (6, [4319, 0, 0]));
-        assert_eq!(desk.remove(&format!("{path}/A")), 0);
+        assert_eq!(desk.remove_file(&format!("{path}/A")), 0);
         path += "/ABCDEFGHIJKLMNOP";
         assert_eq!(desk.make_directory(&path), 0);
         assert_eq!(path.len(), 4335);
@@ -267,7 +267,7 @@ fn an_empty_file_has_a_zeroed_page() {
         // The page serves for the first 255 bytes.
         assert_eq!(desk.write("/F", 0, 255), 0);
         assert_eq!(desk.free(), 6);
-        assert_eq!(desk.remove("/F"), 0);
+        assert_eq!(desk.remove_file("/F"), 0);
         assert_eq!(desk.free(), 7);
     });
 }

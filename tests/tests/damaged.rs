@@ -70,7 +70,7 @@ fn rich() -> Vec<u8> {
     }
     assert_eq!(desk.write("/F", 0, 256), 0);
     assert_eq!(desk.write("/gone", 0, 100), 0);
-    assert_eq!(desk.remove("/gone"), 0);
+    assert_eq!(desk.remove_file("/gone"), 0);
     assert_eq!(desk.make_file("/D/G"), 0);
     assert_eq!(desk.write("/D/G", 0, 255), 0);
     assert_eq!(desk.make_file("/D/E/H"), 0);

@@ -17,7 +17,8 @@ fn choice() -> Vec<Call> {
     let make_directory = |path: &[u8]| Call::MakeDirectory(path.to_vec(), DATE.to_vec());
     let write =
         |path: &[u8], position, length| Call::Write(path.to_vec(), position, pattern(length));
-    let remove = |path: &[u8]| Call::Remove(path.to_vec());
+    let remove_file = |path: &[u8]| Call::RemoveFile(path.to_vec());
+    let remove_directory = |path: &[u8]| Call::RemoveDirectory(path.to_vec());
     vec![
         make_file(b"/A"),
         make_directory(b"/D"),
@@ -27,10 +28,12 @@ fn choice() -> Vec<Call> {
         write(b"/A", 255, 1),
         write(b"/A", 1, 1000),
         write(b"/D/A", 0, 1275),
-        remove(b"/A"),
-        remove(b"/D"),
-        remove(b"/D/A"),
-        remove(b"/D/D"),
+        remove_file(b"/A"),
+        remove_file(b"/D"),
+        remove_file(b"/D/A"),
+        remove_directory(b"/A"),
+        remove_directory(b"/D"),
+        remove_directory(b"/D/D"),
     ]
 }
 

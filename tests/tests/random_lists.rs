@@ -2,7 +2,7 @@
 //! the others, call by call.
 
 use std::time::Instant;
-use zealfs_tests::calls::{Answer, Call, CALL_NAMES, NUMBERS};
+use zealfs_tests::calls::{Answer, Call, CALL_COUNT, CALL_NAMES, NUMBERS};
 use zealfs_tests::generate::scenario;
 use zealfs_tests::harness::{compare, Origin, Scenario};
 use zealfs_tests::plain::{Plain, Replay};
@@ -11,10 +11,10 @@ use zealfs_tests::subjects::{compared, Subject};
 use zealfs_tests::{listing, settings};
 
 /// How often each call got each number.
-type Tally = [[u64; NUMBERS]; 9];
+type Tally = [[u64; NUMBERS]; CALL_COUNT];
 
 /// The numbers that each call can be given on sound images.
-const POSSIBLE: [&[usize]; 9] = [
+const POSSIBLE: [&[usize]; CALL_COUNT] = [
     &[0],
     &[0],
     &[0, 4, 5, 6],
@@ -23,6 +23,7 @@ const POSSIBLE: [&[usize]; 9] = [
     &[0, 4, 5, 6, 8, 9, 10, 11],
     &[0, 4, 5, 6, 8, 9, 10, 11],
     &[0, 4, 5, 6, 7, 10, 12],
+    &[0, 4, 5, 6, 7, 14],
     &[0, 4, 5, 6, 13, 14],
 ];
 
@@ -57,7 +58,7 @@ fn lists_from_sound_images() {
     let (first, lists) = (settings::seed(), settings::lists());
     let started = Instant::now();
     let subjects = compared();
-    let mut tally = [[0; NUMBERS]; 9];
+    let mut tally = [[0; NUMBERS]; CALL_COUNT];
     let mut ending_full = 0;
     for seed in (0..lists).map(|list| first.wrapping_add(list)) {
         let origin = Origin(format!(
@@ -78,6 +79,7 @@ fn lists_from_sound_images() {
     print_tally(&tally);
     if lists >= 20_000 {
         check_coverage(&tally);
+        check_removals(&tally);
     }
 }
 
@@ -95,7 +97,7 @@ fn print_tally(tally: &Tally) {
         let met: Vec<String> = met
             .map(|(number, count)| format!("{number}: {count}"))
             .collect();
-        println!("{name:>15}  {}", met.join(", "));
+        println!("{name:>16}  {}", met.join(", "));
     }
 }
 
@@ -104,5 +106,23 @@ fn check_coverage(tally: &Tally) {
     for (call, numbers) in tally.iter().enumerate() {
         let met: Vec<usize> = (0..NUMBERS).filter(|&number| numbers[number] > 0).collect();
         assert_eq!(met, POSSIBLE[call], "{}", CALL_NAMES[call]);
+    }
+}
+
+/// Both removals meet what they don't take, and the root, often: each number
+/// comes in one of 100 of their calls.
+fn check_removals(tally: &Tally) {
+    let often = [
+        ("remove_file", [7, 6, 14]),
+        ("remove_directory", [13, 6, 14]),
+    ];
+    for (name, expected) in often {
+        let call = CALL_NAMES.iter().position(|other| *other == name);
+        let numbers = &tally[call.expect("a call")];
+        let calls: u64 = numbers.iter().sum();
+        for number in expected {
+            let met = numbers[number];
+            assert!(met > calls / 100, "{name} met {number} {met} times");
+        }
     }
 }

@@ -205,18 +205,46 @@ fn write_cases() -> Vec<Case> {
     ]
 }
 
-fn remove_cases() -> Vec<Case> {
-    let case = |text, holds: Lines, place| (On::Roomy, Call::Remove(path(text)), holds, place);
+/// Cases of both removals, those of the walk and above it.
+fn removal_cases(remove: fn(Vec<u8>) -> Call) -> Vec<Case> {
+    let case = |text, holds: Lines, place| (On::Roomy, remove(path(text)), holds, place);
     vec![
         case("", &[4], 0),
         case("//", &[4], 0),
-        case("/", &[14, 13], 0),
+        case("/D/", &[4], 0),
         case("/X", &[5], 1),
         case("/D/X", &[5], 3),
+        case("/X/Y", &[5], 1),
         case("/F/X", &[6], 1),
+        case("/D/G/X", &[6], 3),
+    ]
+}
+
+fn remove_file_cases() -> Vec<Case> {
+    let case = |text, holds: Lines| (On::Roomy, Call::RemoveFile(path(text)), holds, 0);
+    let own = vec![
+        case("/", &[14, 7]),
+        case("/D", &[7]),
+        case("/E", &[7]),
+        case("/full", &[7]),
+    ];
+    [removal_cases(Call::RemoveFile), own].concat()
+}
+
+/// A file at the end is where the walk needs a directory; it holds something or
+/// not, and 6 stands above 13.
+fn remove_directory_cases() -> Vec<Case> {
+    let case =
+        |text, holds: Lines, place| (On::Roomy, Call::RemoveDirectory(path(text)), holds, place);
+    let own = vec![
+        case("/", &[14, 13], 0),
+        case("/F", &[6], 1),
+        case("/D/G", &[6], 3),
+        case("/full/0", &[6], 6),
         case("/D", &[13], 0),
         case("/full", &[13], 0),
-    ]
+    ];
+    [removal_cases(Call::RemoveDirectory), own].concat()
 }
 
 fn cases() -> Vec<Case> {
@@ -229,7 +257,8 @@ fn cases() -> Vec<Case> {
         page_wanting_cases(Call::MakeFile),
         page_wanting_cases(Call::MakeDirectory),
         write_cases(),
-        remove_cases(),
+        remove_file_cases(),
+        remove_directory_cases(),
     ]
     .concat()
 }
@@ -362,9 +391,9 @@ fn granted() -> Vec<Call> {
         Call::MakeDirectory(path("/E/X"), date),
         Call::Write(path("/F"), 255, vec![1; 2 * 255]),
         Call::Write(path("/F"), 255, Vec::new()),
-        Call::Remove(path("/F")),
-        Call::Remove(path("/E")),
-        Call::Remove(path("/full/3")),
+        Call::RemoveFile(path("/F")),
+        Call::RemoveFile(path("/full/3")),
+        Call::RemoveDirectory(path("/E")),
     ]
 }
 

@@ -177,7 +177,7 @@ fn case_10(image: &mut Image) {
 // On the image that case 7 leaves.
 fn case_11(image: &mut Image) {
     case(11);
-    shown::remove(image, b"/0042");
+    shown::remove_file(image, b"/0042");
     shown::verdict(image);
     shown::make_file(image, b"/43", &DATE);
     shown::write_digits(image, b"/43", 0, 1785);
@@ -228,7 +228,7 @@ fn chain_that_returns(image: &mut Image) {
     set_byte(image, 3, 5);
     shown::verdict(image);
     shown::write(image, b"/0042", 0, b"+");
-    shown::remove(image, b"/0042");
+    shown::remove_file(image, b"/0042");
     set_byte(image, 82, 0xFE);
     set_byte(image, 83, 0x01);
     shown::verdict(image);

@@ -36,7 +36,8 @@ fn fresh_image(image: &mut Image) {
     shown::find(image, b"/0042");
     shown::read(image, b"/0042", 0, &mut [b'.'; 4]);
     shown::find(image, b"");
-    shown::remove(image, b"/");
+    shown::remove_file(image, b"/");
+    shown::remove_directory(image, b"/");
 }
 
 // 0042 and 42 are two names.
@@ -98,7 +99,8 @@ fn directories(image: &mut Image) {
     shown::list(image, b"/A/7", 0);
     shown::read(image, b"/A", 300, &mut [b'.'; 4]);
     shown::write(image, b"/", 0, b"x");
-    shown::remove(image, b"/A");
+    shown::remove_directory(image, b"/A");
+    shown::remove_directory(image, b"/A/7");
 }
 
 // A file wants a page also when it is empty; a write that does not lengthen wants none.
@@ -115,17 +117,27 @@ fn no_page_left(image: &mut Image) {
     list_entries(image, b"/A", 9);
 }
 
-// A directory is removed only when it is empty.
+// A file is removed as a file, and a directory as a directory, when it is empty; 7 is told of a directory that holds something too.
 fn removals(image: &mut Image) {
-    shown::remove(image, b"/A/inner");
-    shown::remove(image, b"/A/7");
+    shown::remove_directory(image, b"/A/inner");
+    shown::remove_file(image, b"/A");
+    shown::remove_file(image, b"/A/7/x");
+    shown::remove_directory(image, b"/A/7/x");
+    shown::remove_file(image, b"/A/7");
     shown::find(image, b"/A/7");
-    shown::remove(image, b"/A");
-    shown::remove(image, b"/A/empty");
-    shown::remove(image, b"/A");
+    shown::make_directory(image, b"/A/inner", &NIGHT);
+    shown::remove_file(image, b"/A/inner");
+    shown::remove_directory(image, b"/A");
+    shown::remove_directory(image, b"/A/inner");
+    shown::remove_file(image, b"/A");
+    shown::remove_directory(image, b"/A");
+    shown::remove_file(image, b"/A/empty");
+    shown::remove_directory(image, b"/A");
     shown::find(image, b"/A/7");
-    shown::remove(image, b"/42");
-    shown::remove(image, b"/42");
+    shown::remove_directory(image, b"/42");
+    shown::remove_file(image, b"/42");
+    shown::remove_file(image, b"/42");
+    shown::remove_directory(image, b"42");
     shown::verdict(image);
 }
 

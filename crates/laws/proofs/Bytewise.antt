@@ -28,7 +28,7 @@ use Rattle.model.specs.Path.{Name, Path, below, pathOf}
 use Rattle.model.specs.Image.{rowAt, treeOf}
 use Rattle.model.specs.Walk.{Walked, arrivedOr, parentPage, entryPosition}
 use Rattle.model.specs.Effect.{formatted, lowestVacant, made, rewritten, written, removed}
-use Rattle.model.specs.Call.{Call, format, verdict, find, list, read, makeFile, makeDirectory, write, remove, refusal}
+use Rattle.model.specs.Call.{Call, format, verdict, find, list, read, makeFile, makeDirectory, write, removeFile, removeDirectory, refusal}
 use Rattle.model.specs.Refusal.{isDirectoryNode, contentIn, node, wanted, earlier, later, refusals, size, Passes}
 use Rattle.model.specs.Meaning.{isFormat, lines, effect, after}
 use Rattle.model.proofs.Version1.{home}
@@ -42,7 +42,7 @@ use Rattle.laws.proofs.NewEntry.{new-length, new-start}
 use Rattle.laws.proofs.Make.{Place, place-of, place-held, madeAt}
 use Rattle.laws.proofs.Write.{isFileEntry, node-file, file-pages, file-chained, file-content, file-size, rewritten-is}
 use Rattle.laws.proofs.Lines.{passed, settle-both}
-use Rattle.laws.proofs.Passed.{Makes, Writes, Removes, sound-passed, make-passed, write-passed, remove-passed}
+use Rattle.laws.proofs.Passed.{Makes, Writes, Removes, sound-passed, make-passed, write-passed, remove-file-passed, remove-directory-passed}
 
 -- ---- bytes of a list
 
@@ -233,7 +233,8 @@ SmallCall (read path at room) = Unit {0}
 SmallCall (makeFile path date) = Unit {0}
 SmallCall (makeDirectory path date) = Unit {0}
 SmallCall (write path at v) = Small v
-SmallCall (remove path) = Unit {0}
+SmallCall (removeFile path) = Unit {0}
+SmallCall (removeDirectory path) = Unit {0}
 
 small-effect : (c : Call) (b : Bytes) → Small b → SmallCall c → Passes (lines c b) → Small (effect c b)
 unfolding effect lines isFormat refusals earlier later wanted
@@ -254,10 +255,14 @@ small-effect (write path from v) b s h e =
     let g = sound-passed (write path from v) b tt e in
     let f = sound-facts b (g .0) in
     small-write b f path from v (write-passed b f path from v (g .1)) h s
-small-effect (remove path) b s h e =
-    let g = sound-passed (remove path) b tt e in
+small-effect (removeFile path) b s h e =
+    let g = sound-passed (removeFile path) b tt e in
     let f = sound-facts b (g .0) in
-    small-removed b f path (remove-passed b f path (g .1)) s
+    small-removed b f path (remove-file-passed b f path (g .1)) s
+small-effect (removeDirectory path) b s h e =
+    let g = sound-passed (removeDirectory path) b tt e in
+    let f = sound-facts b (g .0) in
+    small-removed b f path (remove-directory-passed b f path (g .1)) s
 
 pub small-after : (c : Call) (b : Bytes) → Small b → SmallCall c → Small (after c b)
 unfolding after

@@ -6,10 +6,10 @@ use Rattle.volume.specs.Bytes.{Bytes, put}
 use Rattle.model.specs.Layout.{pagesFor}
 use Rattle.model.specs.Sound.{sound}
 use Rattle.model.specs.Tree.{Row, file, dir, emptyRow, fill, rewrite, vacate}
-use Rattle.model.specs.Path.{Path, lastName}
+use Rattle.model.specs.Path.{Path, pathOf, lastName}
 use Rattle.model.specs.Image.{treeOf}
 use Rattle.model.specs.Effect.{fileMade, directoryMade, written, removed}
-use Rattle.model.specs.Call.{Call, format, verdict, find, list, read, makeFile, makeDirectory, write, remove, refusal}
+use Rattle.model.specs.Call.{Call, format, verdict, find, list, read, makeFile, makeDirectory, write, removeFile, removeDirectory, refusal}
 use Rattle.model.specs.Refusal.{node, contentIn, wanted, earlier, later, refusals, Passes}
 use Rattle.model.specs.Meaning.{inParent, changed, effect}
 use Rattle.laws.proofs.Facts.{sound-facts}
@@ -17,11 +17,17 @@ use Rattle.laws.proofs.Format.{fresh}
 use Rattle.laws.proofs.Make.{file-tree, directory-tree}
 use Rattle.laws.proofs.Write.{written-tree}
 use Rattle.laws.proofs.Remove.{removed-tree}
-use Rattle.laws.proofs.Passed.{make-passed, write-passed, remove-passed}
+use Rattle.laws.proofs.Passed.{make-passed, write-passed, Removes, remove-file-passed, remove-directory-passed}
 
 -- the image is sound, and means the tree with f done in the parent directory
 abbrev Says : Bytes → Path → (Row → Row) → Bytes → Type 0
 Says b p f b′ = T (sound b′) × (treeOf b′ ≡ inParent p f (treeOf b))
+
+removal : (b : Bytes) → T (sound b) → (path : Bytes) → Removes b path → Says b (pathOf path) (vacate (lastName (pathOf path))) (removed (pathOf path) b)
+unfolding inParent treeOf
+removal b h path r =
+    subst (λ (p : Path). Says b p (vacate (lastName p)) (removed p b)) (sym (r .is))
+    (removed-tree b (sound-facts b h) (r .ns) (r .n) (r .reached) (r .entered) (r .empty))
 
 pub granted-law : (c : Call) (b : Bytes) → T (sound b) → Passes (refusals c (treeOf b)) → T (sound (effect c b)) × (treeOf (effect c b) ≡ changed c (treeOf b))
 unfolding effect changed inParent refusals earlier later wanted treeOf
@@ -40,7 +46,5 @@ granted-law (write path from v) b h e =
     let w = write-passed b (sound-facts b h) path from v e in
     subst (λ (p : Path). Says b p (rewrite (lastName p) (put from v (contentIn (node path (treeOf b))))) (written p from v b)) (sym (w .is))
     (written-tree b (sound-facts b h) (w .ns) (w .n) from v (w .reached) (w .entered) (node path (treeOf b)) (w .leads) (w .isFile) (w .begins) (w .space))
-granted-law (remove path) b h e =
-    let r = remove-passed b (sound-facts b h) path e in
-    subst (λ (p : Path). Says b p (vacate (lastName p)) (removed p b)) (sym (r .is))
-    (removed-tree b (sound-facts b h) (r .ns) (r .n) (r .reached) (r .entered) (r .empty))
+granted-law (removeFile path) b h e = removal b h path (remove-file-passed b (sound-facts b h) path e)
+granted-law (removeDirectory path) b h e = removal b h path (remove-directory-passed b (sound-facts b h) path e)

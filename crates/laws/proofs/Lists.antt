@@ -17,7 +17,7 @@ use Rattle.model.specs.Layout.{version1, pageCount, validLength}
 use Rattle.model.specs.Sound.{pagesAt, reachedEntries, sound, owners}
 use Rattle.model.specs.Tree.{Tree, freeNumber}
 use Rattle.model.specs.Image.{treeOf}
-use Rattle.model.specs.Call.{Call, format, verdict, find, list, read, makeFile, makeDirectory, write, remove, Verdict, Answer, granted}
+use Rattle.model.specs.Call.{Call, format, verdict, find, list, read, makeFile, makeDirectory, write, removeFile, removeDirectory, Verdict, Answer, granted}
 use Rattle.model.specs.Refusal.{earlier, later, wanted, refusals, settle, Passes}
 use Rattle.model.specs.Meaning.{told, inParent, changed, treeAnswer, treeBuffer, treeAfter, isFormat, lines, effect, answer, after, bufferAfter}
 use Rattle.model.specs.Demands.{Results, Promised, Runs, replay, replayResults, Owned, isFree, isOwned, Account, Demanded, AsTree}
@@ -97,7 +97,8 @@ changed-pages (read path at room) t = refl
 changed-pages (makeFile path date) t = refl
 changed-pages (makeDirectory path date) t = refl
 changed-pages (write path at v) t = refl
-changed-pages (remove path) t = refl
+changed-pages (removeFile path) t = refl
+changed-pages (removeDirectory path) t = refl
 
 -- sound images of as many pages are as long
 sound-length : (b b′ : Bytes) → T (sound b) → T (sound b′) → treeOf b′ .pages ≡ treeOf b .pages → length b′ ≡ length b
@@ -123,7 +124,8 @@ length-kept c b = settle-both (λ (x y : Bytes). length x ≡ length b) (lines c
     go (makeFile path date) e = other (makeFile path date) tt e
     go (makeDirectory path date) e = other (makeDirectory path date) tt e
     go (write path at v) e = other (write path at v) tt e
-    go (remove path) e = other (remove path) tt e
+    go (removeFile path) e = other (removeFile path) tt e
+    go (removeDirectory path) e = other (removeDirectory path) tt e
 
 -- ---- the list
 

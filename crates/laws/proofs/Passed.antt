@@ -1,6 +1,6 @@
 -- What a granted call has passed: none of its lines holds, so its path leads where the call works, a new name is legal and not there, and there are
 -- pages enough.
-use mathlib.Core.Path.{_≡_, refl, subst}
+use mathlib.Core.Path.{_≡_, refl, sym, _∙_, subst}
 use Prim.Native.Nat.{ℕ, _+_, _-_, _≤_, max}
 use native.Mathlib.Omega.{arith}
 use mathlib.Core.Bool.{Bool, true, false, not, _||_}
@@ -12,15 +12,16 @@ use Rattle.volume.proofs.Tests.{not-not, if-no}
 use Rattle.model.specs.Layout.{pageCount, pagesFor, validLength, validHeader, zeroBits}
 use Rattle.model.specs.Date.{goodDate}
 use Rattle.model.specs.Sound.{sound}
-use Rattle.model.specs.Tree.{Row, end, width, held, freeNumber, Node, directoryNode, lookup}
-use Rattle.model.specs.Path.{Name, Path, noPath, root, below, pathOf, isNoPath, isRoot, parents, lastName}
+use Rattle.model.specs.Tree.{Row, end, width, held, freeNumber, Node, fileNode, directoryNode, lookup}
+use Rattle.model.specs.Path.{Name, Path, noPath, root, below, pathOf, isNoPath, isRoot, parents, names, lastName}
 use Rattle.model.specs.Image.{rowAt, treeOf}
 use Rattle.model.specs.Walk.{Walked, arrived, missing, blocked, walk, walkTo, arrivedOr}
-use Rattle.model.specs.Call.{Call, write, remove, Refusal, refusal}
+use Rattle.model.specs.Call.{Call, write, removeFile, removeDirectory, Refusal, refusal}
 use Rattle.model.specs.Refusal.{Line, isMissing, isBlocked, isThere, isDirectoryNode, rowIn, node, size, wanted, makeLines, earlier, later, refusals, Passes}
 use Rattle.model.specs.Meaning.{soundLine, imageLines, isFormat, lines}
 use Rattle.laws.proofs.Facts.{Facts}
 use Rattle.laws.proofs.Counting.{free-number}
+use Rattle.laws.proofs.Walks.{last-entered}
 use Rattle.laws.proofs.Make.{Clear}
 use Rattle.laws.proofs.Lines.{passed}
 use Rattle.laws.proofs.Names.{last-legal, date-length}
@@ -90,6 +91,12 @@ arrives d (arrived x) u v = refl
 arrives d (missing i) u v = absurd u
 arrives d (blocked i) u v = absurd v
 
+-- a file holds no entries
+file-empty : (x : Node) → T (not (isDirectoryNode x)) → held (rowIn x) ≤ 0
+unfolding isDirectoryNode rowIn held
+file-empty (fileNode d v) h = omega arith
+file-empty (directoryNode d r) h = absurd h
+
 module _ (b : Bytes) (f : Facts b) where
   -- the free number is the number of zero bits
   space-free : (k : ℕ) → T (not (ltb (freeNumber (treeOf b)) k)) → k ≤ zeroBits b (pageCount b)
@@ -154,15 +161,14 @@ module _ (b : Bytes) (f : Facts b) where
         space = space-free (wanted (write path from v) (treeOf b)) (p6 .0);
       }
 
-  pub remove-passed : (path : Bytes) → Passes (refusals (remove path) (treeOf b)) → Removes b path
+  pub remove-file-passed : (path : Bytes) → Passes (refusals (removeFile path) (treeOf b)) → Removes b path
   unfolding refusals earlier later treeOf arrivedOr
-  remove-passed path e =
+  remove-file-passed path e =
       let p1 = passed _ _ e in
       let p2 = passed _ _ (p1 .1) in
       let p3 = passed _ _ (p2 .1) in
       let p4 = passed _ _ (p3 .1) in
       let p5 = passed _ _ (p4 .1) in
-      let p6 = passed _ _ (p5 .1) in
       let top : Row = rowAt (pageCount b) b 0 in
       let w = last-name (pathOf path) (p1 .0) (p2 .0) in
       record {
@@ -171,7 +177,31 @@ module _ (b : Bytes) (f : Facts b) where
         is = w .2;
         reached = subst (λ (p : Path). T (not (isMissing (walkTo p top)))) (w .2) (p3 .0);
         entered = subst (λ (p : Path). T (not (isBlocked (walkTo p top)))) (w .2) (p4 .0);
-        empty = λ x a. nltb→le 0 (held (rowIn x))
-            (subst (λ (y : Walked Node). T (not (ltb 0 (held (rowIn (arrivedOr (directoryNode [] end) y)))))) a
-            (subst (λ (p : Path). T (not (ltb 0 (held (rowIn (arrivedOr (directoryNode [] end) (walkTo p top))))))) (w .2) (p6 .0)));
+        empty = λ x a. file-empty x
+            (subst (λ (y : Walked Node). T (not (isDirectoryNode (arrivedOr (directoryNode [] end) y)))) a
+            (subst (λ (p : Path). T (not (isDirectoryNode (arrivedOr (directoryNode [] end) (walkTo p top))))) (w .2) (p5 .0)));
+      }
+
+  pub remove-directory-passed : (path : Bytes) → Passes (refusals (removeDirectory path) (treeOf b)) → Removes b path
+  unfolding refusals earlier later treeOf isMissing isBlocked rowIn
+  remove-directory-passed path e =
+      let p1 = passed _ _ e in
+      let p2 = passed _ _ (p1 .1) in
+      let p3 = passed _ _ (p2 .1) in
+      let p4 = passed _ _ (p3 .1) in
+      let p5 = passed _ _ (p4 .1) in
+      let p6 = passed _ _ (p5 .1) in
+      let top : Row = rowAt (pageCount b) b 0 in
+      let w = last-name (pathOf path) (p1 .0) (p2 .0) in
+      let come = arrives end (walk (names (pathOf path)) top) (p3 .0) (p4 .0) in
+      let s : Row = arrivedOr end (walk (names (pathOf path)) top) in
+      let last = last-entered (w .0) (w .1) top s (subst (λ (p : Path). walk (names p) top ≡ arrived s) (w .2) come) in
+      record {
+        ns = w .0;
+        n = w .1;
+        is = w .2;
+        reached = subst (λ (x : Walked Node). T (not (isMissing x))) (sym (last .1)) tt;
+        entered = subst (λ (x : Walked Node). T (not (isBlocked x))) (sym (last .1)) tt;
+        empty = λ x a. let q : directoryNode (last .0) s ≡ x = cc (sym (last .1) ∙ a) in
+            subst (λ (y : Node). held (rowIn y) ≤ 0) q (nltb→le 0 (held s) (p6 .0));
       }

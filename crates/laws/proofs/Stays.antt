@@ -24,7 +24,7 @@ use Rattle.model.specs.Path.{Path, below, pathOf}
 use Rattle.model.specs.Image.{rowAt, treeOf}
 use Rattle.model.specs.Walk.{Walked, arrivedOr, parentPage, entryPosition}
 use Rattle.model.specs.Effect.{lowestVacant, made, rewritten, written, removed}
-use Rattle.model.specs.Call.{Call, format, verdict, find, list, read, makeFile, makeDirectory, write, remove, refusal}
+use Rattle.model.specs.Call.{Call, format, verdict, find, list, read, makeFile, makeDirectory, write, removeFile, removeDirectory, refusal}
 use Rattle.model.specs.Refusal.{isDirectoryNode, contentIn, node, size, wanted, earlier, later, refusals, Passes}
 use Rattle.model.specs.Meaning.{isFormat, lines, effect, after}
 use Rattle.laws.proofs.Facts.{Facts, sound-facts}
@@ -37,7 +37,7 @@ use Rattle.laws.proofs.Make.{Place, place-of, madeAt, made-bytes, made-
 use Rattle.laws.proofs.Write.{isFileEntry, node-file, file-pages, file-content, file-size, rewritten-is, write-bytes}
 use Rattle.laws.proofs.Remove.{removed-bytes}
 use Rattle.laws.proofs.Lines.{passed, settle-both}
-use Rattle.laws.proofs.Passed.{Makes, Writes, Removes, sound-passed, make-passed, write-passed, remove-passed}
+use Rattle.laws.proofs.Passed.{Makes, Writes, Removes, sound-passed, make-passed, write-passed, remove-file-passed, remove-directory-passed}
 
 -- byte i is none of the header's bytes 3 to 35, none of the n bytes from position `at` on, and none of these pages'
 pub record Outside (at n : ℕ) (pages : List ℕ) (i : ℕ) : Type 0 where
@@ -58,7 +58,8 @@ Unnamed (write path from v) b i =
     let at = entryPosition b (pathOf path) in
     let more = pagesFor (max (sizeAt b at) (from + length v)) - length (pagesAt b at) in
     Outside (at + 17) 3 (pagesAt b at ++ On.gained version1 (pageCount b) more b) i
-Unnamed (remove path) b i = Outside (entryPosition b (pathOf path)) 1 [] i
+Unnamed (removeFile path) b i = Outside (entryPosition b (pathOf path)) 1 [] i
+Unnamed (removeDirectory path) b i = Outside (entryPosition b (pathOf path)) 1 [] i
 
 kept : (b : Bytes) → Facts b → (i : ℕ) → (3 ≤ i → 36 ≤ i) → Kept version1 (pageCount b) i
 kept b f i h = elim (decLt i 3) [ yes l ↦ head-kept b f i l | no l ↦ rest-kept b f i (h (omega (arith, l))) ]
@@ -161,10 +162,14 @@ effect-stays (write path from v) b i u e =
     let g = sound-passed (write path from v) b tt e in
     let f = sound-facts b (g .0) in
     written-stays b f path from v (write-passed b f path from v (g .1)) i u
-effect-stays (remove path) b i u e =
-    let g = sound-passed (remove path) b tt e in
+effect-stays (removeFile path) b i u e =
+    let g = sound-passed (removeFile path) b tt e in
     let f = sound-facts b (g .0) in
-    removed-stays b f path (remove-passed b f path (g .1)) i u
+    removed-stays b f path (remove-file-passed b f path (g .1)) i u
+effect-stays (removeDirectory path) b i u e =
+    let g = sound-passed (removeDirectory path) b tt e in
+    let f = sound-facts b (g .0) in
+    removed-stays b f path (remove-directory-passed b f path (g .1)) i u
 
 pub stays : (c : Call) (b : Bytes) (i : ℕ) → Unnamed c b i → byteAt (after c b) i ≡ byteAt b i
 unfolding after

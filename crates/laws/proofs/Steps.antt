@@ -17,7 +17,7 @@ use Rattle.model.specs.Sound.{sound}
 use Rattle.model.specs.Judge.{badEntry, badChain, ownedTwice, markedFree, lostPage, badCount, Judged, fault, clean, judge, isClean}
 use Rattle.model.specs.Tree.{Tree, freeNumber}
 use Rattle.model.specs.Image.{treeOf}
-use Rattle.model.specs.Call.{Call, format, verdict, find, list, read, makeFile, makeDirectory, write, remove, bufferBefore, Refusal, refusal, refused, granted}
+use Rattle.model.specs.Call.{Call, format, verdict, find, list, read, makeFile, makeDirectory, write, removeFile, removeDirectory, bufferBefore, Refusal, refusal, refused, granted}
 use Rattle.model.specs.Refusal.{Line, wanted, makeLines, earlier, later, refusals, settle, Passes, tableOrder}
 use Rattle.model.specs.Meaning.{freshTree, told, filled, changed, treeAnswer, treeBuffer, treeAfter, firstFault, soundLine, imageLines, isFormat, lines, effect, answer, after, bufferAfter}
 use Rattle.model.specs.Demands.{Untouched, Unsound, byLength, byHeader, byFault, AsTree}
@@ -49,7 +49,8 @@ module _ {A : Type 0} (b : Bytes) (h : T (sound b)) (f : Refusal → A) (x : A) 
   settled (makeFile path date) = image-skip (refusals (makeFile path date) (treeOf b))
   settled (makeDirectory path date) = image-skip (refusals (makeDirectory path date) (treeOf b))
   settled (write path at v) = image-skip (refusals (write path at v) (treeOf b))
-  settled (remove path) = image-skip (refusals (remove path) (treeOf b))
+  settled (removeFile path) = image-skip (refusals (removeFile path) (treeOf b))
+  settled (removeDirectory path) = image-skip (refusals (removeDirectory path) (treeOf b))
 
 -- ---- a call on a sound image
 
@@ -90,7 +91,8 @@ numbered (read path at room) b = rw (fault-numbered (judge b)) tt
 numbered (makeFile path date) b = rw (fault-numbered (judge b)) tt
 numbered (makeDirectory path date) b = rw (fault-numbered (judge b)) tt
 numbered (write path at v) b = rw (fault-numbered (judge b)) tt
-numbered (remove path) b = rw (fault-numbered (judge b)) tt
+numbered (removeFile path) b = rw (fault-numbered (judge b)) tt
+numbered (removeDirectory path) b = rw (fault-numbered (judge b)) tt
 
 -- what rises from a number rises from a lower one
 rising-from : (k m : ℕ) → k ≤ m → (r : List ℕ) → T (rising (m ∷ r)) → T (rising (k ∷ r))
@@ -127,7 +129,8 @@ in-order (read path at room) b = fault-rising b (refusals (read path at room) (t
 in-order (makeFile path date) b = fault-rising b (refusals (makeFile path date) (treeOf b)) (tt {0})
 in-order (makeDirectory path date) b = fault-rising b (refusals (makeDirectory path date) (treeOf b)) (tt {0})
 in-order (write path at v) b = fault-rising b (refusals (write path at v) (treeOf b)) (tt {0})
-in-order (remove path) b = fault-rising b (refusals (remove path) (treeOf b)) (tt {0})
+in-order (removeFile path) b = fault-rising b (refusals (removeFile path) (treeOf b)) (tt {0})
+in-order (removeDirectory path) b = fault-rising b (refusals (removeDirectory path) (treeOf b)) (tt {0})
 
 pub untouched : (c : Call) (b : Bytes) (f : Refusal) → answer c b ≡ refused f → Untouched c b f
 unfolding answer after bufferAfter
@@ -173,7 +176,8 @@ no-ten-earlier (read path at room) t = tt
 no-ten-earlier (makeFile path date) t = tt
 no-ten-earlier (makeDirectory path date) t = tt
 no-ten-earlier (write path at v) t = tt
-no-ten-earlier (remove path) t = tt
+no-ten-earlier (removeFile path) t = tt
+no-ten-earlier (removeDirectory path) t = tt
 
 no-ten-later : (c : Call) (t : Tree) → NoTen (later c t)
 unfolding later all
@@ -185,7 +189,8 @@ no-ten-later (read path at room) t = tt
 no-ten-later (makeFile path date) t = tt
 no-ten-later (makeDirectory path date) t = tt
 no-ten-later (write path at v) t = tt
-no-ten-later (remove path) t = tt
+no-ten-later (removeFile path) t = tt
+no-ten-later (removeDirectory path) t = tt
 
 pub want-of-pages : (c : Call) (t : Tree) → (treeAnswer c t ≡ refused (refusal 10)) ↔ (Passes (earlier c t) × (freeNumber t < wanted c t))
 unfolding treeAnswer refusals

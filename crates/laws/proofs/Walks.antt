@@ -5,7 +5,7 @@ use Prim.Native.Nat.{ℕ, zero, suc}
 use native.Mathlib.Omega.{arith}
 use mathlib.Core.Bool.{Bool, true, false, not}
 use mathlib.Core.Option.{Option, none, some, Option·getD, Option·map}
-use mathlib.Core.List.{List, [], _∷_}
+use mathlib.Core.List.{List, [], _∷_, _++_}
 use lib.Dec.{T}
 use Rattle.volume.specs.Bytes.{Bytes, if_then_else_}
 use Rattle.volume.specs.Lists.{first}
@@ -166,6 +166,24 @@ inner-blocked ns n r h = go (walk ns r) h
     go (arrived s) k = tt
     go (missing i) k = tt
     go (blocked i) k = k
+
+-- a walk that enters a directory by its last name leads to it
+pub last-entered : (ns : List Name) (n : Name) (r s : Row) → walk (ns ++ (n ∷ [])) r ≡ arrived s → (d : Bytes) × (walkTo (below ns n) r ≡ arrived (directoryNode d s))
+unfolding walk enter walkTo inWalked nodeNamed isMissing isBlocked
+last-entered [] n r s e = go (lookup (n .bytes) r) e
+  where
+    go : (o : Option Node) → enter n o (walk []) ≡ arrived s → (d : Bytes) × (nodeNamed n o ≡ arrived (directoryNode d s))
+    go none q = absurd (subst (λ (w : Walked Row). T (isMissing w)) q tt)
+    go (some (fileNode d v)) q = absurd (subst (λ (w : Walked Row). T (isBlocked w)) q tt)
+    go (some (directoryNode d u)) q = (d, let same : u ≡ s = cc q in ap (λ (x : Row). arrived (directoryNode d x)) same)
+last-entered (m ∷ ns) n r s e = go (lookup (m .bytes) r) e (λ u. last-entered ns n u s)
+  where
+    go : (o : Option Node) → enter m o (walk (ns ++ (n ∷ []))) ≡ arrived s
+        → ((u : Row) → walk (ns ++ (n ∷ [])) u ≡ arrived s → (d : Bytes) × (walkTo (below ns n) u ≡ arrived (directoryNode d s)))
+        → (d : Bytes) × (inWalked (enter m o (walk ns)) (λ q. nodeNamed n (lookup (n .bytes) q)) ≡ arrived (directoryNode d s))
+    go none q next = absurd (subst (λ (w : Walked Row). T (isMissing w)) q tt)
+    go (some (fileNode d v)) q next = absurd (subst (λ (w : Walked Row). T (isBlocked w)) q tt)
+    go (some (directoryNode d u)) q next = next u q
 
 pub target : (b : Bytes) → Facts b → (ns : List Name) (n : Name)
     → T (not (isMissing (walkTo (below ns n) (rowAt (pageCount b) b 0)))) → T (not (isBlocked (walkTo (below ns n) (rowAt (pageCount b) b 0)))) → Target b ns n

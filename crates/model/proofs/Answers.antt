@@ -3,7 +3,7 @@ use mathlib.Core.Path.{refl}
 use mathlib.Core.List.{List, [], _∷_, _++_}
 use lib.ListN.{replicate, set, drop}
 use Rattle.volume.specs.Bytes.{part, put}
-use Rattle.model.specs.Call.{format, verdict, find, list, read, makeFile, makeDirectory, write, remove, isFile, isDirectory, empty, Refusal, refusal as number, refusalAt as numberAt, refused, granted}
+use Rattle.model.specs.Call.{format, verdict, find, list, read, makeFile, makeDirectory, write, removeFile, removeDirectory, isFile, isDirectory, empty, Refusal, refusal as number, refusalAt as numberAt, refused, granted}
 use Rattle.model.specs.Text.{text}
 use Rattle.model.proofs.Run.{computing, Step, Case, _gives_, reads, done, sized, answered, shown, Hold, computed, stated, hold}
 use Rattle.model.proofs.Table.{blank}
@@ -43,7 +43,8 @@ everyCall r =
     ∷ makeFile (text "x") [] gives refused r
     ∷ makeDirectory (text "x") [] gives refused r
     ∷ write (text "x") 9 (1 ∷ []) gives refused r
-    ∷ remove (text "x") gives refused r
+    ∷ removeFile (text "x") gives refused r
+    ∷ removeDirectory (text "x") gives refused r
     ∷ []
 
 pub judgedFirst : List Case
@@ -241,10 +242,10 @@ makes =
     ∷ shown full (write (text "/D") 0 (content 255) gives done ∷ verdict gives sized 8 0 ∷ [])
     whole (put 178 (0xFF ∷ 0x00 ∷ []) (put 1025 (content 255) full))
     ∷ answered full (
-    remove (text "/D") gives done ∷ verdict gives sized 8 1 ∷ remove (text "/C") gives done ∷ verdict gives sized 8 2 ∷ [])
+    removeFile (text "/D") gives done ∷ verdict gives sized 8 1 ∷ removeFile (text "/C") gives done ∷ verdict gives sized 8 2 ∷ [])
     -- the page that an empty file gave back is all that the next one wants
     ∷ answered full (
-    remove (text "/D") gives done
+    removeFile (text "/D") gives done
     ∷ makeFile (text "/A/C") day1 gives done
     ∷ verdict gives sized 8 0
     ∷ makeFile (text "/G") day1 gives refusal 10
@@ -269,7 +270,7 @@ makes =
     -- the lowest empty entry is filled, the one that a removal left
     ∷ answered desk (
     makeFile (text "/C") day1 gives done
-    ∷ remove (text "/0042") gives done
+    ∷ removeFile (text "/0042") gives done
     ∷ makeDirectory (text "/D") day3 gives done
     ∷ makeFile (text "/E") day2 gives done
     ∷ list (text "/") 0 gives entry isDirectory (text "D" ++ replicate 15 0) 256 day3
@@ -295,8 +296,8 @@ makes =
     ∷ find (text "/a") gives found isFile 0 day3
     ∷ [])
     ∷ answered desk (
-    remove (text "/A/7") gives done
-    ∷ remove (text "/A/B") gives done
+    removeFile (text "/A/7") gives done
+    ∷ removeDirectory (text "/A/B") gives done
     ∷ makeFile (text "/0123456789ABCDEF") day2 gives done
     ∷ makeFile (text "/0123456789ABCDE") day3 gives done
     ∷ find (text "/0123456789ABCDEF") gives found isFile 0 day2
@@ -317,7 +318,7 @@ makes =
     ∷ find (text "/AB") gives found isDirectory 256 day1
     ∷ find (text "/A") gives found isFile 1 day2
     ∷ find (text "/ABC") gives found isFile 0 day3
-    ∷ remove (text "/A") gives done
+    ∷ removeFile (text "/A") gives done
     ∷ find (text "/A") gives refusalAt 5 1
     ∷ makeDirectory (text "/ABCD") day1 gives done
     ∷ makeDirectory (text "/A/x") day1 gives refusalAt 5 1

@@ -3,7 +3,7 @@ use mathlib.Core.Path.{refl}
 use mathlib.Core.List.{List, [], _∷_, _++_}
 use lib.ListN.{replicate, set}
 use Rattle.volume.specs.Bytes.{Bytes, part, put}
-use Rattle.model.specs.Call.{format, verdict, find, makeFile, makeDirectory, write, remove, isFile}
+use Rattle.model.specs.Call.{format, verdict, find, makeFile, makeDirectory, write, removeFile, removeDirectory, isFile}
 use Rattle.model.specs.Text.{text}
 use Rattle.model.proofs.Run.{computing, Case, _gives_, reads, done, sized, answered, shown, Hold, computed, stated, hold}
 use Rattle.model.proofs.Desk.{day1, day2, day3, content, refusal, refusalAt, found, whole, stored, fresh, two, desk, shelf, far}
@@ -58,7 +58,7 @@ writes =
     whole (put 3 (1 ∷ 0b1111111 ∷ []) (put 146 (0x2C ∷ 0x01 ∷ [])
     (put 1280 (6 ∷ content 255 ++ 0 ∷ part 255 45 (content 300) ++ replicate 210 0) shelf)))
     -- the lowest free page comes first, wherever it stands: /B goes on from page 2 on pages 1 and 3
-    ∷ shown two (remove (text "/A") gives done ∷ write (text "/B") 255 (content 300) gives done
+    ∷ shown two (removeFile (text "/A") gives done ∷ write (text "/B") 255 (content 300) gives done
     ∷ reads (text "/B") 254 (replicate 3 9) 3 (0x42 ∷ 0 ∷ 1 ∷ [])
     ∷ reads (text "/B") 509 (replicate 3 9) 3 (3 ∷ 4 ∷ 5 ∷ []) ∷ [])
     whole (put 3 (4 ∷ 0b1111 ∷ []) (set (put 114 (0x2B ∷ 0x02 ∷ [])
@@ -84,34 +84,48 @@ writes-hold = hold writes refl
 
 pub removes : List Case
 removes =
-    -- refused
+    -- refused; `/` is a directory that holds something, but 14 stands above 7 and 13
     shown desk (
-    remove (text "A") gives refusal 4
-    ∷ remove (text "/") gives refusal 14
-    ∷ remove (text "/x") gives refusalAt 5 1
-    ∷ remove (text "/A/x/7") gives refusalAt 5 3
-    ∷ remove (text "/0042/x") gives refusalAt 6 1
-    ∷ remove (text "/A/7/x") gives refusalAt 6 3
-    ∷ remove (text "/A") gives refusal 13
+    removeFile (text "A") gives refusal 4
+    ∷ removeFile (text "/A/") gives refusal 4
+    ∷ removeFile (text "/") gives refusal 14
+    ∷ removeFile (text "/x") gives refusalAt 5 1
+    ∷ removeFile (text "/A/x/7") gives refusalAt 5 3
+    ∷ removeFile (text "/0042/x") gives refusalAt 6 1
+    ∷ removeFile (text "/A/7/x") gives refusalAt 6 3
+    -- a directory, with something in it or not
+    ∷ removeFile (text "/A") gives refusal 7
+    ∷ removeFile (text "/A/B") gives refusal 7
+    ∷ removeDirectory (text "A") gives refusal 4
+    ∷ removeDirectory (text "/A/") gives refusal 4
+    ∷ removeDirectory (text "/") gives refusal 14
+    ∷ removeDirectory (text "/x") gives refusalAt 5 1
+    ∷ removeDirectory (text "/A/x/7") gives refusalAt 5 3
+    ∷ removeDirectory (text "/0042/x") gives refusalAt 6 1
+    ∷ removeDirectory (text "/A/7/x") gives refusalAt 6 3
+    -- a file, which is where the walk needs a directory
+    ∷ removeDirectory (text "/0042") gives refusalAt 6 1
+    ∷ removeDirectory (text "/A/7") gives refusalAt 6 3
+    ∷ removeDirectory (text "/A") gives refusal 13
     ∷ [])
     whole desk
-    ∷ answered fresh (remove (text "/") gives refusal 14 ∷ [])
+    ∷ answered fresh (removeFile (text "/") gives refusal 14 ∷ removeDirectory (text "/") gives refusal 14 ∷ [])
     -- the flags byte, the marks and the count change, and no other byte; an empty file too gives its page back
-    ∷ shown desk (remove (text "/0042") gives done ∷ find (text "/0042") gives refusalAt 5 1 ∷ verdict gives sized 8 4 ∷ [])
+    ∷ shown desk (removeFile (text "/0042") gives done ∷ find (text "/0042") gives refusalAt 5 1 ∷ verdict gives sized 8 4 ∷ [])
     whole (put 3 (4 ∷ 0b011101 ∷ []) (set desk 64 0))
-    ∷ shown desk (remove (text "/A/B") gives done ∷ [])
+    ∷ shown desk (removeDirectory (text "/A/B") gives done ∷ [])
     whole (put 3 (3 ∷ 0b101111 ∷ []) (set desk 544 0))
-    ∷ shown desk (remove (text "/A/7") gives done ∷ remove (text "/A") gives refusal 13 ∷ [])
+    ∷ shown desk (removeFile (text "/A/7") gives done ∷ removeDirectory (text "/A") gives refusal 13 ∷ [])
     whole (put 3 (3 ∷ 0b110111 ∷ []) (set desk 512 0))
-    ∷ shown desk (remove (text "/A/7") gives done ∷ remove (text "/A/B") gives done ∷ remove (text "/A") gives done ∷ [])
+    ∷ shown desk (removeFile (text "/A/7") gives done ∷ removeDirectory (text "/A/B") gives done ∷ removeDirectory (text "/A") gives done ∷ [])
     whole (put 3 (5 ∷ 0b100011 ∷ []) (set (set (set desk 512 0) 544 0) 96 0))
-    ∷ shown far (remove (text "/A") gives done ∷ []) whole (put 3 (15 ∷ 0b1 ∷ 0b0 ∷ []) (set far 64 0))
+    ∷ shown far (removeFile (text "/A") gives done ∷ []) whole (put 3 (15 ∷ 0b1 ∷ 0b0 ∷ []) (set far 64 0))
     -- case 11
     ∷ answered fresh (
     makeFile (text "/0042") day1 gives done
     ∷ write (text "/0042") 0 (content 1785) gives done
     ∷ verdict gives sized 8 0
-    ∷ remove (text "/0042") gives done
+    ∷ removeFile (text "/0042") gives done
     ∷ verdict gives sized 8 7
     ∷ makeFile (text "/42") day1 gives done
     ∷ write (text "/42") 0 (content 1785) gives done
@@ -152,13 +166,13 @@ made =
     ∷ makeDirectory (text "/1/2/3/4/5/6/7/8") day1 gives refusal 10
     ∷ makeFile (text "/1/2/3/4/5/6/7/8") day2 gives refusal 10
     ∷ find (text "/1/2/3/4/5/6/7/8") gives refusalAt 5 15
-    ∷ remove (text "/1/2/3/4/5/6") gives refusal 13
-    ∷ remove (text "/1/2/3/4/5/6/7") gives done
+    ∷ removeDirectory (text "/1/2/3/4/5/6") gives refusal 13
+    ∷ removeDirectory (text "/1/2/3/4/5/6/7") gives done
     ∷ makeFile (text "/1/2/3/4/5/6/7") day2 gives done
     ∷ verdict gives sized 8 0
     ∷ find (text "/1/2/3/4/5/6/7") gives found isFile 0 day2
     ∷ find (text "/1/2/3/4/5/6/7/8") gives refusalAt 6 13
-    ∷ remove (text "/1/2/3/4/5/6") gives refusal 13
+    ∷ removeDirectory (text "/1/2/3/4/5/6") gives refusal 13
     ∷ [])
     ∷ []
 

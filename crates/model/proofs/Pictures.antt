@@ -5,7 +5,7 @@ use lib.ListN.{replicate, set}
 use Rattle.model.specs.Tree.{end, free, file, dir, Tree, fill, rewrite, vacate, inside}
 use Rattle.model.specs.Image.{treeOf}
 use Rattle.model.specs.Walk.{changeAt}
-use Rattle.model.specs.Call.{format, verdict, find, makeFile, makeDirectory, write, remove}
+use Rattle.model.specs.Call.{format, verdict, find, makeFile, makeDirectory, write, removeFile, removeDirectory}
 use Rattle.model.specs.Meaning.{inParent, changed, treeAnswer, treeBuffer, treeAfter}
 use Rattle.model.specs.Demands.{replay, replayResults}
 use Rattle.model.specs.Text.{text}
@@ -43,13 +43,13 @@ deskSteps =
     ∷ makeFile (text "/x") day1 gives done
     ∷ makeFile (text "/0042") day2 gives refusal 8
     ∷ write (text "/0042") 0 (content 200) gives done
-    ∷ remove (text "/x") gives done
+    ∷ removeFile (text "/x") gives done
     ∷ makeDirectory (text "/A") day2 gives done
     ∷ write (text "/0042") 200 (replicate 2000 1) gives refusal 10
     ∷ makeDirectory (text "/A/x") day3 gives done
     ∷ makeDirectory (text "/A/B") day1 gives done
-    ∷ remove (text "/A") gives refusal 13
-    ∷ remove (text "/A/x") gives done
+    ∷ removeDirectory (text "/A") gives refusal 13
+    ∷ removeDirectory (text "/A/x") gives done
     ∷ makeFile (text "/A/7") day3 gives done
     ∷ write (text "/0042") 0 (content 256) gives done
     ∷ reads (text "/0042") 253 (replicate 5 9) 3 (2 ∷ 3 ∷ 4 ∷ 9 ∷ 9 ∷ [])
@@ -85,7 +85,7 @@ listings =
     listing (text "pages 8 free 3\nF 256 /0042\nD 256 /A\nF 0 /A/7\n")
     ∷ shown fresh [] listing (text "pages 8 free 7\n")
     -- entries in order, a directory's contents directly after it; names may hold spaces
-    ∷ shown desk (newFile "/A/B/ ~" gives done ∷ newFile "/a b" gives done ∷ remove (text "/0042") gives done ∷ newFile "/0123456789ABCDEF" gives done ∷ [])
+    ∷ shown desk (newFile "/A/B/ ~" gives done ∷ newFile "/a b" gives done ∷ removeFile (text "/0042") gives done ∷ newFile "/0123456789ABCDEF" gives done ∷ [])
     listing (text "pages 8 free 1\nF 0 /0123456789ABCDEF\nD 256 /A\nF 0 /A/7\nD 256 /A/B\nF 0 /A/B/ ~\nF 0 /a b\n")
     ∷ shown fresh (newFile "/A" gives done ∷ write (text "/A") 0 (replicate 1785 0) gives done ∷ []) listing (text "pages 8 free 0\nF 1785 /A\n")
     ∷ shown (replicate 65536 0) (format gives done ∷ []) listing (text "pages 256 free 255\n")

@@ -10,7 +10,7 @@ use Rattle.volume.specs.Lists.{upTo}
 use Rattle.volume.specs.Geometry as On
 use Rattle.model.specs.Layout.{version1}
 use Rattle.model.specs.Sound.{sound, ownedPages, owners}
-use Rattle.model.specs.Call.{verdict, find, list, makeFile, makeDirectory, write, remove, isFile, isDirectory, empty, refused, granted}
+use Rattle.model.specs.Call.{verdict, find, list, makeFile, makeDirectory, write, removeFile, removeDirectory, isFile, isDirectory, empty, refused, granted}
 use Rattle.model.specs.Text.{text}
 use Rattle.model.specs.Judge.{clean, judge, isClean}
 use Rattle.model.proofs.Run.{computing, Case, _gives_, done, sized, answered, shown, Hold, computed, stated, hold}
@@ -178,7 +178,7 @@ kept =
     ∷ [])
     whole (put 3 (4 ∷ 0b1111 ∷ []) (put 82 (0x00 ∷ 0x01 ∷ []) (put 96 (stored 0x81 (text "B" ++ replicate 15 0) 3 0x00 0x01 day1)
     (set (put 512 (0 ∷ 0xA0 ∷ replicate 510 0) loose) 256 2))))
-    ∷ shown loose (remove (text "/A") gives done ∷ []) whole (put 3 (7 ∷ 0b1 ∷ []) (set loose 64 0))
+    ∷ shown loose (removeFile (text "/A") gives done ∷ []) whole (put 3 (7 ∷ 0b1 ∷ []) (set loose 64 0))
     -- the flags' other bits on a directory
     ∷ shown (set box 64 0xFF) (verdict gives sized 8 6 ∷ find (text "/A") gives found isDirectory 256 day1 ∷ makeFile (text "/A/x") day1 gives done ∷ [])
     (part 64 1) (0xFF ∷ [])

@@ -13,7 +13,8 @@ pub data Call : Type 0 where
   makeFile : (path date : Bytes) → Call
   makeDirectory : (path date : Bytes) → Call
   write : (path : Bytes) (position : ℕ) (bytes : Bytes) → Call
-  remove : (path : Bytes) → Call
+  removeFile : (path : Bytes) → Call
+  removeDirectory : (path : Bytes) → Call
 
 -- ---- what a granted call tells
 
@@ -44,7 +45,8 @@ Told (read path position buffer) = ℕ
 Told (makeFile path date) = Unit {0}
 Told (makeDirectory path date) = Unit {0}
 Told (write path position bytes) = Unit {0}
-Told (remove path) = Unit {0}
+Told (removeFile path) = Unit {0}
+Told (removeDirectory path) = Unit {0}
 
 -- the reader's buffer before the call; only a read has one
 abbrev pub bufferBefore : Call → Bytes
@@ -56,7 +58,8 @@ bufferBefore (read path position room) = room
 bufferBefore (makeFile path date) = []
 bufferBefore (makeDirectory path date) = []
 bufferBefore (write path position bytes) = []
-bufferBefore (remove path) = []
+bufferBefore (removeFile path) = []
+bufferBefore (removeDirectory path) = []
 
 -- ---- answers
 

@@ -13,7 +13,7 @@ use Rattle.model.specs.Path.{Path, pathOf, parents, lastName}
 use Rattle.model.specs.Image.{treeOf}
 use Rattle.model.specs.Walk.{changeAt}
 use Rattle.model.specs.Effect.{formatted, fileMade, directoryMade, written, removed}
-use Rattle.model.specs.Call.{Call, format, verdict, find, list, read, makeFile, makeDirectory, write, remove, isFile, isDirectory, Found, Listed, empty, holds, Told, bufferBefore, Refusal, refusal, refusalAt, Answer, refused, granted}
+use Rattle.model.specs.Call.{Call, format, verdict, find, list, read, makeFile, makeDirectory, write, removeFile, removeDirectory, isFile, isDirectory, Found, Listed, empty, holds, Told, bufferBefore, Refusal, refusal, refusalAt, Answer, refused, granted}
 use Rattle.model.specs.Refusal.{Line, refusals, settle, node, directoryRow, contentIn}
 
 -- ---- on the plain tree
@@ -47,7 +47,8 @@ told (read path at room) t = length (copied (contentIn (node path t)) at room)
 told (makeFile path date) t = tt
 told (makeDirectory path date) t = tt
 told (write path at v) t = tt
-told (remove path) t = tt
+told (removeFile path) t = tt
+told (removeDirectory path) t = tt
 
 -- the reader's buffer after a granted call; past what a read copied it stays
 unfoldable pub filled : Call → Tree → Bytes
@@ -59,7 +60,8 @@ filled (read path at room) t = put 0 (copied (contentIn (node path t)) at room) 
 filled (makeFile path date) t = []
 filled (makeDirectory path date) t = []
 filled (write path at v) t = []
-filled (remove path) t = []
+filled (removeFile path) t = []
+filled (removeDirectory path) t = []
 
 -- f done to the row of the parent directory
 unfoldable pub inParent : Path → (Row → Row) → Tree → Tree
@@ -78,7 +80,8 @@ changed (read path at room) t = t
 changed (makeFile path date) t = inParent (pathOf path) (fill (file (lastName (pathOf path)) date [])) t
 changed (makeDirectory path date) t = inParent (pathOf path) (fill (dir (lastName (pathOf path)) date (emptyRow 8))) t
 changed (write path at v) t = inParent (pathOf path) (rewrite (lastName (pathOf path)) (put at v (contentIn (node path t)))) t
-changed (remove path) t = inParent (pathOf path) (vacate (lastName (pathOf path))) t
+changed (removeFile path) t = inParent (pathOf path) (vacate (lastName (pathOf path))) t
+changed (removeDirectory path) t = inParent (pathOf path) (vacate (lastName (pathOf path))) t
 
 unfoldable pub treeAnswer : (c : Call) → Tree → Answer (Told c)
 treeAnswer c t = settle (refusals c t) refused (granted (told c t))
@@ -100,7 +103,8 @@ isFormat (read path at room) = false
 isFormat (makeFile path date) = false
 isFormat (makeDirectory path date) = false
 isFormat (write path at v) = false
-isFormat (remove path) = false
+isFormat (removeFile path) = false
+isFormat (removeDirectory path) = false
 
 -- 16 bad entry (directory page, entry); 17 page out of range, or chain not ending where the size says (directory page, entry, how many of its
 -- pages passed); 18 page owned twice, 20 owned page marked free, 19 lost page (the page); 3 bit 0 or byte 3
@@ -145,7 +149,8 @@ effect (read path at room) b = b
 effect (makeFile path date) b = fileMade (pathOf path) date b
 effect (makeDirectory path date) b = directoryMade (pathOf path) date b
 effect (write path at v) b = written (pathOf path) at v b
-effect (remove path) b = removed (pathOf path) b
+effect (removeFile path) b = removed (pathOf path) b
+effect (removeDirectory path) b = removed (pathOf path) b
 
 -- what call c answers on image b, what the image is after it, and what the reader's buffer is; a refused call changes nothing
 unfoldable pub answer : (c : Call) → Bytes → Answer (Told c)

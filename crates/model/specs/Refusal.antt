@@ -13,7 +13,7 @@ use Rattle.model.specs.Date.{goodDate}
 use Rattle.model.specs.Path.{pathOf, isNoPath, isRoot, parents, names, lastName}
 use Rattle.model.specs.Tree.{Row, end, Tree, width, held, freeNumber, Node, fileNode, directoryNode, lookup}
 use Rattle.model.specs.Walk.{Walked, arrived, missing, blocked, walk, walkTo, arrivedOr}
-use Rattle.model.specs.Call.{Call, format, verdict, find, list, read, makeFile, makeDirectory, write, remove, Refusal, refusal, refusalAt}
+use Rattle.model.specs.Call.{Call, format, verdict, find, list, read, makeFile, makeDirectory, write, removeFile, removeDirectory, Refusal, refusal, refusalAt}
 
 -- ---- what the lines ask
 
@@ -82,7 +82,8 @@ wanted (read path at buffer) t = 0
 wanted (makeFile path date) t = pagesFor 0
 wanted (makeDirectory path date) t = 1
 wanted (write path at v) t = pagesFor (max (size path t) (at + length v)) - pagesFor (size path t)
-wanted (remove path) t = 0
+wanted (removeFile path) t = 0
+wanted (removeDirectory path) t = 0
 
 -- ---- the lines
 
@@ -94,13 +95,21 @@ Line = Bool × Refusal
 abbrev pub pathLine : Bytes → Line
 pathLine path = (isNoPath (pathOf path), refusal 4)
 
--- 5: a name of the walk isn't in its directory; 6: the walk, or list, meets a file where it needs a directory
+-- 14: a removal: the path is `/`
+abbrev pub rootLine : Bytes → Line
+rootLine path = (isRoot (pathOf path), refusal 14)
+
+-- 5: a name of the walk isn't in its directory; 6: the walk, list or the removal of a directory meets a file where it needs a directory
 abbrev pub walkLines : {A : Type 0} → Walked A → List Line
 walkLines w = (isMissing w, refusalAt 5 (stoppedAt w)) ∷ (isBlocked w, refusalAt 6 (stoppedAt w)) ∷ []
 
--- 7: read or write: the path is a directory; 12: the position is past the size
+-- 7: read, write or the removal of a file: the path is a directory
+abbrev pub directoryLine : Bytes → Tree → Line
+directoryLine path t = (isDirectoryNode (node path t), refusal 7)
+
+-- 12: read or write: the position is past the size
 abbrev pub fileLines : Bytes → ℕ → Tree → List Line
-fileLines path at t = (isDirectoryNode (node path t), refusal 7) ∷ (ltb (size path t) at, refusal 12) ∷ []
+fileLines path at t = directoryLine path t ∷ (ltb (size path t) at, refusal 12) ∷ []
 
 -- 11: the date is not good; then the walk of all names but the last; 8: the name is there already, or the path is `/`; 9: no empty entry
 unfoldable pub makeLines : Bytes → Bytes → Tree → List Line
@@ -112,7 +121,7 @@ makeLines path date t =
     ∷ (eqb (held (parentRow path t)) (width (parentRow path t)), refusal 9)
     ∷ [])
 
--- the lines above number 10; 12 of list: the entry number is past the directory's last; 14: remove: the path is `/`
+-- the lines above number 10; 12 of list: the entry number is past the directory's last
 unfoldable pub earlier : Call → Tree → List Line
 earlier format t = []
 earlier verdict t = []
@@ -122,13 +131,14 @@ earlier (read path at buffer) t = pathLine path ∷ walkLines (walked path t) ++
 earlier (makeFile path date) t = makeLines path date t
 earlier (makeDirectory path date) t = makeLines path date t
 earlier (write path at v) t = pathLine path ∷ walkLines (walked path t) ++ fileLines path at t
-earlier (remove path) t = pathLine path ∷ (isRoot (pathOf path), refusal 14) ∷ walkLines (walked path t)
+earlier (removeFile path) t = pathLine path ∷ rootLine path ∷ walkLines (walked path t) ++ (directoryLine path t ∷ [])
+earlier (removeDirectory path) t = pathLine path ∷ rootLine path ∷ walkLines (walkedDirectory path t)
 
 -- 10: more pages wanted than the free number; a call that needs none never gets it
 abbrev pub spaceLine : Call → Tree → Line
 spaceLine c t = (ltb (freeNumber t) (wanted c t), refusal 10)
 
--- the line below number 10; 13: remove: the directory holds something
+-- the line below number 10; 13: the removal of a directory: it holds something
 unfoldable pub later : Call → Tree → List Line
 later format t = []
 later verdict t = []
@@ -138,7 +148,8 @@ later (read path at buffer) t = []
 later (makeFile path date) t = []
 later (makeDirectory path date) t = []
 later (write path at v) t = []
-later (remove path) t = (ltb 0 (held (rowIn (node path t))), refusal 13) ∷ []
+later (removeFile path) t = []
+later (removeDirectory path) t = (ltb 0 (held (directoryRow path t)), refusal 13) ∷ []
 
 unfoldable pub refusals : Call → Tree → List Line
 refusals c t = earlier c t ++ (spaceLine c t ∷ later c t)

@@ -18,15 +18,15 @@ pub enum Refusal {
     NoPath,
     // 11: make: the date is not good.
     BadDate,
-    // 14: remove: the path is `/`.
+    // 14: removals: the path is `/`.
     IsRoot,
     // 5: a name of the walk isn't in its directory; the byte of the path at which it begins.
     NoSuchName(usize),
-    // 6: the walk, or list, meets a file where it needs a directory; the byte of the path at which the file's name begins.
+    // 6: the walk, list or remove directory meets a file where it needs a directory; the byte of the path at which the file's name begins.
     NotADirectory(usize),
     // 8: make: the name is there already, or the path is `/`.
     NameTaken,
-    // 7: read or write: the path is a directory.
+    // 7: read, write or remove file: the path is a directory.
     IsADirectory,
     // 12: the position is past the size, or the entry number past the directory's last.
     PastEnd,
@@ -34,7 +34,7 @@ pub enum Refusal {
     DirectoryFull,
     // 10: make or write: more pages wanted than the free number.
     NoFreePages,
-    // 13: remove: the directory holds something.
+    // 13: remove directory: it holds something.
     NotEmpty,
 }
 

@@ -282,8 +282,14 @@ pub fn write_digits(image: &mut [u8], path: &[u8], position: usize, count: usize
     write(image, path, position, &content[..count]);
 }
 
-pub fn remove(image: &mut [u8], path: &[u8]) {
-    asked(b"remove", path);
+pub fn remove_file(image: &mut [u8], path: &[u8]) {
+    asked(b"remove_file", path);
     arrow();
-    changed(zealfs::remove(image, path));
+    changed(zealfs::remove_file(image, path));
+}
+
+pub fn remove_directory(image: &mut [u8], path: &[u8]) {
+    asked(b"remove_directory", path);
+    arrow();
+    changed(zealfs::remove_directory(image, path));
 }

@@ -13,7 +13,7 @@ ghost use Prim.Native.Nat.{_+_, _*_, _-_, _<_, _≤_, max};
 ghost use lib.ListN.{length, replicate};
 ghost use lib.Dec.{ltb};
 ghost use Rattle.model.specs.Layout.{pageSize, pagesFor, freeCount};
-ghost use Rattle.model.specs.Call.{format, verdict, find, list, read, makeFile, makeDirectory, write, remove};
+ghost use Rattle.model.specs.Call.{format, verdict, find, list, read, makeFile, makeDirectory, write, removeFile, removeDirectory};
 ghost use Rattle.model.specs.Meaning.{answer, after, bufferAfter};
 ghost use Rattle.zealfs.specs.Makes.{makeAnswer, makeAfter};
 ghost use Rattle.zealfs.specs.Answers.{changeAnswer, verdictAnswer, FindSays, ListSays, entryListed, readAnswer};
@@ -299,10 +299,10 @@ pub fn write(image: &mut [u8], path: &[u8], position: Position, bytes: &[u8]) ->
     ChangeAnswer::Done
 }
 
-// Removes a file, or a directory that holds nothing. Its pages are free from then on, and keep their bytes.
-pub fn remove(image: &mut [u8], path: &[u8]) -> ChangeAnswer
-    ensures { λ r. ⌜ changeAnswer r ≡ answer (remove (now (path .entry))) (now (image .entry)) ⌝ }
-    ensures { λ _. ⌜ now (image .exit) ≡ after (remove (now (path .entry))) (now (image .entry)) ⌝ }
+// Removes a file. Its pages are free from then on, and keep their bytes.
+pub fn remove_file(image: &mut [u8], path: &[u8]) -> ChangeAnswer
+    ensures { λ r. ⌜ changeAnswer r ≡ answer (removeFile (now (path .entry))) (now (image .entry)) ⌝ }
+    ensures { λ _. ⌜ now (image .exit) ≡ after (removeFile (now (path .entry))) (now (image .entry)) ⌝ }
 {
     let arrival = places::arrive(image, path);
     let Arrival::At(place) = arrival else {
@@ -315,6 +315,22 @@ pub fn remove(image: &mut [u8], path: &[u8]) -> ChangeAnswer
             changes::remove_entry(image, target.entry, target.start, pages);
             ChangeAnswer::Done
         }
+        Place::Directory(_) => ChangeAnswer::Refused(Refusal::IsADirectory),
+    }
+}
+
+// Removes a directory that holds nothing. Its page is free from then on, and keeps its bytes.
+pub fn remove_directory(image: &mut [u8], path: &[u8]) -> ChangeAnswer
+    ensures { λ r. ⌜ changeAnswer r ≡ answer (removeDirectory (now (path .entry))) (now (image .entry)) ⌝ }
+    ensures { λ _. ⌜ now (image .exit) ≡ after (removeDirectory (now (path .entry))) (now (image .entry)) ⌝ }
+{
+    let arrival = places::arrive(image, path);
+    let Arrival::At(place) = arrival else {
+        return ChangeAnswer::Refused(places::refusal_of(arrival));
+    };
+    match place {
+        Place::Root => ChangeAnswer::Refused(Refusal::IsRoot),
+        Place::File(target) => ChangeAnswer::Refused(Refusal::NotADirectory(target.begins)),
         Place::Directory(target) => {
             if !changes::holds_nothing(image, target.start) {
                 return ChangeAnswer::Refused(Refusal::NotEmpty);

@@ -10,7 +10,7 @@ use zealfs::ListAnswer;
 use zealfs::ReadAnswer;
 use zealfs::VerdictAnswer;
 ghost use mathlib.Core.Path.{_≡_};
-ghost use Rattle.model.specs.Call.{format, verdict, find, list, read, makeFile, makeDirectory, write, remove};
+ghost use Rattle.model.specs.Call.{format, verdict, find, list, read, makeFile, makeDirectory, write, removeFile, removeDirectory};
 ghost use Rattle.model.specs.Meaning.{faultTold, answer, after, bufferAfter};
 ghost use Rattle.judge.specs.Answers.{faultOf};
 ghost use Rattle.refusals.specs.Told.{told};
@@ -224,9 +224,17 @@ pub extern "C" fn zealfs_write(image: &mut [u8], path: &[u8], position: u64, byt
 }
 
 #[no_mangle]
-pub extern "C" fn zealfs_remove(image: &mut [u8], path: &[u8]) -> u64
-    ensures { λ r. ⌜ r ≡ codeOf (answer (remove (now (path .entry))) (now (image .entry))) ⌝ }
-    ensures { λ _. ⌜ now (image .exit) ≡ after (remove (now (path .entry))) (now (image .entry)) ⌝ }
+pub extern "C" fn zealfs_remove_file(image: &mut [u8], path: &[u8]) -> u64
+    ensures { λ r. ⌜ r ≡ codeOf (answer (removeFile (now (path .entry))) (now (image .entry))) ⌝ }
+    ensures { λ _. ⌜ now (image .exit) ≡ after (removeFile (now (path .entry))) (now (image .entry)) ⌝ }
 {
-    change_code(zealfs::remove(image, path))
+    change_code(zealfs::remove_file(image, path))
+}
+
+#[no_mangle]
+pub extern "C" fn zealfs_remove_directory(image: &mut [u8], path: &[u8]) -> u64
+    ensures { λ r. ⌜ r ≡ codeOf (answer (removeDirectory (now (path .entry))) (now (image .entry))) ⌝ }
+    ensures { λ _. ⌜ now (image .exit) ≡ after (removeDirectory (now (path .entry))) (now (image .entry)) ⌝ }
+{
+    change_code(zealfs::remove_directory(image, path))
 }

@@ -9,7 +9,7 @@
 //! ```
 //!
 //! The calls are not part of the input. On a sound image they look at what
-//! there is and then change it; on any other all nine have to be refused, and
+//! there is and then change it; on any other all have to be refused, and
 //! the last, a format, is granted where the length is allowed.
 
 use crate::input::Input;
@@ -135,7 +135,8 @@ fn calls_on_unsound() -> Vec<Call> {
         Call::MakeFile(path(), DATE.to_vec()),
         Call::MakeDirectory(path(), DATE.to_vec()),
         Call::Write(path(), 0, pattern(300)),
-        Call::Remove(path()),
+        Call::RemoveFile(path()),
+        Call::RemoveDirectory(path()),
         // What a call takes for no path it takes so only on a sound image.
         Call::Find(b"A".to_vec()),
         Call::Format,
@@ -204,9 +205,14 @@ fn change(calls: &mut Vec<Call>, path: &[u8], node: &Node) {
         }
         Node::Directory(_) => {
             calls.push(Call::Write(path.to_vec(), 0, pattern(1)));
-            calls.push(Call::Remove(path.to_vec()));
-            calls.push(Call::Remove(below));
+            calls.push(Call::RemoveDirectory(path.to_vec()));
+            calls.push(Call::RemoveFile(below));
         }
     }
-    calls.push(Call::Remove(path.to_vec()));
+    let (file, directory) = (path.to_vec(), path.to_vec());
+    // The one that does not suit comes first.
+    calls.extend(match node {
+        Node::File(_) => [Call::RemoveDirectory(directory), Call::RemoveFile(file)],
+        Node::Directory(_) => [Call::RemoveFile(file), Call::RemoveDirectory(directory)],
+    });
 }

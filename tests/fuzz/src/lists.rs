@@ -35,14 +35,15 @@ enum Kind {
     MakeFile,
     MakeDirectory,
     Write,
-    Remove,
+    RemoveFile,
+    RemoveDirectory,
 }
 
 const KINDS: [Kind; 16] = [
     Kind::MakeFile,
     Kind::MakeDirectory,
     Kind::Write,
-    Kind::Remove,
+    Kind::RemoveFile,
     Kind::Read,
     Kind::List,
     Kind::Find,
@@ -51,7 +52,7 @@ const KINDS: [Kind; 16] = [
     Kind::MakeFile,
     Kind::MakeDirectory,
     Kind::Write,
-    Kind::Remove,
+    Kind::RemoveDirectory,
     Kind::Read,
     Kind::Write,
     Kind::List,
@@ -106,7 +107,8 @@ impl Decoder<'_> {
             Kind::List => Call::List(self.path(), self.entry_number()),
             Kind::MakeFile => Call::MakeFile(self.path(), self.date()),
             Kind::MakeDirectory => Call::MakeDirectory(self.path(), self.date()),
-            Kind::Remove => Call::Remove(self.path()),
+            Kind::RemoveFile => Call::RemoveFile(self.path()),
+            Kind::RemoveDirectory => Call::RemoveDirectory(self.path()),
             Kind::Read => {
                 let (path, position, bytes) = self.stretch();
                 Call::Read(path, position, bytes)

@@ -54,7 +54,7 @@ fn rich() -> Vec<u8> {
     let mut desk = Desk::fresh(&Plain, 2048);
     let directories = ["/D", "/D/E"].map(|path| desk.make_directory(path));
     let files = ["/gone", "/F", "/0042", "/D/42", "/D/E/H"].map(|path| desk.make_file(path));
-    let gone = [desk.write("/gone", 0, 100), desk.remove("/gone")];
+    let gone = [desk.write("/gone", 0, 100), desk.remove_file("/gone")];
     let writes = [("/F", 256), ("/D/42", 255)].map(|(path, length)| desk.write(path, 0, length));
     let numbers = [&directories[..], &files, &gone, &writes].concat();
     assert!(numbers.iter().all(|&number| number == 0));

@@ -26,7 +26,7 @@ pub fn of_images() -> Vec<Vec<u8>> {
 /// removes.
 pub fn of_lists() -> Vec<Vec<u8>> {
     let name = NAMES.len() as u8 - 6;
-    let calls: [&[u8]; 9] = [
+    let calls: [&[u8]; 11] = [
         // Make a directory, a file in it, a file in the root.
         &[1, 0, 0, name, 0],
         &[0, 0, 1, name + 1, 0],
@@ -36,10 +36,13 @@ pub fn of_lists() -> Vec<Vec<u8>> {
         &[2, 2, 255, 0, 10, 1],
         &[4, 2, 255, 0, 10, 0],
         &[2, 2, 255, 1, 5, 2],
-        // List, find, remove.
+        // List, find; remove the same as a file and as a directory, then the
+        // first.
         &[5, 2, 0, 0],
         &[6, 2, 1],
         &[3, 2, 2],
+        &[12, 2, 2],
+        &[12, 2, 1],
     ];
     let list = calls.concat();
     let numbers = 0..pool::COUNT as u8;

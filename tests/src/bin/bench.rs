@@ -18,7 +18,7 @@ const RUNS: usize = 41;
 const CALLS: usize = 32;
 
 /// An image and the directory in which the calls take place: it holds the file
-/// F of 255 bytes, and N is not there.
+/// F of 255 bytes and the empty directory E, and N is not there.
 struct Workload {
     name: &'static str,
     image: Vec<u8>,
@@ -41,8 +41,8 @@ fn contestants() -> Vec<Subject> {
 
 fn workloads(length: usize) -> Vec<Workload> {
     let pages = length / 256;
-    // The header, F, D, and two pages left for the calls to take.
-    let others = 5;
+    // The header, F, E, D, and two pages left for the calls to take.
+    let others = 6;
     let at_root = |name, image| Workload {
         name,
         image,
@@ -56,11 +56,13 @@ fn workloads(length: usize) -> Vec<Workload> {
     ]
 }
 
-/// A fresh image with F, and below D that many pages of files and directories.
+/// A fresh image with F and E, and below D that many pages of files and directories.
 fn filled(length: usize, pages: usize) -> Vec<u8> {
     let mut desk = Desk::fresh(&Direct, length);
     make_file(&mut desk, "/F");
-    assert_eq!(desk.make_directory("/D"), 0);
+    for path in ["/E", "/D"] {
+        assert_eq!(desk.make_directory(path), 0);
+    }
     fill(&mut desk, "/D", pages);
     desk.image
 }
@@ -87,16 +89,18 @@ fn make_file(desk: &mut Desk, path: &str) {
     assert_eq!(desk.write(path, 0, 255), 0);
 }
 
-/// Directories nested as deep as the pages allow, with F in the deepest.
+/// Directories nested as deep as the pages allow, with F and E in the deepest.
 fn deep(pages: usize) -> Workload {
-    let tree = nest(pages, pages - 4, 8);
+    let depth = pages - 5;
+    let tree = nest(pages, depth, 8);
     let image = assemble(&tree, Order::Scattered, &mut Random::new(7));
     let mut desk = Desk {
         calls: &Direct,
         image,
     };
-    let directory = "/DDDDDDDD".repeat(pages - 4);
+    let directory = "/DDDDDDDD".repeat(depth);
     make_file(&mut desk, &format!("{directory}/F"));
+    assert_eq!(desk.make_directory(&format!("{directory}/E")), 0);
     Workload {
         name: "deep",
         image: desk.image,
@@ -104,10 +108,11 @@ fn deep(pages: usize) -> Workload {
     }
 }
 
-/// One call of each of the nine, all granted.
+/// One call of each kind, all granted.
 fn calls(workload: &Workload) -> Vec<Call> {
     let directory = workload.directory.as_bytes();
     let file = [directory, b"/F"].concat();
+    let empty = [directory, b"/E"].concat();
     let new = [directory, b"/N"].concat();
     let listed = if directory.is_empty() {
         b"/"
@@ -123,7 +128,8 @@ fn calls(workload: &Workload) -> Vec<Call> {
         Call::MakeFile(new.clone(), DATE.to_vec()),
         Call::MakeDirectory(new, DATE.to_vec()),
         Call::Write(file.clone(), 255, vec![1; 255]),
-        Call::Remove(file),
+        Call::RemoveFile(file),
+        Call::RemoveDirectory(empty),
     ]
 }
 
@@ -200,7 +206,7 @@ fn print_head(contestants: &[Subject]) {
     println!("  (ratio to direct)");
 }
 
-/// All nine calls on all images; answers the ratios of the last contestant.
+/// All calls on all images; answers the ratios of the last contestant.
 fn bench_calls(contestants: &[Subject]) -> Vec<f64> {
     let mut ratios = Vec::new();
     for length in [2048, 8192, 32_768, 65_536] {

@@ -47,6 +47,13 @@ impl Plain {
         writer::make(image, path, date, kind);
         Ok(Answer::granted())
     }
+
+    fn remove(image: &mut [u8], path: &[u8], kind: Kind) -> Result<Answer, Refusal> {
+        let mut tree = reader::judge(image)?;
+        tree.remove(path, kind)?;
+        writer::remove(image, path);
+        Ok(Answer::granted())
+    }
 }
 
 impl Calls for Plain {
@@ -96,12 +103,12 @@ impl Calls for Plain {
         granted.into()
     }
 
-    fn remove(&self, image: &mut [u8], path: &[u8]) -> Answer {
-        let granted = reader::judge(image).and_then(|mut tree| tree.remove(path));
-        if granted.is_ok() {
-            writer::remove(image, path);
-        }
-        granted.into()
+    fn remove_file(&self, image: &mut [u8], path: &[u8]) -> Answer {
+        Plain::remove(image, path, Kind::File).into()
+    }
+
+    fn remove_directory(&self, image: &mut [u8], path: &[u8]) -> Answer {
+        Plain::remove(image, path, Kind::Directory).into()
     }
 }
 
@@ -147,7 +154,8 @@ impl Replay {
             Call::MakeFile(path, date) => tree.make(path, date, Kind::File),
             Call::MakeDirectory(path, date) => tree.make(path, date, Kind::Directory),
             Call::Write(path, position, bytes) => tree.write(path, *position, bytes),
-            Call::Remove(path) => tree.remove(path),
+            Call::RemoveFile(path) => tree.remove(path, Kind::File),
+            Call::RemoveDirectory(path) => tree.remove(path, Kind::Directory),
         };
         result.into()
     }

@@ -246,13 +246,19 @@ impl Tree {
         Ok(Answer::granted())
     }
 
-    pub fn remove(&mut self, path: &[u8]) -> Result<Answer, Refusal> {
+    /// Removes an entry, which has to be of that kind.
+    pub fn remove(&mut self, path: &[u8], kind: Kind) -> Result<Answer, Refusal> {
         let names = parse(path)?;
         let (&last, parents) = names.split_last().ok_or(Refusal::number(14))?;
         let parent = self.directory_mut(parents)?;
-        if let Node::Directory(directory) = &parent.entry(last)?.node {
-            if directory.occupied().next().is_some() {
-                return Err(Refusal::number(13));
+        match (&parent.entry(last)?.node, kind) {
+            (Node::File(_), Kind::File) => {}
+            (Node::File(_), Kind::Directory) => return Err(Refusal::at_name(6, last.begins)),
+            (Node::Directory(_), Kind::File) => return Err(Refusal::number(7)),
+            (Node::Directory(directory), Kind::Directory) => {
+                if directory.occupied().next().is_some() {
+                    return Err(Refusal::number(13));
+                }
             }
         }
         let position = parent.position(last.bytes);

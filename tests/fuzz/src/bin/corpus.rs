@@ -7,7 +7,7 @@ use std::path::Path;
 use std::{env, fs, io};
 use zealfs_fuzz::{images, lists, seeds};
 use zealfs_tests::c::Library;
-use zealfs_tests::calls::{CALL_NAMES, NUMBERS};
+use zealfs_tests::calls::{CALL_COUNT, CALL_NAMES, NUMBERS};
 use zealfs_tests::harness::Scenario;
 
 /// One of the two targets, with what is known of it.
@@ -49,7 +49,7 @@ fn write_seeds(target: &Target, directory: &Path) -> io::Result<()> {
 }
 
 fn tally(target: &Target, directory: &Path) -> io::Result<()> {
-    let mut tally = [[0_u64; NUMBERS]; 9];
+    let mut tally = [[0_u64; NUMBERS]; CALL_COUNT];
     for file in fs::read_dir(directory)? {
         let mut scenario = (target.decode)(&fs::read(file?.path())?);
         for call in &mut scenario.calls {
@@ -62,7 +62,7 @@ fn tally(target: &Target, directory: &Path) -> io::Result<()> {
         let met: Vec<String> = met
             .map(|(number, count)| format!("{number}: {count}"))
             .collect();
-        println!("{name:>15}  {}", met.join(", "));
+        println!("{name:>16}  {}", met.join(", "));
     }
     Ok(())
 }

@@ -189,11 +189,24 @@ pub unsafe extern "C" fn zealfs_write(
 ///
 /// As include/zealfs.h says.
 #[no_mangle]
-pub unsafe extern "C" fn zealfs_remove(
+pub unsafe extern "C" fn zealfs_remove_file(
     image: *mut u8,
     image_len: usize,
     path: *const u8,
     path_len: usize,
 ) -> u64 {
-    code(&calls().remove(lent_mut(image, image_len), lent(path, path_len)))
+    code(&calls().remove_file(lent_mut(image, image_len), lent(path, path_len)))
+}
+
+/// # Safety
+///
+/// As include/zealfs.h says.
+#[no_mangle]
+pub unsafe extern "C" fn zealfs_remove_directory(
+    image: *mut u8,
+    image_len: usize,
+    path: *const u8,
+    path_len: usize,
+) -> u64 {
+    code(&calls().remove_directory(lent_mut(image, image_len), lent(path, path_len)))
 }

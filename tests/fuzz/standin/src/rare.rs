@@ -134,9 +134,9 @@ impl Calls for Rarely {
         answer
     }
 
-    fn remove(&self, image: &mut [u8], path: &[u8]) -> Answer {
+    fn remove_file(&self, image: &mut [u8], path: &[u8]) -> Answer {
         let before = image.to_vec();
-        let answer = Plain.remove(image, path);
+        let answer = Plain.remove_file(image, path);
         if self.0 != Rare::KeptBit || !answer.is_granted() {
             return answer;
         }
@@ -150,5 +150,9 @@ impl Calls for Rarely {
             }
         }
         answer
+    }
+
+    fn remove_directory(&self, image: &mut [u8], path: &[u8]) -> Answer {
+        Plain.remove_directory(image, path)
     }
 }
