@@ -1,2 +1,3 @@
-pub mod Search
 pub mod Weights
+pub mod Words
+pub mod Search

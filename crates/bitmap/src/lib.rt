@@ -1,11 +1,13 @@
 // The bitmap of an image: which pages are allocated, how many are free, and which free one is the lowest.
 // Every function is total where the bitmap lies in the image, and none but `mark` and `unmark` changes a byte, each of them one.
 ghost use mathlib.Core.Path.{_≡_};
-ghost use Prim.Native.Nat.{_^_, _<_, _≤_};
+ghost use Prim.Native.Nat.{_+_, _%_, _^_, _<_, _≤_};
+ghost use lib.Count.{ones};
 ghost use lib.ListN.{length};
 ghost use Rattle.model.specs.Layout.{version1};
 ghost use Rattle.volume.specs.Geometry as On;
 ghost use Rattle.bitmap.specs.Lowest.{Lowest};
+ghost use Rattle.bitmap.specs.Words.{Holds, Ends};
 use fields::Page;
 
 // The lowest free page, if there is one.
@@ -24,14 +26,68 @@ pub fn bit(image: &[u8], page: Page) -> usize
     (byte >> (p % 8)) % 2
 }
 
-// The zero bits among the first n. Bits past them are not looked at: a small image may hold anything there.
+// ---- words: bit j of a word is that of the j-th page from byte `from` of the bitmap on
+
+fn bits16(image: &[u8], from: usize) -> usize
+    requires { ⌜ from + 6 ≤ length (now image) ⌝ }
+    ensures { λ r. ⌜ Holds (now (image .entry)) from 16 r × (r < 65536) ⌝ }
+{
+    fields::wide(image[4 + from]) + 256 * fields::wide(image[5 + from])
+}
+
+fn bits32(image: &[u8], from: usize) -> usize
+    requires { ⌜ from + 8 ≤ length (now image) ⌝ }
+    ensures { λ r. ⌜ Holds (now (image .entry)) from 32 r × (r < 4294967296) ⌝ }
+{
+    bits16(image, from) + 65536 * bits16(image, from + 2)
+}
+
+fn bits64(image: &[u8], from: usize) -> usize
+    requires { ⌜ from + 12 ≤ length (now image) ⌝ }
+    ensures { λ r. ⌜ Holds (now (image .entry)) from 64 r ⌝ }
+{
+    bits32(image, from) + 4294967296 * bits32(image, from + 4)
+}
+
+fn one_bits(word: usize) -> usize
+    ensures { λ r. ⌜ (r ≡ ones word) × (r ≤ 64) ⌝ }
+{
+    usize::count_ones(word) as usize
+}
+
+// The zeros among the lowest k bits of a word, as what the ones leave of k.
+fn zeros_among(word: usize, k: usize) -> usize
+    requires { ⌜ k ≤ 64 ⌝ }
+    ensures { λ r. ⌜ r + ones (word % 2 ^ k) ≡ k ⌝ }
+{
+    if k == 64 {
+        return 64 - one_bits(word);
+    }
+    k - one_bits(word % weight(k))
+}
+
+// The place of a word's lowest zero, 64 if there is none: the zeros of its complement end there.
+fn lowest_zero(word: usize) -> usize
+    ensures { λ r. ⌜ Ends 64 word r ⌝ }
+{
+    usize::trailing_zeros(!word) as usize
+}
+
+// ---- all words
+
+// The zero bits among the first n. Bits past them are not counted: a small image may hold anything there.
 pub fn zero_bits(image: &[u8], n: usize) -> usize
     requires { ⌜ (n ≤ 256) × (36 ≤ length (now image)) ⌝ }
     ensures { λ r. ⌜ r ≡ On.zeroBits version1 (now (image .entry)) n ⌝ }
 {
     let mut zeros = 0;
-    for p in 0..n {
-        zeros += 1 - bit(image, Page(p));
+    let mut counted = 0;
+    while 64 * counted < n {
+        zeros += zeros_among(
+            bits64(image, 8 * counted),
+            fields::least(64, n - 64 * counted),
+        );
+        counted += 1;
     }
     zeros
 }
@@ -40,17 +96,23 @@ pub fn lowest_free(image: &[u8], n: usize) -> Free
     requires { ⌜ (n ≤ 256) × (36 ≤ length (now image)) ⌝ }
     ensures { λ r. ⌜ Lowest n (On.lowestFree version1 n (now (image .entry))) r ⌝ }
 {
-    for lowest in 0..n {
-        if bit(image, Page(lowest)) == 0 {
-            return Free::At(Page(lowest));
+    let mut searched = 0;
+    while 64 * searched < n {
+        let k = lowest_zero(bits64(image, 8 * searched));
+        if k < 64 {
+            if 64 * searched + k < n {
+                return Free::At(Page(64 * searched + k));
+            }
+            return Free::None;
         }
+        searched += 1;
     }
     Free::None
 }
 
-// The value of bit k of a byte.
+// The value of bit k.
 fn weight(k: usize) -> usize
-    requires { ⌜ k < 8 ⌝ }
+    requires { ⌜ k < 64 ⌝ }
     ensures { λ r. ⌜ r ≡ 2 ^ k ⌝ }
 {
     1 << k

@@ -26,15 +26,6 @@ pub fn page_at(image: &[u8], start: Page, index: usize) -> Page
     page
 }
 
-pub fn least(a: usize, b: usize) -> usize
-    ensures { λ r. ⌜ r ≡ min a b ⌝ }
-{
-    if a <= b {
-        return a;
-    }
-    b
-}
-
 // What is left of a place in the content behind one page: 0 if it is on that page.
 fn behind_page(place: usize) -> usize
     ensures { λ r. ⌜ r ≡ place - room ⌝ }
@@ -62,7 +53,7 @@ fn read_page(
     if 255 <= place {
         return done;
     }
-    let more = least(255 - place, count - done);
+    let more = fields::least(255 - place, count - done);
     let from = fields::first_byte(page) + 1 + place;
     let end = from + more;
     pages::copy_in(buffer, done, &image[from..end]);
@@ -100,7 +91,7 @@ fn write_page(image: &mut [u8], page: Page, place: usize, bytes: &[u8], done: us
     if 255 <= place {
         return done;
     }
-    let end = done + least(255 - place, bytes.len() - done);
+    let end = done + fields::least(255 - place, bytes.len() - done);
     pages::fill_page(image, page, 1 + place, &bytes[done..end]);
     end
 }

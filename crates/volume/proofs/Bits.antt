@@ -8,10 +8,10 @@ use lib.Pow.{shr-shr}
 use Rattle.volume.specs.Bytes.{bit}
 use Rattle.volume.proofs.Occ.{hit, hit-refl, hit-ne, hit-cases}
 
-bit-zero : (x : ℕ) → bit 0 x ≡ x % 2
+pub bit-zero : (x : ℕ) → bit 0 x ≡ x % 2
 bit-zero x = ap (λ (y : ℕ). y % 2) (div-one x)
 
-bit-suc : (i x : ℕ) → bit (suc i) x ≡ bit i (x / 2)
+pub bit-suc : (i x : ℕ) → bit (suc i) x ≡ bit i (x / 2)
 bit-suc i x = let e : suc i ≡ 1 + i = omega arith in ap (λ (k : ℕ). x / 2 ^ k % 2) e ∙ ap (λ (y : ℕ). y % 2) (sym (shr-shr x 1 i))
 
 hit-suc : (i j : ℕ) → hit (suc i) (suc j) ≡ hit i j

@@ -201,7 +201,7 @@ pub fn read(image: &[u8], path: &[u8], position: Position, buffer: &mut [u8]) ->
     if size < position.0 {
         return ReadAnswer::Refused(Refusal::PastEnd);
     }
-    let count = chains::least(buffer.len(), size - position.0);
+    let count = fields::least(buffer.len(), size - position.0);
     let pages = fields::pages_for(size);
     chains::read_chain(image, target.start, pages, position, buffer, count);
     ReadAnswer::Copied(count)
