@@ -106,3 +106,9 @@ module _ {b : Bytes} {k p₀ from count : ℕ} {d₀ : Bytes} where
         ∙ ap (λ (w : Bytes). put done (take (count - done) w) d) (drop-nil at)
         ∙ ap (λ (w : Bytes). put done w d) (take-nil (count - done)) ∙ splice-nil d done)
         ∙ r .same
+
+    -- all that was wanted is there
+    pub reading-done : done ≡ count → d ≡ put 0 (take count (drop from (content b k p₀))) d₀
+    reading-done e =
+        let z : count - done ≡ 0 = omega arith in
+        sym (ap (λ (n : ℕ). put done (take n (drop at (content b (k - i) p))) d) z ∙ splice-nil d done) ∙ r .same

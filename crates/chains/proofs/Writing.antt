@@ -1,12 +1,13 @@
 -- Writing along a chain: what is left of the bytes spread along the pages left is always the same image, and no link changes.
-use mathlib.Core.Path.{_≡_, refl, sym, ap, _∙_, subst}
+use mathlib.Core.Path.{_≡_, refl, sym, ap, ap₂, _∙_, subst}
 use Prim.Native.Nat.{ℕ, _+_, _-_, _*_, _≤_, _<_, min}
 use native.Mathlib.Nat.{sub-zero}
 use native.Mathlib.Omega.{arith}
 use native.Mathlib.Decide.{decLt}
 use mathlib.Core.Bool.{Bool, true, false, not}
-use mathlib.Core.List.{List, _∷_}
-use lib.ListN.{length, take, drop, length-take, length-drop}
+use mathlib.Core.List.{List, [], _∷_}
+use lib.ListN.{length, take, drop, length-take, length-drop, drop-of-length-le}
+use lib.Seq.{take-nil, drop-nil}
 use lib.Dec.{T, ltb}
 use mir.Facts.{ltb-yes, ltb-no}
 use Rattle.volume.specs.Bytes.{Bytes, byteAt, put, if_then_else_}
@@ -53,6 +54,15 @@ module _ (first : ℕ → ℕ) (r : ℕ) where
           let z : 0 ≡ r - at = omega arith in
           ap (spread first r ps (at - r) v) (none-put (first p + at) r at v b le)
           ∙ ap (λ (n : ℕ). spread first r ps (at - r) (drop n v) (put (first p + at) (take (r - at) v) b)) z
+
+  -- nothing to put
+  pub spread-none : (ps : List ℕ) (at : ℕ) (b : Bytes) → spread first r ps at [] b ≡ b
+  unfolding spread
+  spread-none [] at b = refl
+  spread-none (p ∷ ps) at b =
+      spread-turn p ps at [] b
+      ∙ ap₂ (spread first r ps (at - r)) (drop-nil (r - at)) (ap (λ (w : Bytes). put (first p + at) w b) (take-nil (r - at)) ∙ splice-nil b (first p + at))
+      ∙ spread-none ps (at - r) b
 
   -- a piece put on a page
   pub piece-length : (p at : ℕ) (v b : Bytes) → first p + r ≤ length b → length (put (first p + at) (take (r - at) v) b) ≡ length b
@@ -133,3 +143,10 @@ module _ {b₀ v : Bytes} {k p₀ from : ℕ} where
     pub writing-last : k ≤ i → b ≡ spreads (link b₀) k p₀ from v b₀
     unfolding chain spread
     writing-last h = let z : 0 ≡ k - i = omega arith in ap (λ (n : ℕ). spreads (link b₀) n p at (drop done v) b) z ∙ r .same
+
+    -- all bytes are put
+    pub writing-done : done ≡ length v → b ≡ spreads (link b₀) k p₀ from v b₀
+    writing-done e =
+        sym (ap (λ (w : Bytes). spreads (link b₀) (k - i) p at w b) (drop-of-length-le v {i = done} (omega arith))
+        ∙ spread-none (On.content version1) room (chain (link b₀) (k - i) p) at b)
+        ∙ r .same

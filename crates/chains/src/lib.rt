@@ -76,6 +76,9 @@ pub fn read_chain(
     let mut place = position.0;
     let mut done = 0;
     for _ in 0..k {
+        if done == count {
+            return;
+        }
         done = read_page(image, page, place, buffer, done, count);
         place = behind_page(place);
         page = fields::link(image, page);
@@ -105,6 +108,9 @@ pub fn write_chain(image: &mut [u8], start: Page, k: usize, position: Position, 
     let mut place = position.0;
     let mut done = 0;
     for _ in 0..k {
+        if done == bytes.len() {
+            return;
+        }
         done = write_page(image, page, place, bytes, done);
         place = behind_page(place);
         page = fields::link(image, page);

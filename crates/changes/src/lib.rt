@@ -1,7 +1,7 @@
 // What make, write and remove do to the bytes of an image once they are granted: an entry is put, changed or cleared, and its chain grows or goes.
 // Nothing is judged here. What a function asks of the image holds on every sound one, and its contract is the model's effect, byte for byte.
 ghost use mathlib.Core.Path.{_≡_};
-ghost use Prim.Native.Nat.{_+_, _<_, _≤_, max};
+ghost use Prim.Native.Nat.{_+_, _<_, _≤_};
 ghost use mathlib.Core.List.{foldl};
 ghost use lib.ListN.{length, set};
 ghost use Rattle.volume.specs.Bytes.{put, le16};
@@ -128,15 +128,6 @@ pub fn make_entry(
 
 // ---- write
 
-fn larger(a: usize, b: usize) -> usize
-    ensures { λ r. ⌜ r ≡ max a b ⌝ }
-{
-    if a <= b {
-        return b;
-    }
-    a
-}
-
 // Where the number of a chain's next page goes: the link of the last of its k pages, or the start page of an entry that has none,
 // as every new one before it gets its first.
 fn joint_of(image: &[u8], entry: usize, start: Page, k: usize) -> usize
@@ -163,7 +154,7 @@ pub fn write_entry(
     ensures { λ _. ⌜ now (image .exit) ≡ rewritten entry (position .0) (now (bytes .entry)) (now (image .entry)) ⌝ }
 {
     let n = fields::page_count(image.len());
-    let new_size = larger(size, position.0 + bytes.len());
+    let new_size = fields::larger(size, position.0 + bytes.len());
     let held = fields::pages_for(size);
     let wanted = fields::pages_for(new_size);
     let joint = joint_of(image, entry, start, held);

@@ -1,7 +1,7 @@
 // What stands in an image as numbers and as values: the header's fields, the links of pages, and the entries of directories.
 // Every function answers what the model reads there and changes no byte; it asks only that what it reads lies in the image, or that a position fits.
 ghost use mathlib.Core.Path.{_≡_};
-ghost use Prim.Native.Nat.{_+_, _*_, _/_, _^_, _≤_, _<_, min};
+ghost use Prim.Native.Nat.{_+_, _*_, _/_, _^_, _≤_, _<_, min, max};
 ghost use lib.ListN.{length};
 ghost use Rattle.model.specs.Layout.{pageSize, pagesFor, validLength, validHeader, freeCount, link};
 ghost use Rattle.model.specs.Entry.{entryCount, entriesStart, nameAt, dateAt, entryAt};
@@ -34,6 +34,15 @@ pub fn least(a: usize, b: usize) -> usize
         return a;
     }
     b
+}
+
+pub fn larger(a: usize, b: usize) -> usize
+    ensures { λ r. ⌜ r ≡ max a b ⌝ }
+{
+    if a <= b {
+        return b;
+    }
+    a
 }
 
 // The position of a page's first byte.

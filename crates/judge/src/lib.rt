@@ -185,19 +185,45 @@ fn judge_directory(image: &[u8], marks: &mut [u8], directory: Page) -> Check
 
 // ---- the image
 
-// The lowest page that is marked in the bitmap and has no owner. The header is no such page: `judge_rest` asks for its bit.
+// The lowest page from `from` on and below `to` that is marked in the bitmap and has no owner.
+fn lost_among(image: &[u8], marks: &[u8], from: usize, to: usize) -> Check
+    requires { ⌜ Marked (now image) (now marks) × (to ≤ length (now marks)) ⌝ }
+    ensures { λ r. ⌜ outcome r (now (marks .entry))
+        ≡ lostOr (clean (now (marks .entry))) (first (isLost (now (image .entry)) (now (marks .entry))) (countFrom from (to - from))) ⌝ }
+{
+    for p in from..to {
+        if marks[p] == 0 {
+            if bitmap::bit(image, Page(p)) == 1 {
+                return Check::Faulty(Fault::LostPage(Page(p)));
+            }
+        }
+    }
+    Check::Clean
+}
+
+// The lowest of all, a byte of the bitmap at a time: where no bit is set no page is lost. The header is no such page: `judge_rest` asks for its
+// bit.
 fn lost_page(image: &[u8], marks: &[u8]) -> Check
     requires { ⌜ Marked (now image) (now marks) ⌝ }
     ensures { λ r. ⌜ outcome r (now (marks .entry))
         ≡ lostOr (clean (now (marks .entry)))
         (first (isLost (now (image .entry)) (now (marks .entry))) (countFrom 1 (pageCount (now (image .entry)) - 1))) ⌝ }
 {
-    for p in 1..marks.len() {
-        if marks[p] == 0 {
-            if bitmap::bit(image, Page(p)) == 1 {
-                return Check::Faulty(Fault::LostPage(Page(p)));
+    let n = marks.len();
+    let mut byte = 0;
+    while 8 * byte < n {
+        if image[4 + byte] != 0 {
+            let lost = lost_among(
+                image,
+                marks,
+                fields::larger(1, 8 * byte),
+                fields::least(8 * byte + 8, n),
+            );
+            if let Check::Faulty(fault) = lost {
+                return Check::Faulty(fault);
             }
         }
+        byte += 1;
     }
     Check::Clean
 }

@@ -28,11 +28,25 @@ pub fn zero_page(image: &mut [u8], page: Page)
     zero(&mut image[first..end]);
 }
 
+// Copies a source of 255 bytes, the content of a page: the count is known, so the copy is made of few wide steps.
+fn copy_content(part: &mut [u8], offset: usize, source: &[u8])
+    requires { ⌜ (offset + length (now source) ≤ length (now part)) × (length (now source) ≡ 255) ⌝ }
+    ensures { λ _. ⌜ now (part .exit) ≡ put offset (now (source .entry)) (now (part .entry)) ⌝ }
+{
+    for i in 0..255 {
+        part[offset + i] = source[i];
+    }
+}
+
 // Copies the source into a part, from the offset on.
 pub fn copy_in(part: &mut [u8], offset: usize, source: &[u8])
     requires { ⌜ offset + length (now source) ≤ length (now part) ⌝ }
     ensures { λ _. ⌜ now (part .exit) ≡ put offset (now (source .entry)) (now (part .entry)) ⌝ }
 {
+    if source.len() == 255 {
+        copy_content(part, offset, source);
+        return;
+    }
     for i in 0..source.len() {
         part[offset + i] = source[i];
     }

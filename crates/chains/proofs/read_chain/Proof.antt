@@ -1,7 +1,7 @@
--- `read_chain` copies what each page has of the bytes wanted; what is wanted of the pages left goes behind it.
+-- `read_chain` copies what each page has of the bytes wanted; what is wanted of the pages left goes behind it, and nothing once all is there.
 use Prim.Native.Nat.{_-_}
 use native.Mathlib.Omega.{arith}
-use Rattle.chains.proofs.Reading.{Reading, reading-first, reading-here, reading-turn, reading-last}
+use Rattle.chains.proofs.Reading.{Reading, reading-first, reading-here, reading-turn, reading-last, reading-done}
 use Rattle.chains.proofs.read_chain.Statement.{statement}
 use Rattle.chains.proofs.read_chain.Tie as tie
 
@@ -14,17 +14,18 @@ abbrev μ-loop : tie.MeasureT-loop
 
 read-page-requires : tie.Need-read-page-requires Inv-loop μ-loop
 read-page-requires c κs =
-    let inv = c .before .before .loop .inv in
-    (reading-here inv (c .before .loop-test .taken), inv .fits, omega (arith, inv .size))
+    let turn = c .before .before in
+    let inv = turn .before .loop .inv in
+    (reading-here inv (turn .loop-test .taken), inv .fits, omega (arith, inv .size))
 
 link-requires : tie.Need-link-requires Inv-loop μ-loop
 link-requires c κs =
-    let turn = c .before .before .before .before .before in
+    let turn = c .before .before .before .before .before .before in
     omega (arith, reading-here (turn .before .loop .inv) (turn .loop-test .taken))
 
 loop-again : tie.Need-loop-again Inv-loop μ-loop
 loop-again c =
-    let turn = c .before .before .before .before .before .before in
+    let turn = c .before .before .before .before .before .before .before in
     let read = c .before .before .before .before .read-page in
     reading-turn (turn .before .loop .inv) (turn .loop-test .taken) (turn .before .before .before .before .pre .1) (read .kept .1 .1 .1 .0)
     (read .ensures .1) (read .ensures .0) (c .before .behind-page .ensures) (c .link .ensures .0)
@@ -36,6 +37,8 @@ read-chain-spec =
     Inv-loop
     μ-loop
     (λ c. reading-first (c .before .before .pre .0))
+    (λ c. c .before .before .loop .inv .size)
+    (λ c. reading-done (c .before .before .loop .inv) (c .if1 .taken))
     read-page-requires
     (λ c κs. tt)
     link-requires

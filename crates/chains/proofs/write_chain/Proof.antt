@@ -1,7 +1,7 @@
--- `write_chain` puts on each page what it takes of the bytes; what is left of them is spread along the pages left.
+-- `write_chain` puts on each page what it takes of the bytes; what is left of them is spread along the pages left, and the image stays once nothing is left.
 use Prim.Native.Nat.{_-_}
 use native.Mathlib.Omega.{arith}
-use Rattle.chains.proofs.Writing.{Writing, writing-first, writing-here, writing-turn, writing-last}
+use Rattle.chains.proofs.Writing.{Writing, writing-first, writing-here, writing-turn, writing-last, writing-done}
 use Rattle.chains.proofs.write_chain.Statement.{statement}
 use Rattle.chains.proofs.write_chain.Tie as tie
 
@@ -14,17 +14,18 @@ abbrev μ-loop : tie.MeasureT-loop
 
 write-page-requires : tie.Need-write-page-requires Inv-loop μ-loop
 write-page-requires c κs =
-    let inv = c .before .before .loop .inv in
-    (writing-here inv (c .before .loop-test .taken), inv .fits)
+    let turn = c .before .before in
+    let inv = turn .before .loop .inv in
+    (writing-here inv (turn .loop-test .taken), inv .fits)
 
 link-requires : tie.Need-link-requires Inv-loop μ-loop
 link-requires c κs =
-    let turn = c .before .before .before .before .before .before in
+    let turn = c .before .before .before .before .before .before .before in
     omega (arith, writing-here (turn .before .loop .inv) (turn .loop-test .taken), c .before .before .before .before .write-page .kept .0)
 
 loop-again : tie.Need-loop-again Inv-loop μ-loop
 loop-again c =
-    let turn = c .before .before .before .before .before .before .before in
+    let turn = c .before .before .before .before .before .before .before .before in
     let write = c .before .before .before .before .before .write-page .ensures in
     writing-turn (turn .before .loop .inv) (turn .loop-test .taken) (write .1) (write .0) (c .before .before .behind-page .ensures) (c .link .ensures .0)
 
@@ -35,6 +36,8 @@ write-chain-spec =
     Inv-loop
     μ-loop
     (λ c. writing-first (c .before .before .pre))
+    (λ c. c .before .before .loop .inv .size)
+    (λ c. writing-done (c .before .before .loop .inv) (c .if1 .taken))
     write-page-requires
     (λ c κs. tt)
     link-requires
