@@ -25,4 +25,5 @@ pub mod random;
 pub mod settings;
 pub mod shrink;
 pub mod subjects;
+pub mod workloads;
 pub mod wrong;
