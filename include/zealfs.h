@@ -13,7 +13,8 @@
  *      4  the path is no path                                 11  make: the date is not good
  *      5  a name of the path isn't in its directory           12  position past the size, or entry past the directory's last
  *      6  a file stands where a directory is needed           13  remove directory: it holds something
- *      7  read, write or remove file: the path is a directory 14  removals: the path is "/"
+ *      7  read, write, remove file, lock or unlock: the       14  removals: the path is "/"
+ *         path is a directory                                 25  write or remove file: the file is locked
  *
  * For 5 and 6, a is the byte of the path at which the name begins.
  *
@@ -51,11 +52,11 @@ uint64_t zealfs_format(uint8_t *image, size_t image_len);
 /* out: pages, free pages. */
 uint64_t zealfs_verdict(const uint8_t *image, size_t image_len, uint64_t out[2]);
 
-/* out: kind (0 file, 1 directory), size. The root's date is zeros. */
-uint64_t zealfs_find(const uint8_t *image, size_t image_len, const uint8_t *path, size_t path_len, uint64_t out[2], uint8_t date[8]);
+/* out: kind (0 file, 1 directory), size, locked (0 or 1; 0 for a directory). The root's date is zeros. */
+uint64_t zealfs_find(const uint8_t *image, size_t image_len, const uint8_t *path, size_t path_len, uint64_t out[3], uint8_t date[8]);
 
-/* out: occupied (0 or 1), kind, size. The name is padded with zeros; for an empty entry all is 0. Entries count from 0. */
-uint64_t zealfs_list(const uint8_t *image, size_t image_len, const uint8_t *path, size_t path_len, uint64_t entry, uint64_t out[3],
+/* out: occupied (0 or 1), kind, size, locked. The name is padded with zeros; for an empty entry all is 0. Entries count from 0. */
+uint64_t zealfs_list(const uint8_t *image, size_t image_len, const uint8_t *path, size_t path_len, uint64_t entry, uint64_t out[4],
                      uint8_t name[16], uint8_t date[8]);
 
 /* out: the number of bytes copied to the front of the buffer, which stays behind them. */
@@ -76,6 +77,10 @@ uint64_t zealfs_write(uint8_t *image, size_t image_len, const uint8_t *path, siz
 /* Each removes only its kind; a directory has to be empty. */
 uint64_t zealfs_remove_file(uint8_t *image, size_t image_len, const uint8_t *path, size_t path_len);
 uint64_t zealfs_remove_directory(uint8_t *image, size_t image_len, const uint8_t *path, size_t path_len);
+
+/* A locked file is read as before, and neither written nor removed. To lock or unlock twice is to do it once. */
+uint64_t zealfs_lock(uint8_t *image, size_t image_len, const uint8_t *path, size_t path_len);
+uint64_t zealfs_unlock(uint8_t *image, size_t image_len, const uint8_t *path, size_t path_len);
 
 /* The parts of a code: the number, 0 when the call was granted, and number i of the place, i being 0, 1 or 2. */
 static inline unsigned zealfs_number(uint64_t code) { return (unsigned)(code & 0xff); }

@@ -12,7 +12,7 @@ use std::process::Command;
 /// The environment variable that overrides the library's directory.
 const DIRECTORY: &str = "ZEALFS_LIBRARY_DIR";
 
-const CALLS: [&str; 10] = [
+const CALLS: [&str; 12] = [
     "zealfs_format",
     "zealfs_verdict",
     "zealfs_find",
@@ -23,6 +23,8 @@ const CALLS: [&str; 10] = [
     "zealfs_write",
     "zealfs_remove_file",
     "zealfs_remove_directory",
+    "zealfs_lock",
+    "zealfs_unlock",
 ];
 
 fn main() {
@@ -55,7 +57,7 @@ fn usual_directory() -> PathBuf {
     PathBuf::from(package).join("../target/staticlib")
 }
 
-/// Makes `libzealfs_isolated.a`, in which only the nine calls are global.
+/// Makes `libzealfs_isolated.a`, in which only the calls are global.
 fn isolate(archive: &Path, out: &Path) -> Result<(), String> {
     let object = out.join("zealfs_isolated.o");
     let isolated = out.join("libzealfs_isolated.a");

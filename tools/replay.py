@@ -26,10 +26,10 @@ class Refused(Exception):
 
 class File:
     def __init__(self, name, date):
-        self.name, self.date, self.content = name, date, b""
+        self.name, self.date, self.content, self.locked = name, date, b"", False
 
     def told(self):
-        return "file", len(self.content)
+        return "file", " locked" if self.locked else "", len(self.content)
 
     def pages(self):
         return pages_for(len(self.content))
@@ -40,7 +40,7 @@ class Directory:
         self.name, self.date, self.entries = name, date, [None] * width
 
     def told(self):
-        return "directory", 256
+        return "directory", "", 256
 
     def pages(self):
         return 1 + self.pages_below()
@@ -140,8 +140,8 @@ def do_verdict(root):
 
 def do_find(root, path):
     found = walk(root, names_of(path))
-    kind, size = found.told()
-    return root, f"{kind} size {size} date {found.date.hex()}"
+    kind, mark, size = found.told()
+    return root, f"{kind}{mark} size {size} date {found.date.hex()}"
 
 
 def do_list(root, path, i):
@@ -151,21 +151,32 @@ def do_list(root, path, i):
     entry = directory.entries[i]
     if entry is None:
         return root, "empty"
-    kind, size = entry.told()
-    return root, f"{kind} {quoted(entry.name.ljust(16, bytes(1)))} size {size} date {entry.date.hex()}"
+    kind, mark, size = entry.told()
+    return root, f"{kind} {quoted(entry.name.ljust(16, bytes(1)))}{mark} size {size} date {entry.date.hex()}"
 
 
-def file_at(root, path, position):
-    file = walk(root, names_of(path))
+def file_at(root, names):
+    file = walk(root, names)
     if isinstance(file, Directory):
         raise Refused(7)
-    if position > len(file.content):
-        raise Refused(12)
     return file
 
 
+def unlocked_at(root, names):
+    file = file_at(root, names)
+    if file.locked:
+        raise Refused(25)
+    return file
+
+
+def content_from(file, position):
+    if position > len(file.content):
+        raise Refused(12)
+    return file.content
+
+
 def do_read(root, path, position, room):
-    copied = file_at(root, path, position).content[position:position + room]
+    copied = content_from(file_at(root, names_of(path)), position)[position:position + room]
     return root, f"{len(copied)} buffer {quoted(copied.ljust(room, b'.'))}"
 
 
@@ -193,8 +204,8 @@ def do_make_directory(root, path, date):
 
 
 def do_write(root, path, position, new):
-    file = file_at(root, path, position)
-    old = file.content
+    file = unlocked_at(root, names_of(path))
+    old = content_from(file, position)
     longer = old[:position] + new + old[position + len(new):]
     if pages_for(len(longer)) - pages_for(len(old)) > free_number(root):
         raise Refused(10)
@@ -217,10 +228,7 @@ def vacate(root, names, entry):
 
 def do_remove_file(root, path):
     names = names_to_remove(path)
-    file = walk(root, names)
-    if isinstance(file, Directory):
-        raise Refused(7)
-    return vacate(root, names, file)
+    return vacate(root, names, unlocked_at(root, names))
 
 
 def do_remove_directory(root, path):
@@ -231,9 +239,20 @@ def do_remove_directory(root, path):
     return vacate(root, names, directory)
 
 
+def do_lock(root, path):
+    file_at(root, names_of(path)).locked = True
+    return root, "done"
+
+
+def do_unlock(root, path):
+    file_at(root, names_of(path)).locked = False
+    return root, "done"
+
+
 CALLS_BY_NAME = {
     "format": do_format, "verdict": do_verdict, "find": do_find, "list": do_list, "read": do_read, "make_file": do_make_file,
     "make_directory": do_make_directory, "write": do_write, "remove_file": do_remove_file, "remove_directory": do_remove_directory,
+    "lock": do_lock, "unlock": do_unlock,
 }
 
 
@@ -416,6 +435,37 @@ FULL_ROOT = [
     ("verdict",),
 ]
 
+LOCKS = [
+    ("lock", b"/0042"),
+    ("lock", b"/0042"),
+    ("find", b"/0042"),
+    ("list", b"/", 0),
+    ("read", b"/0042", 0, 4),
+    ("write", b"/0042", 0, b"x"),
+    ("write", b"/0042", 0, b""),
+    ("write", b"/0042", 15, b"x"),
+    ("write", b"/0042", 0, digits(2000)),
+    ("remove_file", b"/0042"),
+    ("remove_directory", b"/0042"),
+    ("make_file", b"/0042", NOON),
+    ("lock", b"/"),
+    ("lock", b"/third"),
+    ("unlock", b"/third"),
+    ("lock", b"/0042/x"),
+    ("unlock", b"/x"),
+    ("lock", b"0042"),
+    ("unlock", b"/again"),
+    ("lock", b"/again"),
+    ("write", b"/again", 0, b"x"),
+    ("unlock", b"/again"),
+    ("write", b"/again", 0, b"unlocked"),
+    ("find", b"/again"),
+    ("unlock", b"/0042"),
+    ("find", b"/0042"),
+    ("lock", b"/fifth"),
+    ("verdict",),
+]
+
 FORMATS = [
     ("format",),
     ("verdict",),
@@ -442,6 +492,7 @@ CALLS = [
     *NO_PAGE_LEFT,
     *REMOVALS,
     *FULL_ROOT,
+    *LOCKS,
     *FORMATS,
 ]
 

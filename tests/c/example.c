@@ -62,7 +62,7 @@ int main(void)
 {
     const uint8_t made[8] = {0x20, 0x26, 0x11, 0x15, 0x07, 0x21, 0x05, 0x00};
     uint8_t bytes[256], back[100], name[16] = {0}, date[8] = {0};
-    uint64_t out[3] = {0};
+    uint64_t out[4] = {0};
 
     for (int i = 0; i < 256; i++)
         bytes[i] = (uint8_t)(7 * i);
@@ -75,10 +75,12 @@ int main(void)
     expect("find /A/0042", zealfs_find(IMAGE, PATH("/A/0042"), out, date), 0);
     expect("  kind, a file", out[0], 0);
     expect("  size", out[1], 256);
+    expect("  not locked", out[2], 0);
     expect("  date as made", memcmp(date, made, 8) == 0, 1);
     expect("list entry 0 of /A", zealfs_list(IMAGE, PATH("/A"), 0, out, name, date), 0);
     expect("  occupied", out[0], 1);
     expect("  size", out[2], 256);
+    expect("  not locked", out[3], 0);
     expect("  name 0042", memcmp(name, "0042\0\0\0\0\0\0\0\0\0\0\0\0", 16) == 0, 1);
 
     expect("read from 200 on", zealfs_read(IMAGE, PATH("/A/0042"), 200, back, sizeof back, out), 0);
@@ -90,7 +92,20 @@ int main(void)
     expect("find /A/42, refused", code, 5 + 256 * 3);
     expect("  number", zealfs_number(code), 5);
     expect("  byte of the path", zealfs_place(code, 0), 3);
-    expect("  out is zeros", out[0] + out[1], 0);
+    expect("  out is zeros", out[0] + out[1] + out[2], 0);
+
+    expect("lock /A/0042", zealfs_lock(IMAGE, PATH("/A/0042")), 0);
+    expect("lock it again", zealfs_lock(IMAGE, PATH("/A/0042")), 0);
+    expect("find /A/0042", zealfs_find(IMAGE, PATH("/A/0042"), out, date), 0);
+    expect("  locked", out[2], 1);
+    expect("list entry 0 of /A", zealfs_list(IMAGE, PATH("/A"), 0, out, name, date), 0);
+    expect("  locked", out[3], 1);
+    expect("read it", zealfs_read(IMAGE, PATH("/A/0042"), 0, back, sizeof back, out), 0);
+    expect("write to it, refused", zealfs_write(IMAGE, PATH("/A/0042"), 0, bytes, 1), 25);
+    expect("write no bytes past it, refused", zealfs_write(IMAGE, PATH("/A/0042"), 257, bytes, 0), 25);
+    expect("remove it, refused", zealfs_remove_file(IMAGE, PATH("/A/0042")), 25);
+    expect("lock /A, refused", zealfs_lock(IMAGE, PATH("/A")), 7);
+    expect("unlock /A/0042", zealfs_unlock(IMAGE, PATH("/A/0042")), 0);
 
     expect("verdict", zealfs_verdict(IMAGE, out), 0);
     expect("  pages", out[0], 8);

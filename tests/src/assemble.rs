@@ -83,17 +83,21 @@ impl Assembly<'_> {
 
     fn entry(&mut self, at: usize, entry: &Entry) {
         let (kind_bit, start) = match &entry.node {
-            Node::File(content) => (0, self.content(content)),
+            Node::File(file) => (0, self.content(&file.content)),
             Node::Directory(directory) => {
                 let page = self.take_page();
                 self.directory(page * PAGE, directory);
                 (1, page)
             }
         };
-        let reserved_flags = match self.random.below(3) {
+        let mut reserved_flags = match self.random.below(3) {
             0 => self.random.byte() & 0x7E,
             _ => 0,
         };
+        // Bit 6 is the lock of a file; a directory's means nothing.
+        if let Node::File(file) = &entry.node {
+            reserved_flags = reserved_flags & !0x40 | u8::from(file.locked) << 6;
+        }
         let bytes = &mut self.image[at..at + ENTRY];
         bytes[0] = 0x80 | reserved_flags | kind_bit;
         bytes[1..17].copy_from_slice(&entry.padded_name());

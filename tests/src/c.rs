@@ -49,6 +49,8 @@ declare! {
         position: u64, bytes: *const u8, bytes_len: usize;);
     zealfs_remove_file(image: *mut u8, image_len: usize, path: *const u8, path_len: usize;);
     zealfs_remove_directory(image: *mut u8, image_len: usize, path: *const u8, path_len: usize;);
+    zealfs_lock(image: *mut u8, image_len: usize, path: *const u8, path_len: usize;);
+    zealfs_unlock(image: *mut u8, image_len: usize, path: *const u8, path_len: usize;);
 }
 
 /// The C library.
@@ -95,38 +97,38 @@ impl Calls for Library {
         let returned = call!(zealfs_verdict(image.as_ptr(), image.len(); values[..2]));
         check_rest(&values[2..], UNSET);
         Answer {
-            values: [values[0], values[1], 0],
+            values: [values[0], values[1], 0, 0],
             ..answer(returned)
         }
     }
 
     fn find(&self, image: &[u8], path: &[u8]) -> Answer {
-        let mut values = [UNSET; 3];
+        let mut values = [UNSET; 4];
         let mut date = [UNSET_BYTE; DATE_BYTES + REST];
         let returned = call!(zealfs_find(
             image.as_ptr(), image.len(), path.as_ptr(), path.len();
-            values[..2], date[..DATE_BYTES]));
-        check_rest(&values[2..], UNSET);
+            values[..3], date[..DATE_BYTES]));
+        check_rest(&values[3..], UNSET);
         check_rest(&date[DATE_BYTES..], UNSET_BYTE);
         Answer {
-            values: [values[0], values[1], 0],
+            values: [values[0], values[1], values[2], 0],
             date: first(&date),
             ..answer(returned)
         }
     }
 
     fn list(&self, image: &[u8], path: &[u8], entry: u64) -> Answer {
-        let mut values = [UNSET; 4];
+        let mut values = [UNSET; 5];
         let mut name = [UNSET_BYTE; NAME_BYTES + REST];
         let mut date = [UNSET_BYTE; DATE_BYTES + REST];
         let returned = call!(zealfs_list(
             image.as_ptr(), image.len(), path.as_ptr(), path.len(), entry;
-            values[..3], name[..NAME_BYTES], date[..DATE_BYTES]));
-        check_rest(&values[3..], UNSET);
+            values[..4], name[..NAME_BYTES], date[..DATE_BYTES]));
+        check_rest(&values[4..], UNSET);
         check_rest(&name[NAME_BYTES..], UNSET_BYTE);
         check_rest(&date[DATE_BYTES..], UNSET_BYTE);
         Answer {
-            values: [values[0], values[1], values[2]],
+            values: [values[0], values[1], values[2], values[3]],
             name: first(&name),
             date: first(&date),
             ..answer(returned)
@@ -140,7 +142,7 @@ impl Calls for Library {
             buffer.as_mut_ptr(), buffer.len(); values[..1]));
         check_rest(&values[1..], UNSET);
         Answer {
-            values: [values[0], 0, 0],
+            values: [values[0], 0, 0, 0],
             ..answer(returned)
         }
     }
@@ -170,6 +172,16 @@ impl Calls for Library {
 
     fn remove_directory(&self, image: &mut [u8], path: &[u8]) -> Answer {
         answer(call!(zealfs_remove_directory(
+            image.as_mut_ptr(), image.len(), path.as_ptr(), path.len();)))
+    }
+
+    fn lock(&self, image: &mut [u8], path: &[u8]) -> Answer {
+        answer(call!(zealfs_lock(
+            image.as_mut_ptr(), image.len(), path.as_ptr(), path.len();)))
+    }
+
+    fn unlock(&self, image: &mut [u8], path: &[u8]) -> Answer {
+        answer(call!(zealfs_unlock(
             image.as_mut_ptr(), image.len(), path.as_ptr(), path.len();)))
     }
 }

@@ -9,7 +9,7 @@ pub const NAME_BYTES: usize = 16;
 /// The size that a directory answers.
 pub const DIRECTORY_SIZE: u64 = 256;
 /// One more than the highest number of the refusal table.
-pub const NUMBERS: usize = 21;
+pub const NUMBERS: usize = 26;
 
 /// A number of the refusal table, with its place.
 #[derive(Clone, Copy, Debug, PartialEq, Eq)]
@@ -81,9 +81,9 @@ pub struct Answer {
     /// 0 when granted, else the number that says no.
     pub number: u8,
     pub place: [u64; 3],
-    /// verdict: pages, free; find: kind, size; list: occupied, kind, size;
-    /// read: count.
-    pub values: [u64; 3],
+    /// verdict: pages, free; find: kind, size, locked; list: occupied, kind,
+    /// size, locked; read: count.
+    pub values: [u64; 4],
     pub name: [u8; NAME_BYTES],
     pub date: [u8; DATE_BYTES],
 }
@@ -104,14 +104,14 @@ impl Answer {
 
     pub fn verdict(pages: u64, free: u64) -> Answer {
         Answer {
-            values: [pages, free, 0],
+            values: [pages, free, 0, 0],
             ..Answer::default()
         }
     }
 
-    pub fn found(kind: Kind, size: u64, date: [u8; DATE_BYTES]) -> Answer {
+    pub fn found(kind: Kind, size: u64, locked: bool, date: [u8; DATE_BYTES]) -> Answer {
         Answer {
-            values: [kind.value(), size, 0],
+            values: [kind.value(), size, locked.into(), 0],
             date,
             ..Answer::default()
         }
@@ -122,10 +122,11 @@ impl Answer {
         kind: Kind,
         name: [u8; NAME_BYTES],
         size: u64,
+        locked: bool,
         date: [u8; DATE_BYTES],
     ) -> Answer {
         Answer {
-            values: [1, kind.value(), size],
+            values: [1, kind.value(), size, locked.into()],
             name,
             date,
             ..Answer::default()
@@ -140,7 +141,7 @@ impl Answer {
     /// The number of bytes that a read copied.
     pub fn count(count: u64) -> Answer {
         Answer {
-            values: [count, 0, 0],
+            values: [count, 0, 0, 0],
             ..Answer::default()
         }
     }
@@ -166,7 +167,7 @@ impl fmt::Display for Answer {
         if self.place != [0; 3] {
             write!(out, ", place {:?}", self.place)?;
         }
-        if self.values != [0; 3] {
+        if self.values != [0; 4] {
             write!(out, ", values {:?}", self.values)?;
         }
         if self.name != [0; NAME_BYTES] {
@@ -191,6 +192,8 @@ pub trait Calls {
     fn write(&self, image: &mut [u8], path: &[u8], position: u64, bytes: &[u8]) -> Answer;
     fn remove_file(&self, image: &mut [u8], path: &[u8]) -> Answer;
     fn remove_directory(&self, image: &mut [u8], path: &[u8]) -> Answer;
+    fn lock(&self, image: &mut [u8], path: &[u8]) -> Answer;
+    fn unlock(&self, image: &mut [u8], path: &[u8]) -> Answer;
 }
 
 /// One call with its arguments. The bytes of a read are what the reader's
@@ -207,10 +210,12 @@ pub enum Call {
     Write(Vec<u8>, u64, Vec<u8>),
     RemoveFile(Vec<u8>),
     RemoveDirectory(Vec<u8>),
+    Lock(Vec<u8>),
+    Unlock(Vec<u8>),
 }
 
 /// How many calls there are.
-pub const CALL_COUNT: usize = 10;
+pub const CALL_COUNT: usize = 12;
 
 /// The names of the calls, in the order of [`Call::index`].
 pub const CALL_NAMES: [&str; CALL_COUNT] = [
@@ -224,6 +229,8 @@ pub const CALL_NAMES: [&str; CALL_COUNT] = [
     "write",
     "remove_file",
     "remove_directory",
+    "lock",
+    "unlock",
 ];
 
 impl Call {
@@ -240,6 +247,8 @@ impl Call {
             Call::Write(..) => 7,
             Call::RemoveFile(..) => 8,
             Call::RemoveDirectory(..) => 9,
+            Call::Lock(..) => 10,
+            Call::Unlock(..) => 11,
         }
     }
 
@@ -260,6 +269,8 @@ impl Call {
             Call::Write(path, position, bytes) => calls.write(image, path, *position, bytes),
             Call::RemoveFile(path) => calls.remove_file(image, path),
             Call::RemoveDirectory(path) => calls.remove_directory(image, path),
+            Call::Lock(path) => calls.lock(image, path),
+            Call::Unlock(path) => calls.unlock(image, path),
         }
     }
 }

@@ -52,6 +52,16 @@ impl<'a> Desk<'a> {
         answer.number
     }
 
+    pub fn lock(&mut self, path: &str) -> u8 {
+        let answer = self.calls.lock(&mut self.image, path.as_bytes());
+        answer.number
+    }
+
+    pub fn unlock(&mut self, path: &str) -> u8 {
+        let answer = self.calls.unlock(&mut self.image, path.as_bytes());
+        answer.number
+    }
+
     pub fn find(&self, path: &str) -> Answer {
         self.calls.find(&self.image, path.as_bytes())
     }

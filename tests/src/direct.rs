@@ -10,6 +10,7 @@ const ROOT_AT: usize = 64;
 const BITMAP_AT: usize = 4;
 const OCCUPIED: u8 = 0x80;
 const DIRECTORY: u8 = 0x01;
+const LOCKED: u8 = 0x40;
 const START: usize = 17;
 const SIZE: usize = 18;
 const DATE: usize = 20;
@@ -397,14 +398,25 @@ fn find(image: &[u8], path: &[u8]) -> Result<Answer, Refusal> {
     judge(image)?;
     let Some(at) = walk_to_entry(image, Path::check(path)?)? else {
         let no_date = [0; DATE_BYTES];
-        return Ok(Answer::found(Kind::Directory, DIRECTORY_SIZE, no_date));
+        return Ok(Answer::found(
+            Kind::Directory,
+            DIRECTORY_SIZE,
+            false,
+            no_date,
+        ));
     };
     let entry = &image[at..at + ENTRY];
     Ok(Answer::found(
         kind_of(entry),
         size_of(entry) as u64,
+        is_locked(entry[0]),
         date_of(entry),
     ))
+}
+
+/// Whether the flags are those of a locked file.
+fn is_locked(flags: u8) -> bool {
+    flags & (LOCKED | DIRECTORY) == LOCKED
 }
 
 fn kind_of(entry: &[u8]) -> Kind {
@@ -433,6 +445,7 @@ fn list(image: &[u8], path: &[u8], number: u64) -> Result<Answer, Refusal> {
         kind_of(entry),
         entry[1..=NAME_BYTES].try_into().expect("16 bytes"),
         size_of(entry) as u64,
+        is_locked(entry[0]),
         date_of(entry),
     ))
 }
@@ -496,6 +509,9 @@ fn make(image: &mut [u8], path: &[u8], date: &[u8], kind: Kind) -> Result<Answer
 fn write(image: &mut [u8], path: &[u8], position: u64, bytes: &[u8]) -> Result<Answer, Refusal> {
     let sound = judge(image)?;
     let (at, size) = walk_to_file(image, Path::check(path)?)?;
+    if is_locked(image[at]) {
+        return refuse(25);
+    }
     if position > size as u64 {
         return refuse(12);
     }
@@ -541,6 +557,9 @@ fn remove_file(image: &mut [u8], path: &[u8]) -> Result<Answer, Refusal> {
     if image[at] & DIRECTORY != 0 {
         return refuse(7);
     }
+    if is_locked(image[at]) {
+        return refuse(25);
+    }
     let mut page = usize::from(image[at + START]);
     while page != 0 {
         release(image, page);
@@ -565,6 +584,16 @@ fn remove_directory(image: &mut [u8], path: &[u8]) -> Result<Answer, Refusal> {
     }
     release(image, page);
     image[at] = 0;
+    Ok(Answer::granted())
+}
+
+fn set_lock(image: &mut [u8], path: &[u8], locked: bool) -> Result<Answer, Refusal> {
+    judge(image)?;
+    let (at, _) = walk_to_file(image, Path::check(path)?)?;
+    match locked {
+        true => image[at] |= LOCKED,
+        false => image[at] &= !LOCKED,
+    }
     Ok(Answer::granted())
 }
 
@@ -615,5 +644,13 @@ impl Calls for Direct {
 
     fn remove_directory(&self, image: &mut [u8], path: &[u8]) -> Answer {
         remove_directory(image, path).into()
+    }
+
+    fn lock(&self, image: &mut [u8], path: &[u8]) -> Answer {
+        set_lock(image, path, true).into()
+    }
+
+    fn unlock(&self, image: &mut [u8], path: &[u8]) -> Answer {
+        set_lock(image, path, false).into()
     }
 }

@@ -5,7 +5,7 @@ use crate::assemble::{assemble, nest, Order};
 use crate::calls::{Call, CALL_COUNT, DATE_BYTES};
 use crate::harness::Scenario;
 use crate::plain::path::days_in;
-use crate::plain::tree::{Entry, Node, Tree};
+use crate::plain::tree::{Entry, File, Node, Tree};
 use crate::plain::{pages_of_file, Replay, CONTENT, PAGE};
 use crate::random::Random;
 
@@ -42,15 +42,15 @@ const LENGTHS: [usize; 14] = [
 /// order of [`Call::index`].
 const PROFILES: [[usize; CALL_COUNT]; 5] = [
     // Everything.
-    [1, 3, 6, 8, 10, 14, 10, 22, 8, 7],
+    [1, 3, 6, 8, 10, 14, 10, 22, 8, 7, 5, 4],
     // Filling up and making room.
-    [0, 1, 1, 1, 3, 8, 3, 30, 7, 2],
+    [0, 1, 1, 1, 3, 8, 3, 30, 7, 2, 1, 2],
     // Nesting.
-    [0, 1, 3, 4, 1, 4, 24, 3, 2, 5],
+    [0, 1, 3, 4, 1, 4, 24, 3, 2, 5, 1, 1],
     // Making and removing.
-    [0, 1, 2, 3, 1, 14, 14, 3, 9, 9],
+    [0, 1, 2, 3, 1, 14, 14, 3, 9, 9, 3, 2],
     // Looking.
-    [0, 3, 10, 14, 16, 4, 2, 6, 1, 1],
+    [0, 3, 10, 14, 16, 4, 2, 6, 1, 1, 3, 2],
 ];
 
 /// A random list of calls from a random sound image.
@@ -100,14 +100,18 @@ fn one_file(pages: usize, random: &mut Random) -> Tree {
     let entry = Entry {
         name: random.pick(&NAMES).to_vec(),
         date: good_date(random),
-        node: Node::File(random.bytes(size)),
+        node: Node::File(File {
+            content: random.bytes(size),
+            locked: random.chance(1, 8),
+        }),
     };
     let position = random.below(tree.root.entries.len());
     tree.root.entries[position] = Some(entry);
     tree
 }
 
-/// The tree that a random list of calls leaves, with any stored dates.
+/// The tree that a random list of calls leaves, with any stored dates and
+/// locks.
 pub fn random_tree(pages: usize, random: &mut Random) -> Tree {
     let replay = Replay::formatted(pages * PAGE);
     let count = random.between(1, 12 + pages / 2);
@@ -116,18 +120,20 @@ pub fn random_tree(pages: usize, random: &mut Random) -> Tree {
         generator.next_call();
     }
     let mut tree = generator.replay.tree;
-    scramble_dates(&mut tree.root.entries, random);
+    scramble(&mut tree.root.entries, random);
     tree
 }
 
-/// The verdict does not judge stored dates, so that any may stand there.
-fn scramble_dates(entries: &mut [Option<Entry>], random: &mut Random) {
+/// The verdict does not judge stored dates, so that any may stand there. A file
+/// may be locked from the beginning.
+fn scramble(entries: &mut [Option<Entry>], random: &mut Random) {
     for entry in entries.iter_mut().flatten() {
         if random.chance(1, 3) {
             random.fill(&mut entry.date);
         }
-        if let Node::Directory(below) = &mut entry.node {
-            scramble_dates(&mut below.entries, random);
+        match &mut entry.node {
+            Node::File(file) => file.locked |= random.chance(1, 8),
+            Node::Directory(below) => scramble(&mut below.entries, random),
         }
     }
 }
@@ -152,8 +158,8 @@ impl<'r> Generator<'r> {
     /// The next call; the tree follows it.
     pub fn next_call(&mut self) -> Call {
         let mut which = self.random.weighted(&self.weights);
-        if matches!(which, 4 | 7) && !self.has(is_file) && self.random.chance(9, 10) {
-            // Nothing to read or write yet.
+        if matches!(which, 4 | 7 | 10 | 11) && !self.has(is_file) && self.random.chance(9, 10) {
+            // Nothing to read, write or lock yet.
             which = 5;
         }
         let call = match which {
@@ -166,7 +172,9 @@ impl<'r> Generator<'r> {
             6 => Call::MakeDirectory(self.new_path(), self.date()),
             7 => self.write_call(),
             8 => Call::RemoveFile(self.removed_path(is_file)),
-            _ => Call::RemoveDirectory(self.removed_path(is_directory)),
+            9 => Call::RemoveDirectory(self.removed_path(is_directory)),
+            10 => Call::Lock(self.file_path()),
+            _ => Call::Unlock(self.unlocked_path()),
         };
         self.replay.step(&mut call.clone());
         call
@@ -195,7 +203,7 @@ impl<'r> Generator<'r> {
     }
 
     fn write_call(&mut self) -> Call {
-        let path = self.file_path();
+        let path = self.written_path();
         let size = self.size_at(&path);
         let position = self.position(size);
         let length = self.write_length(size, position);
@@ -283,6 +291,24 @@ impl<'r> Generator<'r> {
             self.entry_path(is_file)
         } else {
             self.path()
+        }
+    }
+
+    /// Mostly the path of a file that may be written.
+    fn written_path(&mut self) -> Vec<u8> {
+        if self.has(is_open) && self.random.chance(2, 3) {
+            self.entry_path(is_open)
+        } else {
+            self.file_path()
+        }
+    }
+
+    /// Half of the time the path of a locked file, if there is one.
+    fn unlocked_path(&mut self) -> Vec<u8> {
+        if self.has(is_locked) && self.random.chance(1, 2) {
+            self.entry_path(is_locked)
+        } else {
+            self.file_path()
         }
     }
 
@@ -437,6 +463,15 @@ fn is_file(entry: &Entry) -> bool {
 
 fn is_directory(entry: &Entry) -> bool {
     !is_file(entry)
+}
+
+fn is_locked(entry: &Entry) -> bool {
+    entry.node.is_locked()
+}
+
+/// Whether it is a file that may be written.
+fn is_open(entry: &Entry) -> bool {
+    is_file(entry) && !is_locked(entry)
 }
 
 /// The path of `name` in the directory `parent`.

@@ -44,7 +44,7 @@ fn list_directory(calls: &dyn Calls, image: &[u8], path: &[u8], text: &mut Vec<u
     };
     for number in 0..entries {
         let answer = calls.list(image, argument, number);
-        let [occupied, kind, size] = answer.values;
+        let [occupied, kind, size, _] = answer.values;
         if occupied == 0 {
             continue;
         }

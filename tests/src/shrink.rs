@@ -126,6 +126,8 @@ fn simpler(call: &Call) -> Vec<Call> {
         Call::Find(path) => shorter(path).map(Call::Find).collect(),
         Call::RemoveFile(path) => shorter(path).map(Call::RemoveFile).collect(),
         Call::RemoveDirectory(path) => shorter(path).map(Call::RemoveDirectory).collect(),
+        Call::Lock(path) => shorter(path).map(Call::Lock).collect(),
+        Call::Unlock(path) => shorter(path).map(Call::Unlock).collect(),
         Call::List(path, entry) => {
             let paths = shorter(path).map(|path| Call::List(path, *entry));
             let numbers = smaller(*entry).map(|entry| Call::List(path.clone(), entry));
@@ -236,7 +238,11 @@ fn call_text(call: &Call) -> String {
     let name = call.name();
     match call {
         Call::Format | Call::Verdict => name.to_string(),
-        Call::Find(path) | Call::RemoveFile(path) | Call::RemoveDirectory(path) => {
+        Call::Find(path)
+        | Call::RemoveFile(path)
+        | Call::RemoveDirectory(path)
+        | Call::Lock(path)
+        | Call::Unlock(path) => {
             format!("{name} {}", text(path))
         }
         Call::List(path, entry) => format!("{name} {} entry {entry}", text(path)),

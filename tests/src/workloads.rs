@@ -177,7 +177,9 @@ fn one_of_each(workload: &Workload) -> Vec<Call> {
         Call::MakeFile(new.clone(), DATE.to_vec()),
         Call::MakeDirectory(new, DATE.to_vec()),
         Call::Write(file.clone(), 255, vec![1; 255]),
-        Call::RemoveFile(file),
+        Call::RemoveFile(file.clone()),
         Call::RemoveDirectory(empty),
+        Call::Lock(file.clone()),
+        Call::Unlock(file),
     ]
 }

@@ -3,6 +3,7 @@
 
 use crate::calls::{Answer, Call, Calls, Refusal};
 use crate::misjudge::misjudged;
+use crate::plain::writer::entry_at;
 use crate::plain::{Plain, BITMAP_AT, CONTENT, PAGE};
 
 /// What is broken.
@@ -48,6 +49,22 @@ pub enum Fault {
     ReservedFlagsCleared,
     /// A bad date is told before a bad path.
     DateBeforePath,
+    /// A locked file is written.
+    LockedWritten,
+    /// A locked file is removed.
+    LockedRemoved,
+    /// A write of no bytes to a locked file is granted.
+    NothingToLocked,
+    /// A position past the end is told before the lock.
+    PastEndBeforeLock,
+    /// Bit 6 of a directory is told as a lock.
+    LockedDirectory,
+    /// A directory is locked as a file is.
+    DirectoryLocks,
+    /// A lock clears the reserved flags.
+    LockClearsFlags,
+    /// To lock a second time unlocks.
+    LockTurns,
     // From here on the fault that is told of an image is not its first one, or
     // its place is another.
     /// The page that fails is counted among those that passed.
@@ -67,7 +84,7 @@ pub enum Fault {
 }
 
 /// All faults.
-pub const FAULTS: [Fault; 27] = [
+pub const FAULTS: [Fault; 35] = [
     Fault::LeadingZeros,
     Fault::TrustedFreeCount,
     Fault::WholeBitmap,
@@ -88,6 +105,14 @@ pub const FAULTS: [Fault; 27] = [
     Fault::JudgedWeekday,
     Fault::ReservedFlagsCleared,
     Fault::DateBeforePath,
+    Fault::LockedWritten,
+    Fault::LockedRemoved,
+    Fault::NothingToLocked,
+    Fault::PastEndBeforeLock,
+    Fault::LockedDirectory,
+    Fault::DirectoryLocks,
+    Fault::LockClearsFlags,
+    Fault::LockTurns,
     Fault::FailedPageCounted,
     Fault::EarlierOfEqualNames,
     Fault::HighestLostPage,
@@ -118,6 +143,8 @@ impl Wrong {
         self.spoil_arguments(&mut call);
         let mut answer = call.perform(&Plain, image);
         self.remove_other_kind(image, &call, &mut answer);
+        self.overlook_lock(image, &call, &mut answer);
+        self.spoil_lock(image, &before, &call, &mut answer);
         match &mut call {
             Call::Read(_, _, buffer)
                 if self.has(Fault::BufferRestZeroed) && answer.is_granted() =>
@@ -142,6 +169,8 @@ impl Wrong {
             Call::Find(path)
             | Call::RemoveFile(path)
             | Call::RemoveDirectory(path)
+            | Call::Lock(path)
+            | Call::Unlock(path)
             | Call::List(path, _) => self.spoil_path(path),
             _ => {}
         }
@@ -202,6 +231,51 @@ impl Wrong {
         };
         if other.is_granted() {
             *answer = other;
+        }
+    }
+
+    /// Performs a call that was refused for the lock as if there were none.
+    fn overlook_lock(&self, image: &mut [u8], call: &Call, answer: &mut Answer) {
+        let overlooked = match (self.0, call) {
+            _ if answer.number != 25 => return,
+            (Fault::LockedWritten | Fault::PastEndBeforeLock, Call::Write(path, ..)) => path,
+            (Fault::NothingToLocked, Call::Write(path, _, bytes)) if bytes.is_empty() => path,
+            (Fault::LockedRemoved, Call::RemoveFile(path)) => path,
+            _ => return,
+        };
+        let at = entry_at(image, overlooked);
+        let mut open = image.to_vec();
+        open[at] &= !0x40;
+        let other = call.clone().perform(&Plain, &mut open);
+        match self.0 {
+            Fault::PastEndBeforeLock if other.number != 12 => return,
+            Fault::PastEndBeforeLock => {}
+            _ if other.is_granted() => {
+                image.copy_from_slice(&open);
+                let is_still_there = open[at] & 0x80 != 0;
+                image[at] |= u8::from(is_still_there) << 6;
+            }
+            _ => {}
+        }
+        *answer = other;
+    }
+
+    /// Breaks what a lock does, or how it is told.
+    fn spoil_lock(&self, image: &mut [u8], before: &[u8], call: &Call, answer: &mut Answer) {
+        match (self.0, call, answer.number) {
+            (Fault::DirectoryLocks, Call::Lock(path), 7) if path != b"/" => {
+                image[entry_at(before, path)] |= 0x40;
+                *answer = Answer::granted();
+            }
+            (Fault::LockClearsFlags, Call::Lock(path), 0) => image[entry_at(before, path)] = 0xC0,
+            (Fault::LockTurns, Call::Lock(path), 0) => {
+                let at = entry_at(before, path);
+                image[at] = before[at] ^ 0x40;
+            }
+            (Fault::LockedDirectory, Call::Find(path), 0) if path != b"/" => {
+                answer.values[2] = u64::from(image[entry_at(before, path)] >> 6 & 1);
+            }
+            _ => {}
         }
     }
 
@@ -332,5 +406,13 @@ impl Calls for Wrong {
 
     fn remove_directory(&self, image: &mut [u8], path: &[u8]) -> Answer {
         self.perform(image, Call::RemoveDirectory(path.to_vec())).0
+    }
+
+    fn lock(&self, image: &mut [u8], path: &[u8]) -> Answer {
+        self.perform(image, Call::Lock(path.to_vec())).0
+    }
+
+    fn unlock(&self, image: &mut [u8], path: &[u8]) -> Answer {
+        self.perform(image, Call::Unlock(path.to_vec())).0
     }
 }

@@ -37,7 +37,7 @@ fn case_2_leading_zeros_count() {
         assert_eq!(desk.make_file("/0042"), 0);
         assert_eq!(desk.make_file("/42"), 0);
         for (entry, name) in [(0, "0042"), (1, "42")] {
-            let listed = Answer::occupied(Kind::File, padded(name), 0, DATE);
+            let listed = Answer::occupied(Kind::File, padded(name), 0, false, DATE);
             assert_eq!(desk.list("/", entry), listed);
         }
         assert_eq!(desk.free(), 5);
@@ -206,7 +206,7 @@ fn a_write_inside_keeps_what_is_around_it() {
 #[test]
 fn the_root_is_found() {
     on_all(2048, |desk| {
-        let root = Answer::found(Kind::Directory, 256, [0; 8]);
+        let root = Answer::found(Kind::Directory, 256, false, [0; 8]);
         assert_eq!(desk.find("/"), root);
     });
 }
@@ -279,5 +279,93 @@ fn a_file_is_not_made_without_a_free_page() {
         assert_eq!(desk.write("/F", 0, 1785), 0);
         assert_eq!(desk.make_file("/G"), 10);
         assert_eq!(desk.free(), 0);
+    });
+}
+
+#[test]
+fn a_locked_file_is_read_and_not_altered() {
+    on_all(2048, |desk| {
+        assert_eq!(desk.make_file("/F"), 0);
+        assert_eq!(desk.image[64], 0x80);
+        assert_eq!(desk.write("/F", 0, 300), 0);
+        assert_eq!(desk.find("/F"), Answer::found(Kind::File, 300, false, DATE));
+        let unlocked = desk.image.clone();
+
+        assert_eq!(desk.lock("/F"), 0);
+        let mut locked = unlocked.clone();
+        locked[64] = 0xC0;
+        assert!(desk.image == locked);
+        assert_eq!(desk.lock("/F"), 0);
+        assert!(desk.image == locked);
+        assert_eq!(desk.find("/F"), Answer::found(Kind::File, 300, true, DATE));
+        let listed = Answer::occupied(Kind::File, padded("F"), 300, true, DATE);
+        assert_eq!(desk.list("/", 0), listed);
+        assert_eq!(desk.content("/F"), pattern(300));
+
+        for (position, length) in [(0, 1), (0, 0), (300, 0), (301, 0), (301, 1), (0, 9000)] {
+            assert_eq!(desk.write("/F", position, length), 25);
+        }
+        assert_eq!(desk.remove_file("/F"), 25);
+        assert_eq!(desk.remove_directory("/F"), 6);
+        assert_eq!(desk.make_file("/F"), 8);
+        assert_eq!(desk.make_directory("/F"), 8);
+        assert!(desk.image == locked);
+
+        assert_eq!(desk.unlock("/F"), 0);
+        assert!(desk.image == unlocked);
+        assert_eq!(desk.unlock("/F"), 0);
+        assert!(desk.image == unlocked);
+        assert_eq!(desk.write("/F", 300, 1), 0);
+        assert_eq!(desk.remove_file("/F"), 0);
+        assert_eq!(desk.make_file("/F"), 0);
+        assert_eq!(desk.image[64], 0x80);
+    });
+}
+
+/// Every value of the other flags, as an earlier system may have left them:
+/// bit 6 is a file's lock, whoever set it, and nothing else of the byte changes.
+#[test]
+fn bit_6_of_any_flags_is_the_lock_of_a_file() {
+    on_all(2048, |desk| {
+        assert_eq!(desk.make_file("/F"), 0);
+        for flags in (0x80..=0xFF).step_by(2) {
+            desk.image[64] = flags;
+            let locked = flags & 0x40 != 0;
+            assert_eq!(desk.find("/F").values, [0, 0, locked.into(), 0]);
+            assert_eq!(desk.list("/", 0).values, [1, 0, 0, locked.into()]);
+            let number = if locked { 25 } else { 0 };
+            assert_eq!(desk.write("/F", 0, 0), number);
+            assert_eq!((desk.lock("/F"), desk.image[64]), (0, flags | 0x40));
+            assert_eq!((desk.lock("/F"), desk.image[64]), (0, flags | 0x40));
+            assert_eq!((desk.unlock("/F"), desk.image[64]), (0, flags & !0x40));
+            assert_eq!((desk.unlock("/F"), desk.image[64]), (0, flags & !0x40));
+        }
+    });
+}
+
+/// Bit 6 of a directory is ignored and kept.
+#[test]
+fn a_directory_has_no_lock() {
+    on_all(2048, |desk| {
+        assert_eq!(desk.make_directory("/D"), 0);
+        for flags in (0x81..=0xFF).step_by(2) {
+            desk.image[64] = flags;
+            assert_eq!(desk.find("/D").values, [1, 256, 0, 0]);
+            assert_eq!(desk.list("/", 0).values, [1, 1, 256, 0]);
+            for path in ["/D", "/"] {
+                assert_eq!((desk.lock(path), desk.unlock(path)), (7, 7));
+            }
+            assert_eq!(desk.write("/D", 0, 1), 7);
+            assert_eq!(desk.remove_file("/D"), 7);
+            assert_eq!(desk.make_file("/D/F"), 0);
+            assert_eq!(desk.lock("/D/F"), 0);
+            assert_eq!(desk.remove_directory("/D"), 13);
+            assert_eq!(desk.unlock("/D/F"), 0);
+            assert_eq!(desk.remove_file("/D/F"), 0);
+            assert_eq!(desk.image[64], flags);
+            assert_eq!(desk.remove_directory("/D"), 0);
+            assert_eq!(desk.make_directory("/D"), 0);
+            assert_eq!(desk.image[64], 0x81);
+        }
     });
 }

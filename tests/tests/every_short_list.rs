@@ -10,8 +10,8 @@ use zealfs_tests::subjects::compared;
 
 const LONGEST: u32 = 5;
 
-/// Calls that get in each other's way: names made, filled and removed again in
-/// two directories of an image of 7 free pages.
+/// Calls that get in each other's way: names made, filled, locked and removed
+/// again in two directories of an image of 7 free pages.
 fn choice() -> Vec<Call> {
     let make_file = |path: &[u8]| Call::MakeFile(path.to_vec(), DATE.to_vec());
     let make_directory = |path: &[u8]| Call::MakeDirectory(path.to_vec(), DATE.to_vec());
@@ -34,6 +34,9 @@ fn choice() -> Vec<Call> {
         remove_directory(b"/A"),
         remove_directory(b"/D"),
         remove_directory(b"/D/D"),
+        Call::Lock(b"/A".to_vec()),
+        Call::Unlock(b"/A".to_vec()),
+        Call::Lock(b"/D/A".to_vec()),
     ]
 }
 

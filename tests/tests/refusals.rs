@@ -8,8 +8,8 @@ use zealfs_tests::subjects::all;
 
 /// The numbers in the order of the table. Of the faults that the judge's walk
 /// tells, [`WALK`], no image here has two; tests/first_fault.rs has their order.
-const TABLE: [u8; 19] = [
-    1, 2, 16, 17, 18, 20, 19, 3, 4, 11, 14, 5, 6, 8, 7, 12, 9, 10, 13,
+const TABLE: [u8; 20] = [
+    1, 2, 16, 17, 18, 20, 19, 3, 4, 11, 14, 5, 6, 8, 7, 25, 12, 9, 10, 13,
 ];
 
 const WALK: [u8; 4] = [16, 17, 18, 20];
@@ -17,7 +17,8 @@ const WALK: [u8; 4] = [16, 17, 18, 20];
 const BAD_DATE: [u8; 8] = [0x20, 0x26, 0x13, 0x15, 0x07, 0x20, 0x30, 0x59];
 
 /// An image of 16 pages, two of them free: /F with 255 bytes, /D with /D/G, /E
-/// empty, and /full, a directory whose entries are all taken.
+/// empty, and /full, a directory whose entries are all taken. /full/5 is locked,
+/// and /D has bit 6, which means nothing there.
 fn roomy() -> Vec<u8> {
     let mut desk = Desk::fresh(&Plain, 4096);
     assert_eq!(desk.make_file("/F"), 0);
@@ -29,6 +30,8 @@ fn roomy() -> Vec<u8> {
     for name in 0..8 {
         assert_eq!(desk.make_file(&format!("/full/{name}")), 0);
     }
+    assert_eq!(desk.lock("/full/5"), 0);
+    desk.image[96] |= 0x40;
     desk.image
 }
 
@@ -152,6 +155,7 @@ fn make_cases(make: fn(Vec<u8>, Vec<u8>) -> Call) -> Vec<Case> {
         case(roomy, "/D/G", &DATE, &[8], 0),
         case(roomy, "/", &DATE, &[8], 0),
         case(roomy, "/full/0", &DATE, &[8, 9], 0),
+        case(roomy, "/full/5", &DATE, &[8, 9], 0),
         case(full, "/F", &DATE, &[8, 9, 10], 0),
         case(full, "/", &DATE, &[8, 9, 10], 0),
         case(roomy, "/full/X", &DATE, &[9], 0),
@@ -186,11 +190,18 @@ fn write_cases() -> Vec<Case> {
         case("/X", 0, 9, &[5], 1),
         case("/X", u64::MAX, 9000, &[5], 1),
         case("/F/X", 0, 9, &[6], 1),
+        case("/full/5/X", 0, 9, &[6], 6),
         case("/D", 0, 9, &[7], 0),
         case("/D", 0, 0, &[7], 0),
         case("/", 0, 9, &[7], 0),
         case("/D", 257, 9, &[7, 12], 0),
         case("/", 0, 9000, &[7, 10], 0),
+        case("/full/5", 0, 9, &[25], 0),
+        case("/full/5", 0, 0, &[25], 0),
+        case("/full/5", 1, 0, &[25, 12], 0),
+        case("/full/5", u64::MAX, 9, &[25, 12], 0),
+        case("/full/5", 0, 9000, &[25, 10], 0),
+        case("/full/5", 1, 9000, &[25, 12, 10], 0),
         case("/F", 256, 9, &[12], 0),
         case("/F", 256, 0, &[12], 0),
         case("/F", u64::MAX, 0, &[12], 0),
@@ -227,6 +238,7 @@ fn remove_file_cases() -> Vec<Case> {
         case("/D", &[7]),
         case("/E", &[7]),
         case("/full", &[7]),
+        case("/full/5", &[25]),
     ];
     [removal_cases(Call::RemoveFile), own].concat()
 }
@@ -241,10 +253,29 @@ fn remove_directory_cases() -> Vec<Case> {
         case("/F", &[6], 1),
         case("/D/G", &[6], 3),
         case("/full/0", &[6], 6),
+        case("/full/5", &[6], 6),
         case("/D", &[13], 0),
         case("/full", &[13], 0),
     ];
     [removal_cases(Call::RemoveDirectory), own].concat()
+}
+
+/// Cases of lock and unlock, whether or not bit 6 is set.
+fn lock_cases(lock: fn(Vec<u8>) -> Call) -> Vec<Case> {
+    let case = |text, holds: Lines, place| (On::Roomy, lock(path(text)), holds, place);
+    vec![
+        case("", &[4], 0),
+        case("F", &[4], 0),
+        case("/full/5/", &[4], 0),
+        case("/X", &[5], 1),
+        case("/D/X", &[5], 3),
+        case("/X/Y", &[5], 1),
+        case("/F/X", &[6], 1),
+        case("/full/5/X", &[6], 6),
+        case("/", &[7], 0),
+        case("/D", &[7], 0),
+        case("/E", &[7], 0),
+    ]
 }
 
 fn cases() -> Vec<Case> {
@@ -259,6 +290,8 @@ fn cases() -> Vec<Case> {
         write_cases(),
         remove_file_cases(),
         remove_directory_cases(),
+        lock_cases(Call::Lock),
+        lock_cases(Call::Unlock),
     ]
     .concat()
 }
@@ -394,6 +427,12 @@ fn granted() -> Vec<Call> {
         Call::RemoveFile(path("/F")),
         Call::RemoveFile(path("/full/3")),
         Call::RemoveDirectory(path("/E")),
+        Call::Find(path("/full/5")),
+        Call::Read(path("/full/5"), 0, vec![1; 9]),
+        Call::Lock(path("/F")),
+        Call::Lock(path("/full/5")),
+        Call::Unlock(path("/F")),
+        Call::Unlock(path("/full/5")),
     ]
 }
 

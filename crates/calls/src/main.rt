@@ -157,6 +157,38 @@ fn full_root(image: &mut Image) {
     shown::verdict(image);
 }
 
+// A locked file is read, and neither written nor removed; 25 stands above 12 and 10. A directory has no lock.
+fn locks(image: &mut Image) {
+    shown::lock(image, b"/0042");
+    shown::lock(image, b"/0042");
+    shown::find(image, b"/0042");
+    shown::list(image, b"/", 0);
+    shown::read(image, b"/0042", 0, &mut [b'.'; 4]);
+    shown::write(image, b"/0042", 0, b"x");
+    shown::write(image, b"/0042", 0, b"");
+    shown::write(image, b"/0042", 15, b"x");
+    shown::write_digits(image, b"/0042", 0, 2000);
+    shown::remove_file(image, b"/0042");
+    shown::remove_directory(image, b"/0042");
+    shown::make_file(image, b"/0042", &NOON);
+    shown::lock(image, b"/");
+    shown::lock(image, b"/third");
+    shown::unlock(image, b"/third");
+    shown::lock(image, b"/0042/x");
+    shown::unlock(image, b"/x");
+    shown::lock(image, b"0042");
+    shown::unlock(image, b"/again");
+    shown::lock(image, b"/again");
+    shown::write(image, b"/again", 0, b"x");
+    shown::unlock(image, b"/again");
+    shown::write(image, b"/again", 0, b"unlocked");
+    shown::find(image, b"/again");
+    shown::unlock(image, b"/0042");
+    shown::find(image, b"/0042");
+    shown::lock(image, b"/fifth");
+    shown::verdict(image);
+}
+
 fn formats(image: &mut Image) {
     shown::format(image);
     shown::verdict(image);
@@ -185,5 +217,6 @@ fn main() {
     no_page_left(&mut image);
     removals(&mut image);
     full_root(&mut image);
+    locks(&mut image);
     formats(&mut image);
 }

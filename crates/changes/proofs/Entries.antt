@@ -11,7 +11,7 @@ use lib.Dec.{T}
 use Rattle.volume.specs.Bytes.{Bytes, if_then_else_}
 use Rattle.volume.proofs.Occ.{occ, sum-mono, sum-occ, mem-or-not, under-of-mem}
 use Rattle.model.specs.Layout.{pageCount, zeroBits}
-use Rattle.model.specs.Entry.{Entry, vacant, aFile, aDirectory, occupied, isDirectory, nameAt, startAt, sizeAt, dateAt, entryAt}
+use Rattle.model.specs.Entry.{Entry, vacant, aFile, aDirectory, occupied, isDirectory, isLocked, nameAt, startAt, sizeAt, dateAt, entryAt}
 use Rattle.model.specs.Sound.{goodEntry, inDirectory, goodDirectory, ownedPages}
 use Rattle.model.specs.Path.{Name, Path}
 use Rattle.model.specs.Walk.{arrivedOr, entryPosition}
@@ -24,11 +24,11 @@ use Rattle.places.proofs.Arrivals.{EntryOf}
 use Rattle.places.proofs.Entries.{leads, among}
 
 -- the fields of a file's entry
-pub file-fields : (b : Bytes) (at : ℕ) {name date : Bytes} {start size : ℕ} → entryAt b at ≡ aFile name date start size → (startAt b at ≡ start) × (sizeAt b at ≡ size)
+pub file-fields : (b : Bytes) (at : ℕ) {locked : Bool} {name date : Bytes} {start size : ℕ} → entryAt b at ≡ aFile locked name date start size → (startAt b at ≡ start) × (sizeAt b at ≡ size)
 unfolding entryAt
-file-fields b at {name} {date} {start} {size} e = go (occupied b at) (isDirectory b at) e
+file-fields b at {locked} {name} {date} {start} {size} e = go (occupied b at) (isDirectory b at) e
   where
-    go : (o d : Bool) → (if o then (if d then aDirectory (nameAt b at) (dateAt b at) (startAt b at) (sizeAt b at) else aFile (nameAt b at) (dateAt b at) (startAt b at) (sizeAt b at)) else vacant) ≡ aFile name date start size
+    go : (o d : Bool) → (if o then (if d then aDirectory (nameAt b at) (dateAt b at) (startAt b at) (sizeAt b at) else aFile (isLocked b at) (nameAt b at) (dateAt b at) (startAt b at) (sizeAt b at)) else vacant) ≡ aFile locked name date start size
         → (startAt b at ≡ start) × (sizeAt b at ≡ size)
     go true true k = (cc k, cc k)
     go true false k = (cc k, cc k)

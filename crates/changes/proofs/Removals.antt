@@ -4,6 +4,7 @@ use mathlib.Core.Path.{_≡_, refl, sym, subst}
 use mathlib.Core.Logic.{inl, inr}
 use Prim.Native.Nat.{ℕ}
 use native.Mathlib.Omega.{arith}
+use mathlib.Core.Bool.{Bool}
 use mathlib.Core.List.{[], _∷_, foldl}
 use lib.ListN.{set}
 use Rattle.volume.specs.Bytes.{Bytes}
@@ -32,7 +33,7 @@ owned-returned b f k p o = record {
 }
 
 module _ (b : Bytes) (f : Facts b) (p : Path) (at begins : ℕ) (x : EntryOf b p at begins) {name date : Bytes} {start k : ℕ} where
-  pub file-returned : entryAt b at ≡ aFile name date start k → Returned b (pagesFor k) start
+  pub file-returned : {locked : Bool} → entryAt b at ≡ aFile locked name date start k → Returned b (pagesFor k) start
   file-returned is = owned-returned b f (pagesFor k) start (file-owned b f p at begins x is)
 
   directory-owned : entryAt b at ≡ aDirectory name date start k → Owned b (start ∷ [])
@@ -53,7 +54,7 @@ module _ (b : Bytes) (f : Facts b) (p : Path) (at begins : ℕ) (x : EntryOf b p
   directory-returned is = owned-returned b f 1 start (directory-owned is)
 
   -- what a remove makes of the bytes
-  pub file-removed : entryAt b at ≡ aFile name date start k → set (foldl (On.released version1) b (chain (link b) (pagesFor k) start)) at 0 ≡ removed p b
+  pub file-removed : {locked : Bool} → entryAt b at ≡ aFile locked name date start k → set (foldl (On.released version1) b (chain (link b) (pagesFor k) start)) at 0 ≡ removed p b
   unfolding removed pagesOf
   file-removed is = sym (rw (entry-position b p at begins x, is))
 

@@ -10,7 +10,7 @@ use borrow.Author.Tests.{ltb-false, not-false, lt-ltb, le-ltb}
 use Rattle.volume.specs.Bytes.{Bytes, if_then_else_}
 use Rattle.volume.specs.Lists.{all}
 use Rattle.volume.proofs.Occ.{Mem, mem-head}
-use Rattle.model.specs.Entry.{Entry as Model, vacant, aFile, aDirectory, entriesStart, entries, nameAt, dateAt, entryAt}
+use Rattle.model.specs.Entry.{Entry as Model, vacant, aFile, aDirectory, entriesStart, entries, isLocked, nameAt, dateAt, entryAt}
 use Rattle.model.specs.Tree.{Row, held}
 use Rattle.model.specs.Image.{entryRow, rowOf, rowAt}
 use Rattle.model.specs.Effect.{isVacant}
@@ -22,8 +22,8 @@ use Rattle.fields.proofs.Searches.{entriesFrom, all-entries, entry-then}
 abbrev pub vacancy : Bytes → ℕ → Bool
 vacancy b at = isVacant (entryAt b at)
 
-pub vacancy-read : (b : Bytes) (at : ℕ) (r s : Entry) → entryOf r (nameAt b at) (dateAt b at) ≡ entryAt b at → r ≡ s → isVacant (entryOf s (nameAt b at) (dateAt b at)) ≡ vacancy b at
-vacancy-read b at r s read is = ap (λ (x : Entry). isVacant (entryOf x (nameAt b at) (dateAt b at))) (sym is) ∙ ap isVacant read
+pub vacancy-read : (b : Bytes) (at : ℕ) (r s : Entry) → entryOf r (isLocked b at) (nameAt b at) (dateAt b at) ≡ entryAt b at → r ≡ s → isVacant (entryOf s (isLocked b at) (nameAt b at) (dateAt b at)) ≡ vacancy b at
+vacancy-read b at r s read is = ap (λ (x : Entry). isVacant (entryOf x (isLocked b at) (nameAt b at) (dateAt b at))) (sym is) ∙ ap isVacant read
 
 pub first-entry : (p : ℕ) → Mem (entriesStart p + 32 * 0) (entries p)
 first-entry p = subst (Mem (entriesStart p + 32 * 0)) (sym (all-entries p ∙ entry-then p 0 (some-entries (eqb p 0)))) (mem-head (entriesStart p + 32 * 0) (entriesFrom p (0 + 1)))
@@ -41,7 +41,7 @@ row-holds b g (x ∷ xs) = go (entryAt b x) (row-holds b g xs)
   where
     go : (y : Model) → ltb 0 (held (rowOf b g xs)) ≡ not (all (vacancy b) xs) → ltb 0 (held (entryRow b g y (rowOf b g xs))) ≡ not (isVacant y && all (vacancy b) xs)
     go vacant e = e
-    go (aFile name date start size) e = lt-ltb 0 (suc (held (rowOf b g xs))) (omega arith)
+    go (aFile locked name date start size) e = lt-ltb 0 (suc (held (rowOf b g xs))) (omega arith)
     go (aDirectory name date start size) e = lt-ltb 0 (suc (held (rowOf b g xs))) (omega arith)
 
 pub directory-holds : (d : ℕ) (b : Bytes) (p : ℕ) → ltb 0 (held (rowAt (suc d) b p)) ≡ not (all (vacancy b) (entries p))

@@ -17,7 +17,7 @@ use Rattle.volume.proofs.Longer.{Chained}
 use Rattle.volume.proofs.Writes.{Beside}
 use Rattle.model.specs.Layout.{version1, pageCount, pagesFor, zeroBits, link}
 use Rattle.model.specs.Name.{legalName}
-use Rattle.model.specs.Entry.{nameAt, startAt, dateAt, Entry, aFile, entryAt}
+use Rattle.model.specs.Entry.{isLocked, nameAt, startAt, dateAt, Entry, aFile, entryAt}
 use Rattle.model.specs.Sound.{pagesOf, goodEntry}
 use Rattle.model.specs.Path.{Path}
 use Rattle.model.specs.Effect.{rewritten, written}
@@ -32,10 +32,10 @@ use Rattle.changes.specs.Asked.{Writing}
 use Rattle.changes.proofs.Entries.{file-fields, entry-position, entry-good, own-few}
 use Rattle.changes.proofs.Writes.{pages-rise}
 
-module _ (b : Bytes) (f : Facts b) (p : Path) (at begins : ℕ) (x : EntryOf b p at begins) {start k : ℕ} (is : entryAt b at ≡ aFile (nameAt b at) (dateAt b at) start k) where
+module _ (b : Bytes) (f : Facts b) (p : Path) (at begins : ℕ) (x : EntryOf b p at begins) {start k : ℕ} (is : entryAt b at ≡ aFile (isLocked b at) (nameAt b at) (dateAt b at) start k) where
   -- the entry with the start page read from it
-  is-read : entryAt b at ≡ aFile (nameAt b at) (dateAt b at) (startAt b at) k
-  is-read = is ∙ ap (λ (q : ℕ). aFile (nameAt b at) (dateAt b at) q k) (sym (file-fields b at is .0))
+  is-read : entryAt b at ≡ aFile (isLocked b at) (nameAt b at) (dateAt b at) (startAt b at) k
+  is-read = is ∙ ap (λ (q : ℕ). aFile (isLocked b at) (nameAt b at) (dateAt b at) q k) (sym (file-fields b at is .0))
 
   abbrev ps : List ℕ
   ps = chain (link b) (pagesFor k) (startAt b at)

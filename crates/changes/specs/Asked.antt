@@ -7,7 +7,7 @@ use Rattle.volume.specs.Field.{byte}
 use Rattle.volume.proofs.Longer.{Chained}
 use Rattle.volume.proofs.Writes.{Beside}
 use Rattle.model.specs.Layout.{version1, pageCount, pagesFor, freeCount, zeroBits}
-use Rattle.model.specs.Entry.{nameAt, dateAt, aFile, entryAt, newEntry}
+use Rattle.model.specs.Entry.{isLocked, nameAt, dateAt, aFile, entryAt, newEntry}
 use Rattle.model.proofs.Version1.{home}
 use Rattle.chains.specs.Asked.{Growing}
 
@@ -23,7 +23,7 @@ pub record Making (at flags size k : ℕ) (name date b : Bytes) : Type 0 where
 -- its own, the pages wanted are free and counted, and the new size fits its two bytes.
 pub record Writing (at start size from : ℕ) (v b : Bytes) : Type 0 where
   pub inside : at + 32 ≤ length b
-  pub is : entryAt b at ≡ aFile (nameAt b at) (dateAt b at) start size
+  pub is : entryAt b at ≡ aFile (isLocked b at) (nameAt b at) (dateAt b at) start size
   pub own : ℕ
   pub chained : Chained version1 home (pageCount b) b (byte (at + 17)) own (pagesFor size)
   pub beside : Beside version1 home (pageCount b) (byte (at + 17)) own (at + 18) 2 b

@@ -1,14 +1,15 @@
 -- The values of the code's enum `Entry`: what each case is in the model, with the name and the date that stand beside it.
 use Prim.Native.Nat.{_<_}
+use mathlib.Core.Bool.{Bool}
 use Rattle.volume.specs.Bytes.{Bytes}
 use Rattle.model.specs.Entry as Model
 use Rattle.fields.specs.declared.Entry.{Entry}
 use Rattle.fields.specs.declared.Entry.the-variants.{Vacant, File, Directory}
 
-abbrev pub entryOf : Entry → (name date : Bytes) → Model.Entry
-entryOf Vacant name date = Model.vacant
-entryOf (File start size) name date = Model.aFile name date (start .0) size
-entryOf (Directory start size) name date = Model.aDirectory name date (start .0) size
+abbrev pub entryOf : Entry → (locked : Bool) (name date : Bytes) → Model.Entry
+entryOf Vacant locked name date = Model.vacant
+entryOf (File start size) locked name date = Model.aFile locked name date (start .0) size
+entryOf (Directory start size) locked name date = Model.aDirectory name date (start .0) size
 
 -- the start page is a byte, and the size two
 abbrev pub Small : Entry → Type 0

@@ -4,7 +4,7 @@ ghost use mathlib.Core.Path.{_≡_};
 ghost use Prim.Native.Nat.{_+_, _*_, _/_, _^_, _≤_, _<_, min, max};
 ghost use lib.ListN.{length};
 ghost use Rattle.model.specs.Layout.{pageSize, pagesFor, validLength, validHeader, freeCount, link};
-ghost use Rattle.model.specs.Entry.{entryCount, entriesStart, nameAt, dateAt, entryAt};
+ghost use Rattle.model.specs.Entry.{isLocked, entryCount, entriesStart, nameAt, dateAt, entryAt};
 ghost use Rattle.fields.specs.Read.{entryOf, Small};
 
 // The number of a page. It becomes a position in `first_byte`.
@@ -144,7 +144,7 @@ pub fn entry_position(directory: Page, i: usize) -> usize
 // Bit 7 of the flags says that an entry is occupied, and bit 0 alone that it is a directory.
 pub fn entry_at(image: &[u8], at: usize) -> Entry
     requires { ⌜ at + 32 ≤ length (now image) ⌝ }
-    ensures { λ r. ⌜ (entryOf r (nameAt (now (image .entry)) at) (dateAt (now (image .entry)) at) ≡ entryAt (now (image .entry)) at) × Small r ⌝ }
+    ensures { λ r. ⌜ (entryOf r (isLocked (now (image .entry)) at) (nameAt (now (image .entry)) at) (dateAt (now (image .entry)) at) ≡ entryAt (now (image .entry)) at) × Small r ⌝ }
 {
     let flags = image[at];
     if flags / 128 % 2 != 1 {
@@ -157,6 +157,14 @@ pub fn entry_at(image: &[u8], at: usize) -> Entry
     } else {
         Entry::File(start, size)
     }
+}
+
+// A file is locked by bit 6 of its flags (02 §10).
+pub fn is_locked(image: &[u8], at: usize) -> bool
+    requires { ⌜ at + 32 ≤ length (now image) ⌝ }
+    ensures { λ r. ⌜ r ≡ isLocked (now (image .entry)) at ⌝ }
+{
+    image[at] / 64 % 2 == 1
 }
 
 pub fn name_of(image: &[u8], at: usize) -> [u8; 16]

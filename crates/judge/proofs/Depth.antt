@@ -33,7 +33,7 @@ module _ (b : Bytes) where
         → judgeEntry f b d i ear e m ≡ judgeEntry g b d i ear e m
     unfolding judgeEntry
     entry-same d i ear vacant m dn in8 each u = refl
-    entry-same d i ear (aFile name date start size) m dn in8 each u = refl
+    entry-same d i ear (aFile locked name date start size) m dn in8 each u = refl
     entry-same d i ear (aDirectory name date start size) m dn in8 each u =
         ap (λ (j : Judged). if freshName b ear name && eqb size 0x0100 then j else fault (badEntry d i))
         (then-same (judgePage b (badChain d i 0) start m) (f start) (g start) (λ l e.

@@ -7,7 +7,7 @@ use mathlib.Core.Bool.{Bool, true, false, not, _&&_}
 use denote.Enum.Declared.{tagOf}
 use Rattle.volume.specs.Bytes.{Bytes, same}
 use Rattle.volume.specs.Lists.{all}
-use Rattle.model.specs.Entry.{nameAt, dateAt, entryAt}
+use Rattle.model.specs.Entry.{isLocked, nameAt, dateAt, entryAt}
 use Rattle.model.specs.Sound.{isNamed}
 use Rattle.fields.proofs.Entry.{the-type}
 use Rattle.fields.specs.declared.Entry.{Entry}
@@ -17,16 +17,16 @@ use Rattle.judge.specs.Walk.{position, earlier}
 
 -- ---- the name of one entry, which an occupied one has and a vacant one has not
 
-module _ (b : Bytes) (at other : ℕ) (r : Entry) (read : entryOf r (nameAt b at) (dateAt b at) ≡ entryAt b at) where
+module _ (b : Bytes) (at other : ℕ) (r : Entry) (read : entryOf r (isLocked b at) (nameAt b at) (dateAt b at) ≡ entryAt b at) where
   pub vacant-unnamed : r ≡ Vacant → false ≡ isNamed (nameAt b other) (entryAt b at)
   unfolding isNamed
-  vacant-unnamed v = ap (isNamed (nameAt b other)) (ap (λ (s : Entry). entryOf s (nameAt b at) (dateAt b at)) (sym v) ∙ read)
+  vacant-unnamed v = ap (isNamed (nameAt b other)) (ap (λ (s : Entry). entryOf s (isLocked b at) (nameAt b at) (dateAt b at)) (sym v) ∙ read)
 
   pub occupied-named : (tagOf the-type r ≡ 1) ⊎ (tagOf the-type r ≡ 2) → same (nameAt b at) (nameAt b other) ≡ isNamed (nameAt b other) (entryAt b at)
   unfolding isNamed
   occupied-named o = named r o ∙ ap (isNamed (nameAt b other)) read
     where
-      named : (s : Entry) → (tagOf the-type s ≡ 1) ⊎ (tagOf the-type s ≡ 2) → same (nameAt b at) (nameAt b other) ≡ isNamed (nameAt b other) (entryOf s (nameAt b at) (dateAt b at))
+      named : (s : Entry) → (tagOf the-type s ≡ 1) ⊎ (tagOf the-type s ≡ 2) → same (nameAt b at) (nameAt b other) ≡ isNamed (nameAt b other) (entryOf s (isLocked b at) (nameAt b at) (dateAt b at))
       named Vacant k = elim k [ inl u ↦ absurd (omega arith) | inr u ↦ absurd (omega arith) ]
       named (File start size) k = refl
       named (Directory start size) k = refl

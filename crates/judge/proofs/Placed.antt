@@ -80,7 +80,7 @@ module _ (b : Bytes) where
     pub placed-entry : (d i : ℕ) (ear : List ℕ) (e : Entry) (m : List ℕ) → d < pageCount b → i < 8 → length m ≡ pageCount b → Placed (pageCount b) (judgeEntry below b d i ear e m)
     unfolding judgeEntry
     placed-entry d i ear vacant m dn in8 each = each
-    placed-entry d i ear (aFile name date start size) m dn in8 each =
+    placed-entry d i ear (aFile locked name date start size) m dn in8 each =
         placed-if (pageCount b) (freshName b ear name) (judgeChain b d i (pagesFor size) 0 start m) (badEntry d i)
         (placed-chain d i (pagesFor size) 0 start m dn in8 each (omega (arith, unowned-most m))) (dn, in8)
     placed-entry d i ear (aDirectory name date start size) m dn in8 each =

@@ -12,7 +12,7 @@ use Rattle.volume.specs.Bytes.{Bytes, if_then_else_}
 use Rattle.volume.specs.Lists.{countFrom}
 use Rattle.model.specs.Layout.{pageCount, pagesFor, pageBit, link}
 use Rattle.model.specs.Entry as Model
-use Rattle.model.specs.Entry.{entryCount, entries, nameAt, dateAt, entryAt, vacant, aFile, aDirectory}
+use Rattle.model.specs.Entry.{isLocked, entryCount, entries, nameAt, dateAt, entryAt, vacant, aFile, aDirectory}
 use Rattle.model.specs.Sound.{inRange}
 use Rattle.model.specs.Judge.{Judged, fault, clean, thenJudge, judgePage, judgeChain, freshName, judgeEntry, judgeEntries, judgeDirectory}
 use Rattle.model.specs.Judge.{badEntry, badChain, markedFree, ownedTwice}
@@ -65,7 +65,7 @@ module _ (b : Bytes) where
     pub within-entry : (d i : ℕ) (ear : List ℕ) (e : Model.Entry) (m : List ℕ) → Within (unowned m) (judgeEntry below b d i ear e m)
     unfolding judgeEntry
     within-entry d i ear vacant m = le-refl _
-    within-entry d i ear (aFile name date start size) m = within-if (unowned m) (freshName b ear name) _ (badEntry d i) (within-chain d i (pagesFor size) 0 start m)
+    within-entry d i ear (aFile locked name date start size) m = within-if (unowned m) (freshName b ear name) _ (badEntry d i) (within-chain d i (pagesFor size) 0 start m)
     within-entry d i ear (aDirectory name date start size) m =
         within-if (unowned m) (freshName b ear name && eqb size 0x0100) _ (badEntry d i)
         (within-then (unowned m) (judgePage b (badChain d i 0) start m) (below start) (within-page (badChain d i 0) start m) (kept start))
@@ -127,8 +127,8 @@ module _ (b : Bytes) (p : ℕ) where
 -- ---- an entry
 
 -- the entry that was read at its position
-pub seen : (b : Bytes) (d i : ℕ) {at : ℕ} {r s : Entry} → at ≡ position d i → entryOf r (nameAt b at) (dateAt b at) ≡ entryAt b at → r ≡ s
-    → entryOf s (nameAt b (position d i)) (dateAt b (position d i)) ≡ entryAt b (position d i)
+pub seen : (b : Bytes) (d i : ℕ) {at : ℕ} {r s : Entry} → at ≡ position d i → entryOf r (isLocked b at) (nameAt b at) (dateAt b at) ≡ entryAt b at → r ≡ s
+    → entryOf s (isLocked b (position d i)) (nameAt b (position d i)) (dateAt b (position d i)) ≡ entryAt b (position d i)
 seen b d i {at} {r} {s} here read e = rw (← here, ← e) read
 
 -- the directory on a page that got its owner in m is judged with one unit of fuel less

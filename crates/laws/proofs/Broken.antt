@@ -1,10 +1,10 @@
 -- No chain of a sound image is broken: a file that is reached stands in a good directory, so its chain ends where its size says, and its pages are
 -- among the owned ones, which are in range. A path leads to an entry that is reached.
-use mathlib.Core.Path.{_≡_, refl, sym, ap, _∙_, subst}
+use mathlib.Core.Path.{_≡_, refl, sym, ap, ap₂, _∙_, subst}
 use mathlib.Core.Logic.{inl, inr}
 use Prim.Native.Nat.{ℕ, zero, suc, _≤_}
 use native.Mathlib.Omega.{arith}
-use mathlib.Core.Bool.{true, not}
+use mathlib.Core.Bool.{Bool, true, false, not}
 use mathlib.Core.List.{List, [], _∷_}
 use lib.Dec.{T, eqb, leb, ltb, eqb→eq, le→leb, lt→ltb}
 use Rattle.volume.specs.Bytes.{Bytes}
@@ -21,7 +21,7 @@ use Rattle.model.specs.Tree.{Row, Node, fileNode, directoryNode}
 use Rattle.model.specs.Path.{Name, Path, noPath, root, below, isRoot}
 use Rattle.model.specs.Image.{rowAt, treeOf}
 use Rattle.model.specs.Walk.{Walked, arrived, walkTo, arrivedOr, entryPosition}
-use Rattle.model.specs.Refusal.{isMissing, isBlocked, isDirectoryNode, contentIn}
+use Rattle.model.specs.Refusal.{isMissing, isBlocked, isDirectoryNode, isLockedNode, contentIn}
 use Rattle.model.specs.Demands.{Unbroken, WholeFile, WholeDirectory, Chains}
 use Rattle.laws.proofs.Facts.{Facts, sound-facts}
 use Rattle.laws.proofs.Level.{good-split}
@@ -44,7 +44,7 @@ reached-good (suc d) b p at g m =
     go : (x : ℕ) → T (goodEntry b (entryAt b x)) → (e : Entry) → T (inDirectory true (goodDirectory d b) e) → Mem at (reachedBy x (reached d b) e)
         → ((q : ℕ) → T (goodDirectory d b q) → Mem at (reached d b q) → T (goodEntry b (entryAt b at))) → T (goodEntry b (entryAt b at))
     go x h vacant k n next = absurd (omega arith)
-    go x h (aFile name date start size) k n next = elim (mem-cons at x [] n) [
+    go x h (aFile locked name date start size) k n next = elim (mem-cons at x [] n) [
       | inl e ↦ self x h e
       | inr o ↦ absurd (omega arith)
     ]
@@ -57,7 +57,7 @@ reached-good (suc d) b p at g m =
 self-reached : (b : Bytes) (at : ℕ) (g : ℕ → List ℕ) (e : Entry) (n : Bytes) → T (isNamed n e) → Mem at (reachedBy at g e)
 unfolding reachedBy isNamed
 self-reached b at g vacant n h = absurd h
-self-reached b at g (aFile name date start size) n h = mem-head at []
+self-reached b at g (aFile locked name date start size) n h = mem-head at []
 self-reached b at g (aDirectory name date start size) n h = mem-head at (g start)
 
 leads-reached : (b : Bytes) (ns : List Name) (d p e t at : ℕ) → Leads b d p ns (suc e) t → Mem at (entries t) → (n : Bytes) → T (isNamed n (entryAt b at)) → Mem at (reached d b p)
@@ -76,7 +76,7 @@ leads-reached b (k ∷ ns) (suc d) p e t at l m n h =
 -- ---- the theorem
 
 abbrev dateIn : Node → Bytes
-dateIn (fileNode date content) = date
+dateIn (fileNode locked date content) = date
 dateIn (directoryNode date r) = date
 
 module _ (b : Bytes) (f : Facts b) where
@@ -86,9 +86,9 @@ module _ (b : Bytes) (f : Facts b) where
       let r = f .inside q (omega (arith, o, occ-flatMap-le (pagesAt b) (reachedEntries b) at q (member-occ at (reachedEntries b) m))) in
       both-and (leb 1 q) (ltb q (pageCount b)) (le→leb 1 q (r .0)) (lt→ltb q (pageCount b) (r .1))
 
-  every-file : (at : ℕ) → T (member at (reachedEntries b)) → (name date : Bytes) (start size : ℕ) → entryAt b at ≡ aFile name date start size → Unbroken b start size
+  every-file : (at : ℕ) → T (member at (reachedEntries b)) → (locked : Bool) (name date : Bytes) (start size : ℕ) → entryAt b at ≡ aFile locked name date start size → Unbroken b start size
   unfolding goodEntry pagesOf
-  every-file at m name date start size e =
+  every-file at m locked name date start size e =
       let good = subst (λ (x : Entry). T (goodEntry b x)) e (reached-good (pageCount b) b 0 at (f .formed) (member-occ at (reachedEntries b) m)) in
       record {
         inside = occ-all (inRange (pageCount b)) (chain (link b) (pagesFor size) start)
@@ -124,27 +124,27 @@ module _ (b : Bytes) (f : Facts b) where
         node = ap (arrivedOr x) (sym (w .node) ∙ e);
       })
 
-  to-file : (path : Path) (date content : Bytes) → walkTo path (treeOf b .root) ≡ arrived (fileNode date content) → WholeFile b (entryPosition b path) date content
-  unfolding walkTo isRoot isNamed nodeOf pagesOf isDirectoryNode contentIn arrivedOr
-  to-file path date content e = whole (led path (fileNode date content) e (below-root path e))
+  to-file : (path : Path) (locked : Bool) (date content : Bytes) → walkTo path (treeOf b .root) ≡ arrived (fileNode locked date content) → WholeFile b (entryPosition b path) locked date content
+  unfolding walkTo isRoot isNamed nodeOf pagesOf isDirectoryNode isLockedNode contentIn arrivedOr
+  to-file path locked date content e = whole (led path (fileNode locked date content) e (below-root path e))
     where
-      below-root : (p : Path) → walkTo p (treeOf b .root) ≡ arrived (fileNode date content) → T (not (isRoot p))
+      below-root : (p : Path) → walkTo p (treeOf b .root) ≡ arrived (fileNode locked date content) → T (not (isRoot p))
       below-root noPath e = tt
-      below-root root e = absurd (subst (λ (w : Walked Node). T (isDirectoryNode (arrivedOr (fileNode [] []) w))) e tt)
+      below-root root e = absurd (subst (λ (w : Walked Node). T (isDirectoryNode (arrivedOr (fileNode false [] []) w))) e tt)
       below-root (below ns n) e = tt
 
-      whole : Led (fileNode date content) (entryPosition b path) → WholeFile b (entryPosition b path) date content
+      whole : Led (fileNode locked date content) (entryPosition b path) → WholeFile b (entryPosition b path) locked date content
       whole l = go (entryAt b (entryPosition b path)) refl (l .named) (l .node)
         where
-          go : (y : Entry) → entryAt b (entryPosition b path) ≡ y → T (isNamed (l .name) y) → nodeOf b (l .rows) y ≡ fileNode date content
-              → WholeFile b (entryPosition b path) date content
+          go : (y : Entry) → entryAt b (entryPosition b path) ≡ y → T (isNamed (l .name) y) → nodeOf b (l .rows) y ≡ fileNode locked date content
+              → WholeFile b (entryPosition b path) locked date content
           go vacant q h k = absurd h
-          go (aFile name d start size) q h k = record {
+          go (aFile mark name d start size) q h k = record {
             name = name;
             start = start;
             size = size;
-            is = q ∙ ap (λ (x : Bytes). aFile name x start size) (ap dateIn k);
-            unbroken = every-file (entryPosition b path) (l .isReached) name d start size q;
+            is = q ∙ ap₂ (λ (m : Bool) (x : Bytes). aFile m name x start size) (ap isLockedNode k) (ap dateIn k);
+            unbroken = every-file (entryPosition b path) (l .isReached) mark name d start size q;
             holds = ap contentIn k;
           }
           go (aDirectory name d start size) q h k = absurd (subst (λ (x : Node). T (isDirectoryNode x)) k tt)
@@ -160,7 +160,7 @@ module _ (b : Bytes) (f : Facts b) where
           go : (y : Entry) → entryAt b (entryPosition b path) ≡ y → T (isNamed (l .name) y) → nodeOf b (l .rows) y ≡ directoryNode date r
               → WholeDirectory b (entryPosition b path) date
           go vacant q h k = absurd h
-          go (aFile name d start size) q h k = absurd (subst (λ (x : Node). T (not (isDirectoryNode x))) k tt)
+          go (aFile mark name d start size) q h k = absurd (subst (λ (x : Node). T (not (isDirectoryNode x))) k tt)
           go (aDirectory name d start size) q h k = record {
             name = name;
             start = start;

@@ -8,7 +8,7 @@ use mathlib.Core.Option.{Option, Option·getD}
 use mathlib.Core.List.{List, [], _∷_, _++_, foldl}
 use lib.ListN.{length, set, replicate}
 use lib.Dec.{T, eqb, leb, eqb→eq, leb→le}
-use Rattle.volume.specs.Bytes.{Bytes, put, le16, if_then_else_}
+use Rattle.volume.specs.Bytes.{Bytes, byteAt, put, le16, if_then_else_}
 use Rattle.volume.specs.Lists.{all}
 use Rattle.volume.specs.Field.{byte}
 use Rattle.volume.specs.Geometry as On
@@ -27,8 +27,8 @@ use Rattle.model.specs.Tree.{Node}
 use Rattle.model.specs.Path.{Name, Path, below, pathOf}
 use Rattle.model.specs.Image.{rowAt, treeOf}
 use Rattle.model.specs.Walk.{Walked, arrivedOr, parentPage, entryPosition}
-use Rattle.model.specs.Effect.{formatted, lowestVacant, made, rewritten, written, removed}
-use Rattle.model.specs.Call.{Call, format, verdict, find, list, read, makeFile, makeDirectory, write, removeFile, removeDirectory, refusal}
+use Rattle.model.specs.Effect.{formatted, lowestVacant, made, rewritten, written, removed, withLock, relocked}
+use Rattle.model.specs.Call.{Call, format, verdict, find, list, read, makeFile, makeDirectory, write, removeFile, removeDirectory, setLock, refusal}
 use Rattle.model.specs.Refusal.{isDirectoryNode, contentIn, node, wanted, earlier, later, refusals, size, Passes}
 use Rattle.model.specs.Meaning.{isFormat, lines, effect, after}
 use Rattle.model.proofs.Version1.{home}
@@ -37,6 +37,7 @@ use Rattle.laws.proofs.Owns.{own-le, pages-own}
 use Rattle.laws.proofs.Counting.{count-owned, fill-up}
 use Rattle.laws.proofs.Focus.{named-found, leads-owned}
 use Rattle.laws.proofs.Walks.{nodeOf, Target, target}
+use Rattle.laws.proofs.Lock.{lock-small}
 use Rattle.laws.proofs.Slots.{lawful, header-marked, size as sized}
 use Rattle.laws.proofs.NewEntry.{new-length, new-start}
 use Rattle.laws.proofs.Make.{Place, place-of, place-held, madeAt}
@@ -235,9 +236,10 @@ SmallCall (makeDirectory path date) = Unit {0}
 SmallCall (write path at v) = Small v
 SmallCall (removeFile path) = Unit {0}
 SmallCall (removeDirectory path) = Unit {0}
+SmallCall (setLock locked path) = Unit {0}
 
 small-effect : (c : Call) (b : Bytes) → Small b → SmallCall c → Passes (lines c b) → Small (effect c b)
-unfolding effect lines isFormat refusals earlier later wanted
+unfolding effect lines isFormat refusals earlier later wanted relocked
 small-effect format b s h e = small-formatted b (not-not (validLength (length b)) (passed _ _ e .0)) s
 small-effect verdict b s h e = s
 small-effect (find path) b s h e = s
@@ -263,6 +265,8 @@ small-effect (removeDirectory path) b s h e =
     let g = sound-passed (removeDirectory path) b tt e in
     let f = sound-facts b (g .0) in
     small-removed b f path (remove-directory-passed b f path (g .1)) s
+small-effect (setLock locked path) b s h e =
+    let at = entryPosition b (pathOf path) in small-set b at (withLock locked (byteAt b at)) (lock-small locked (byteAt b at) (s at)) s
 
 pub small-after : (c : Call) (b : Bytes) → Small b → SmallCall c → Small (after c b)
 unfolding after

@@ -88,7 +88,7 @@ entry-needs : (d : ℕ) (b : Bytes) (x : Entry) → InImage b (own d b x)
     → (rest : Row) → length (own d b x) + needs rest ≡ needs (entryRow b (rowAt d b) x rest)
 unfolding own needs entryRow pagesOf
 entry-needs d b vacant h below rest = omega arith
-entry-needs d b (aFile name date start size) h below rest =
+entry-needs d b (aFile locked name date start size) h below rest =
     let n = chain-length (link b) (pagesFor size) start in
     let c : pagesFor (length (contentOf b size (chain (link b) (pagesFor size) start))) ≡ pagesFor size = ap pagesFor (content-length b start size h) in
     omega (arith, n, c)

@@ -80,7 +80,7 @@ inside-skip : (b : Bytes) (g : ℕ → Row) (n : Bytes) (f : Row → Row) (x : E
     → inside n f (entryRow b g x rest) ≡ entryRow b g x (inside n f rest)
 unfolding inside entryRow isNamed
 inside-skip b g n f vacant h rest = refl
-inside-skip b g n f (aFile name date start size) h rest = refl
+inside-skip b g n f (aFile locked name date start size) h rest = refl
 inside-skip b g n f (aDirectory name date start size) h rest =
     if-no (same name n) (dir name date (f (g start)) rest) (dir name date (g start) (inside n f rest)) h
 

@@ -76,25 +76,25 @@ module _ (b b′ : Bytes) (d e : ℕ) where
   entry-row : (x : Entry) → SamePages b b′ x → inDirectory (Unit {0}) (SameDirectory b b′ d e) x → (rest : Row) → entryRow b′ (rowAt e b′) x rest ≡ entryRow b (rowAt d b) x rest
   unfolding entryRow contentOf
   entry-row vacant h s rest = refl
-  entry-row (aFile name date start size) h s rest =
-      ap (λ (l : List ℕ). file name date (contentOf b′ size l) rest) (h .pages) ∙ ap {B = Row} (λ v. file name date (take size v) rest) (h .content)
+  entry-row (aFile locked name date start size) h s rest =
+      ap (λ (l : List ℕ). file locked name date (contentOf b′ size l) rest) (h .pages) ∙ ap {B = Row} (λ v. file locked name date (take size v) rest) (h .content)
   entry-row (aDirectory name date start size) h s rest = ap (λ (r : Row). dir name date r rest) (s .row)
 
   entry-reach : (at : ℕ) (x : Entry) → inDirectory (Unit {0}) (SameDirectory b b′ d e) x → reachedBy at (reached e b′) x ≡ reachedBy at (reached d b) x
   unfolding reachedBy
   entry-reach at vacant s = refl
-  entry-reach at (aFile name date start size) s = refl
+  entry-reach at (aFile locked name date start size) s = refl
   entry-reach at (aDirectory name date start size) s = ap (λ (l : List ℕ). at ∷ l) (s .reach)
 
   entry-own : (x : Entry) → SamePages b b′ x → inDirectory (Unit {0}) (SameDirectory b b′ d e) x → own e b′ x ≡ own d b x
   unfolding own
   entry-own vacant h s = refl
-  entry-own (aFile name date start size) h s = h .pages
+  entry-own (aFile locked name date start size) h s = h .pages
   entry-own (aDirectory name date start size) h s = ap (λ (l : List ℕ). start ∷ l) (s .owns)
 
   entry-below : (x : Entry) → inDirectory (Unit {0}) (SameDirectory b b′ d e) x → inDirectory true (goodDirectory e b′) x ≡ inDirectory true (goodDirectory d b) x
   entry-below vacant s = refl
-  entry-below (aFile name date start size) s = refl
+  entry-below (aFile locked name date start size) s = refl
   entry-below (aDirectory name date start size) s = s .good
 
   pub same-row : (x : ℕ) → SameEntry b b′ d e x → (rest : Row) → entryRow b′ (rowAt e b′) (entryAt b′ x) rest ≡ entryRow b (rowAt d b) (entryAt b x) rest
@@ -145,7 +145,7 @@ module _ (b b′ : Bytes) (len : length b′ ≡ length b) where
   pub kept-pages : (e : Entry) → Kept b b′ (pagesOf b e) → SamePages b b′ e
   unfolding goodEntry pagesOf
   kept-pages vacant h = record { pages = refl; content = content-same [] h; good = refl }
-  kept-pages (aFile name date start size) h = record {
+  kept-pages (aFile locked name date start size) h = record {
     pages = chain-same (pagesFor size) start h .0;
     content = content-same (chain (link b) (pagesFor size) start) h;
     good = ap (λ (n : ℕ). legalName name && eqb n 0) (chain-same (pagesFor size) start h .1);
@@ -157,7 +157,7 @@ module _ (b b′ : Bytes) (len : length b′ ≡ length b) where
       → Kept b b′ (own d b e) → inDirectory (Unit {0}) (SameDirectory b b′ d d) e
   unfolding own
   kept-below d vacant frame h = tt
-  kept-below d (aFile name date start size) frame h = tt
+  kept-below d (aFile locked name date start size) frame h = tt
   kept-below d (aDirectory name date start size) frame h =
       frame start (h start (mem-head start (owned d b start)) .1) (λ q m. h q (mem-tail q start (owned d b start) m))
 
@@ -197,7 +197,7 @@ below-deeper : (b : Bytes) (d e : ℕ) (x : Entry) → T (inDirectory true (good
     → ((s : ℕ) → T (goodDirectory d b s) → length (owned d b s) < length (own d b x) → SameDirectory b b d e s) → inDirectory (Unit {0}) (SameDirectory b b d e) x
 unfolding own
 below-deeper b d e vacant h f = tt
-below-deeper b d e (aFile name date start size) h f = tt
+below-deeper b d e (aFile locked name date start size) h f = tt
 below-deeper b d e (aDirectory name date start size) h f = f start h (omega arith)
 
 deeper : (b : Bytes) (d e p : ℕ) → ((x : ℕ) → Mem x (entries p) → inDirectory (Unit {0}) (SameDirectory b b d e) (entryAt b x)) → SameDirectory b b (suc d) (suc e) p

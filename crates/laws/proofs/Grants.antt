@@ -1,15 +1,16 @@
 -- A granted call does to the bytes what it does to the tree and leaves a sound image: the lines that it passed are what its law asks.
 use mathlib.Core.Path.{_≡_, refl, sym, subst}
+use mathlib.Core.Bool.{false}
 use mathlib.Core.List.{[]}
 use lib.Dec.{T}
 use Rattle.volume.specs.Bytes.{Bytes, put}
 use Rattle.model.specs.Layout.{pagesFor}
 use Rattle.model.specs.Sound.{sound}
-use Rattle.model.specs.Tree.{Row, file, dir, emptyRow, fill, rewrite, vacate}
+use Rattle.model.specs.Tree.{Row, file, dir, emptyRow, fill, rewrite, relock, vacate}
 use Rattle.model.specs.Path.{Path, pathOf, lastName}
 use Rattle.model.specs.Image.{treeOf}
-use Rattle.model.specs.Effect.{fileMade, directoryMade, written, removed}
-use Rattle.model.specs.Call.{Call, format, verdict, find, list, read, makeFile, makeDirectory, write, removeFile, removeDirectory, refusal}
+use Rattle.model.specs.Effect.{fileMade, directoryMade, written, removed, relocked}
+use Rattle.model.specs.Call.{Call, format, verdict, find, list, read, makeFile, makeDirectory, write, removeFile, removeDirectory, setLock, refusal}
 use Rattle.model.specs.Refusal.{node, contentIn, wanted, earlier, later, refusals, Passes}
 use Rattle.model.specs.Meaning.{inParent, changed, effect}
 use Rattle.laws.proofs.Facts.{sound-facts}
@@ -17,7 +18,8 @@ use Rattle.laws.proofs.Format.{fresh}
 use Rattle.laws.proofs.Make.{file-tree, directory-tree}
 use Rattle.laws.proofs.Write.{written-tree}
 use Rattle.laws.proofs.Remove.{removed-tree}
-use Rattle.laws.proofs.Passed.{make-passed, write-passed, Removes, remove-file-passed, remove-directory-passed}
+use Rattle.laws.proofs.Lock.{locked-tree}
+use Rattle.laws.proofs.Passed.{make-passed, write-passed, Removes, remove-file-passed, remove-directory-passed, lock-passed}
 
 -- the image is sound, and means the tree with f done in the parent directory
 abbrev Says : Bytes → Path → (Row → Row) → Bytes → Type 0
@@ -38,7 +40,7 @@ granted-law (list path i) b h e = (h, refl)
 granted-law (read path at room) b h e = (h, refl)
 granted-law (makeFile path date) b h e =
     let m = make-passed b (sound-facts b h) path date (pagesFor 0) (refusal 10) e in
-    subst (λ (p : Path). Says b p (fill (file (lastName p) date [])) (fileMade p date b)) (sym (m .is)) (file-tree b (sound-facts b h) (m .ns) (m .n) date (m .clear))
+    subst (λ (p : Path). Says b p (fill (file false (lastName p) date [])) (fileMade p date b)) (sym (m .is)) (file-tree b (sound-facts b h) (m .ns) (m .n) date (m .clear))
 granted-law (makeDirectory path date) b h e =
     let m = make-passed b (sound-facts b h) path date 1 (refusal 10) e in
     subst (λ (p : Path). Says b p (fill (dir (lastName p) date (emptyRow 8))) (directoryMade p date b)) (sym (m .is)) (directory-tree b (sound-facts b h) (m .ns) (m .n) date (m .clear))
@@ -48,3 +50,7 @@ granted-law (write path from v) b h e =
     (written-tree b (sound-facts b h) (w .ns) (w .n) from v (w .reached) (w .entered) (node path (treeOf b)) (w .leads) (w .isFile) (w .begins) (w .space))
 granted-law (removeFile path) b h e = removal b h path (remove-file-passed b (sound-facts b h) path e)
 granted-law (removeDirectory path) b h e = removal b h path (remove-directory-passed b (sound-facts b h) path e)
+granted-law (setLock locked path) b h e =
+    let r = lock-passed b (sound-facts b h) locked path e in
+    subst (λ (p : Path). Says b p (relock (lastName p) locked) (relocked p locked b)) (sym (r .is))
+    (locked-tree b (sound-facts b h) (r .ns) (r .n) locked (r .reached) (r .entered) (r .isFile))

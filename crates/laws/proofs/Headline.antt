@@ -4,11 +4,12 @@ use lib.Dec.{T}
 use Rattle.volume.specs.Bytes.{Bytes}
 use Rattle.model.specs.Sound.{sound}
 use Rattle.model.specs.Image.{treeOf}
-use Rattle.model.specs.Demands.{Demand1, Demand2, Demand3, soundly, freshly, Chains}
+use Rattle.model.specs.Demands.{Demand1, Demand2, Demand3, soundly, freshly, Chains, LockTwice}
 use Rattle.laws.proofs.Steps.{as-tree, untouched, unsound, after-format, names-apart}
 use Rattle.laws.proofs.Judged.{judge-sound}
 use Rattle.laws.proofs.Lists.{demanded}
 use Rattle.laws.proofs.Broken.{never-broken}
+use Rattle.laws.proofs.Twice as Marks
 
 pub demand-1 : Demand1
 demand-1 = untouched
@@ -25,3 +26,7 @@ demand-3 b t (freshly old v q e) cs rs b′ run =
 -- paper 02 §9
 pub unbroken : Chains
 unbroken = never-broken
+
+-- paper 02 §10
+pub lock-twice : LockTwice
+lock-twice = Marks.lock-twice

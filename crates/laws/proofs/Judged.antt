@@ -137,8 +137,8 @@ module _ (b : Bytes) where
       → Tells (GoodEntry d e × T (fresh earlier e)) (own d b e) seen (judgeEntry (judgeDirectory d b) b p i earlier e seen)
   unfolding judgeEntry own pagesOf goodEntry sameName freshName
   entry-told d ih p i earlier vacant seen long = tells-iff (λ g. ((tt, tt), occ-all (λ at. true) earlier (λ at m. tt))) (λ g. tt) (none-told seen)
-  entry-told d ih p i earlier (aFile name date start size) seen long =
-      let new = fresh earlier (aFile name date start size) in
+  entry-told d ih p i earlier (aFile locked name date start size) seen long =
+      let new = fresh earlier (aFile locked name date start size) in
       let ends = eqb (beyond (link b) (pagesFor size) start) 0 in
       tells-iff (λ g. let r = swap-and (legalName name) new ends g in ((r .0, tt), r .1)) (λ g. swap-and (legalName name) ends new (g .0 .0, g .1))
       (tells-if (freshName b earlier name) (badEntry p i) (chain-told p i (pagesFor size) 0 start seen long))

@@ -26,13 +26,13 @@ use Rattle.laws.proofs.Frame.{SameEntry, rows-same, same-row, same-own,
 sameName-sym : (e f : Entry) → sameName e f ≡ sameName f e
 unfolding sameName isNamed
 sameName-sym vacant vacant = refl
-sameName-sym vacant (aFile n d s z) = refl
+sameName-sym vacant (aFile l n d s z) = refl
 sameName-sym vacant (aDirectory n d s z) = refl
-sameName-sym (aFile n d s z) vacant = refl
-sameName-sym (aFile n d s z) (aFile m c t y) = same-sym m n
-sameName-sym (aFile n d s z) (aDirectory m c t y) = same-sym m n
+sameName-sym (aFile l n d s z) vacant = refl
+sameName-sym (aFile l n d s z) (aFile k m c t y) = same-sym m n
+sameName-sym (aFile l n d s z) (aDirectory m c t y) = same-sym m n
 sameName-sym (aDirectory n d s z) vacant = refl
-sameName-sym (aDirectory n d s z) (aFile m c t y) = same-sym m n
+sameName-sym (aDirectory n d s z) (aFile k m c t y) = same-sym m n
 sameName-sym (aDirectory n d s z) (aDirectory m c t y) = same-sym m n
 
 abbrev pub Apart : Bytes → List ℕ → Type 0

@@ -14,6 +14,7 @@ pub mod Remove
 pub mod Make
 pub mod Format
 pub mod Write
+pub mod Lock
 pub mod Judged
 pub mod Lines
 pub mod Broken
@@ -21,8 +22,9 @@ pub mod Grants
 pub mod Names
 pub mod Steps
 pub mod Lists
+pub mod Passed
+pub mod Twice
 pub mod Headline
 pub mod Bytewise
-pub mod Passed
 pub mod Stays
 pub mod Listings

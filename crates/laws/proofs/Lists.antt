@@ -17,7 +17,7 @@ use Rattle.model.specs.Layout.{version1, pageCount, validLength}
 use Rattle.model.specs.Sound.{pagesAt, reachedEntries, sound, owners}
 use Rattle.model.specs.Tree.{Tree, freeNumber}
 use Rattle.model.specs.Image.{treeOf}
-use Rattle.model.specs.Call.{Call, format, verdict, find, list, read, makeFile, makeDirectory, write, removeFile, removeDirectory, Verdict, Answer, granted}
+use Rattle.model.specs.Call.{Call, format, verdict, find, list, read, makeFile, makeDirectory, write, removeFile, removeDirectory, setLock, Verdict, Answer, granted}
 use Rattle.model.specs.Refusal.{earlier, later, wanted, refusals, settle, Passes}
 use Rattle.model.specs.Meaning.{told, inParent, changed, treeAnswer, treeBuffer, treeAfter, isFormat, lines, effect, answer, after, bufferAfter}
 use Rattle.model.specs.Demands.{Results, Promised, Runs, replay, replayResults, Owned, isFree, isOwned, Account, Demanded, AsTree}
@@ -99,6 +99,7 @@ changed-pages (makeDirectory path date) t = refl
 changed-pages (write path at v) t = refl
 changed-pages (removeFile path) t = refl
 changed-pages (removeDirectory path) t = refl
+changed-pages (setLock locked path) t = refl
 
 -- sound images of as many pages are as long
 sound-length : (b b′ : Bytes) → T (sound b) → T (sound b′) → treeOf b′ .pages ≡ treeOf b .pages → length b′ ≡ length b
@@ -126,6 +127,7 @@ length-kept c b = settle-both (λ (x y : Bytes). length x ≡ length b) (lines c
     go (write path at v) e = other (write path at v) tt e
     go (removeFile path) e = other (removeFile path) tt e
     go (removeDirectory path) e = other (removeDirectory path) tt e
+    go (setLock locked path) e = other (setLock locked path) tt e
 
 -- ---- the list
 

@@ -4,7 +4,7 @@ use mathlib.Core.Logic.{_≢_}
 use Prim.Native.Nat.{ℕ, zero, suc, _+_, _*_, _/_, _≤_, _<_}
 use native.Mathlib.Omega.{arith}
 use native.Mathlib.Decide.{ℕ-discrete}
-use mathlib.Core.Bool.{true, not}
+use mathlib.Core.Bool.{false, true, not}
 use mathlib.Core.Option.{Option, none, some, Option·getD, Option·map}
 use mathlib.Core.List.{List, [], _∷_}
 use lib.ListN.{length}
@@ -52,7 +52,7 @@ all-held b g (x ∷ xs) e = go (entryAt b x) e (all-held b g xs)
         → (first (λ z. isVacant (entryAt b z)) xs ≡ none → heldIn (rowOf b g xs) ≡ width (rowOf b g xs))
         → heldIn (entryRow b g y (rowOf b g xs)) ≡ width (entryRow b g y (rowOf b g xs))
     go vacant u next = let bad : _≡_ {A = ℕ} 0 1 = cc in absurd (omega (arith, bad))
-    go (aFile name date start size) u next = ap suc (next u)
+    go (aFile locked name date start size) u next = ap suc (next u)
     go (aDirectory name date start size) u next = ap suc (next u)
 
 some-vacant : (b : Bytes) (d p : ℕ) → T (not (eqb (heldIn (rowAt (suc d) b p)) (width (rowAt (suc d) b p)))) → first (λ x. isVacant (entryAt b x)) (entries p) ≡ some (lowestVacant b p)
@@ -78,19 +78,19 @@ not-named b d p n h = go (first (λ x. isNamed n (entryAt b x)) (entries p)) ref
 fill-skip : (b : Bytes) (g : ℕ → Row) (h : Row → Row) (x : Entry) → T (not (isVacant x)) → (rest : Row) → fill h (entryRow b g x rest) ≡ entryRow b g x (fill h rest)
 unfolding fill entryRow isVacant
 fill-skip b g h vacant u rest = absurd u
-fill-skip b g h (aFile name date start size) u rest = refl
+fill-skip b g h (aFile locked name date start size) u rest = refl
 fill-skip b g h (aDirectory name date start size) u rest = refl
 
 fill-work : (b : Bytes) (g : ℕ → Row) (h : Row → Row) (x : Entry) → T (isVacant x) → (rest : Row) → fill h (entryRow b g x rest) ≡ h rest
 unfolding fill entryRow isVacant
 fill-work b g h vacant u rest = refl
-fill-work b g h (aFile name date start size) u rest = absurd u
+fill-work b g h (aFile locked name date start size) u rest = absurd u
 fill-work b g h (aDirectory name date start size) u rest = absurd u
 
 vacant-own : (d : ℕ) (b : Bytes) (x : Entry) → T (isVacant x) → own d b x ≡ []
 unfolding own isVacant
 vacant-own d b vacant u = refl
-vacant-own d b (aFile name date start size) u = absurd u
+vacant-own d b (aFile locked name date start size) u = absurd u
 vacant-own d b (aDirectory name date start size) u = absurd u
 
 -- ---- a new entry with k new pages
@@ -186,13 +186,13 @@ module _ (b : Bytes) (f : Facts b) (ns : List Name) (name date : Bytes) (fl z k 
 
 module _ (b : Bytes) (f : Facts b) (ns : List Name) (name date : Bytes) (w : Place b ns name date (pagesFor 0)) where
   file-sound : let b′ = madeAt 0x80 0 (pagesFor 0) name date (w .at) b in
-      T (sound b′) × (treeOf b′ ≡ record { pages = pageCount b; root = changeAt ns (fill (file name date [])) (rowAt (pageCount b) b 0) })
+      T (sound b′) × (treeOf b′ ≡ record { pages = pageCount b; root = changeAt ns (fill (file false name date [])) (rowAt (pageCount b) b 0) })
   unfolding own pagesOf goodEntry sameName entryRow contentOf
   file-sound =
       let b′ : Bytes = madeAt 0x80 0 (pagesFor 0) name date (w .at) b in
       let m = made-bytes b f ns name date 0x80 0 (pagesFor 0) w in
       let is = is-file 0x80 name 0 date (w .long) (w .dated) b′ (w .at) (made-inside b f ns name date 0x80 0 (pagesFor 0) w) (made-there b f ns name date 0x80 0 (pagesFor 0) w) refl in
-      made-sound b f ns name date 0x80 0 (pagesFor 0) w (file name date []) (aFile name date (startAt b′ (w .at)) 0) is
+      made-sound b f ns name date 0x80 0 (pagesFor 0) w (file false name date []) (aFile false name date (startAt b′ (w .at)) 0) is
       (m .pages)
       (both-and (legalName name) (eqb (beyond (link b′) (pagesFor 0) (startAt b′ (w .at))) 0) (w .legal) (eq-eqb (m .ends)))
       tt (λ y h. h) (λ rest. refl)
@@ -298,10 +298,10 @@ made-position b ns n date fl z k p = ap (λ (v : Walked ℕ). madeAt fl z k (n .
 
 pub file-tree : (b : Bytes) → Facts b → (ns : List Name) (n : Name) (date : Bytes) → Clear b ns n date (pagesFor 0)
     → T (sound (fileMade (below ns n) date b))
-    × (treeOf (fileMade (below ns n) date b) ≡ record { pages = pageCount b; root = changeAt ns (fill (file (n .bytes) date [])) (rowAt (pageCount b) b 0) })
+    × (treeOf (fileMade (below ns n) date b) ≡ record { pages = pageCount b; root = changeAt ns (fill (file false (n .bytes) date [])) (rowAt (pageCount b) b 0) })
 unfolding place-of
 file-tree b f ns n date c =
-    subst (λ (b′ : Bytes). T (sound b′) × (treeOf b′ ≡ record { pages = pageCount b; root = changeAt ns (fill (file (n .bytes) date [])) (rowAt (pageCount b) b 0) }))
+    subst (λ (b′ : Bytes). T (sound b′) × (treeOf b′ ≡ record { pages = pageCount b; root = changeAt ns (fill (file false (n .bytes) date [])) (rowAt (pageCount b) b 0) }))
     (sym (made-position b ns n date 0x80 0 (pagesFor 0) (parent b f ns (c .reached) (c .entered))))
     (file-sound b f ns (n .bytes) date (place-of b f ns n date (pagesFor 0) c))
 

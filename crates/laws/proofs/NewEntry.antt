@@ -3,6 +3,7 @@ use mathlib.Core.Path.{_≡_, sym, ap, _∙_}
 use mathlib.Core.Logic.{_≢_}
 use Prim.Native.Nat.{ℕ, suc, _+_, _/_, _%_, _≤_, _<_}
 use native.Mathlib.Omega.{arith}
+use mathlib.Core.Bool.{false}
 use mathlib.Core.List.{_∷_, _++_}
 use lib.ListN.{length, replicate, length-append, List·getD-append}
 use lib.Seq.{ext-getD, getD-append-add}
@@ -60,7 +61,7 @@ module _ (fl : ℕ) (name : Bytes) (size : ℕ) (date : Bytes) (ln : length name
         let y : byteAt b (at + 19) ≡ size / 256 = has 19 (omega arith) (omega arith) ∙ new-rest 2 in
         omega arith
 
-    pub is-file : fl ≡ 0x80 → entryAt b at ≡ aFile name date (startAt b at) size
+    pub is-file : fl ≡ 0x80 → entryAt b at ≡ aFile false name date (startAt b at) size
     unfolding entryAt
     is-file e = rw (has-flags, has-name, has-date, has-size, e)
 

@@ -14,13 +14,13 @@ use Rattle.model.specs.Sound.{pagesOf, pagesAt, reachedBy, reached, owned}
 -- the pages of an entry and of what is below it
 unfoldable pub own : ℕ → Bytes → Entry → List ℕ
 own d b vacant = []
-own d b (aFile name date start size) = pagesOf b (aFile name date start size)
+own d b (aFile locked name date start size) = pagesOf b (aFile locked name date start size)
 own d b (aDirectory name date start size) = start ∷ owned d b start
 
 own-reached : (d : ℕ) (b : Bytes) (at : ℕ) (e : Entry) → entryAt b at ≡ e → flatMap (pagesAt b) (reachedBy at (reached d b) e) ≡ own d b e
 unfolding own reachedBy flatMap pagesOf
 own-reached d b at vacant q = refl
-own-reached d b at (aFile name date start size) q = append-nil (pagesAt b at) ∙ ap (pagesOf b) q
+own-reached d b at (aFile locked name date start size) q = append-nil (pagesAt b at) ∙ ap (pagesOf b) q
 own-reached d b at (aDirectory name date start size) q = ap (λ (e : Entry). pagesOf b e ++ owned d b start) q
 
 pub owned-entries : (d : ℕ) (b : Bytes) (p : ℕ) → owned (suc d) b p ≡ flatMap (λ at. own d b (entryAt b at)) (entries p)
@@ -48,5 +48,5 @@ own-length d b p at m =
 pub pages-own : (d : ℕ) (b : Bytes) (e : Entry) (q : ℕ) → occ q (pagesOf b e) ≤ occ q (own d b e)
 unfolding own pagesOf
 pages-own d b vacant q = omega arith
-pages-own d b (aFile name date start size) q = omega arith
+pages-own d b (aFile locked name date start size) q = omega arith
 pages-own d b (aDirectory name date start size) q = omega arith

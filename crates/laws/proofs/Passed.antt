@@ -16,7 +16,7 @@ use Rattle.model.specs.Tree.{Row, end, width, held, freeNumber, Node, fileNode,
 use Rattle.model.specs.Path.{Name, Path, noPath, root, below, pathOf, isNoPath, isRoot, parents, names, lastName}
 use Rattle.model.specs.Image.{rowAt, treeOf}
 use Rattle.model.specs.Walk.{Walked, arrived, missing, blocked, walk, walkTo, arrivedOr}
-use Rattle.model.specs.Call.{Call, write, removeFile, removeDirectory, Refusal, refusal}
+use Rattle.model.specs.Call.{Call, write, removeFile, removeDirectory, setLock, Refusal, refusal}
 use Rattle.model.specs.Refusal.{Line, isMissing, isBlocked, isThere, isDirectoryNode, rowIn, node, size, wanted, makeLines, earlier, later, refusals, Passes}
 use Rattle.model.specs.Meaning.{soundLine, imageLines, isFormat, lines}
 use Rattle.laws.proofs.Facts.{Facts}
@@ -61,6 +61,14 @@ pub record Writes (b path : Bytes) (from : ℕ) (v : Bytes) : Type 0 where
   pub begins : from ≤ size path (treeOf b)
   pub space : pagesFor (max (size path (treeOf b)) (from + length v)) - pagesFor (size path (treeOf b)) ≤ zeroBits b (pageCount b)
 
+pub record Locks (b path : Bytes) : Type 0 where
+  pub ns : List Name
+  pub n : Name
+  pub is : pathOf path ≡ below ns n
+  pub reached : T (not (isMissing (walkTo (below ns n) (rowAt (pageCount b) b 0))))
+  pub entered : T (not (isBlocked (walkTo (below ns n) (rowAt (pageCount b) b 0))))
+  pub isFile : (x : Node) → walkTo (below ns n) (rowAt (pageCount b) b 0) ≡ arrived x → T (not (isDirectoryNode x))
+
 pub record Removes (b path : Bytes) : Type 0 where
   pub ns : List Name
   pub n : Name
@@ -94,7 +102,7 @@ arrives d (blocked i) u v = absurd v
 -- a file holds no entries
 file-empty : (x : Node) → T (not (isDirectoryNode x)) → held (rowIn x) ≤ 0
 unfolding isDirectoryNode rowIn held
-file-empty (fileNode d v) h = omega arith
+file-empty (fileNode l d v) h = omega arith
 file-empty (directoryNode d r) h = absurd h
 
 module _ (b : Bytes) (f : Facts b) where
@@ -147,6 +155,7 @@ module _ (b : Bytes) (f : Facts b) where
       let p4 = passed _ _ (p3 .1) in
       let p5 = passed _ _ (p4 .1) in
       let p6 = passed _ _ (p5 .1) in
+      let p7 = passed _ _ (p6 .1) in
       let top : Row = rowAt (pageCount b) b 0 in
       let w = last-name (pathOf path) (p1 .0) (not-root (pathOf path) top (p4 .0)) in
       record {
@@ -157,8 +166,8 @@ module _ (b : Bytes) (f : Facts b) where
         entered = subst (λ (p : Path). T (not (isBlocked (walkTo p top)))) (w .2) (p3 .0);
         leads = subst (λ (p : Path). walkTo p top ≡ arrived (node path (treeOf b))) (w .2) (arrives (directoryNode [] end) (walkTo (pathOf path) top) (p2 .0) (p3 .0));
         isFile = p4 .0;
-        begins = nltb→le (size path (treeOf b)) from (p5 .0);
-        space = space-free (wanted (write path from v) (treeOf b)) (p6 .0);
+        begins = nltb→le (size path (treeOf b)) from (p6 .0);
+        space = space-free (wanted (write path from v) (treeOf b)) (p7 .0);
       }
 
   pub remove-file-passed : (path : Bytes) → Passes (refusals (removeFile path) (treeOf b)) → Removes b path
@@ -204,4 +213,23 @@ module _ (b : Bytes) (f : Facts b) where
         entered = subst (λ (x : Walked Node). T (not (isBlocked x))) (sym (last .1)) tt;
         empty = λ x a. let q : directoryNode (last .0) s ≡ x = cc (sym (last .1) ∙ a) in
             subst (λ (y : Node). held (rowIn y) ≤ 0) q (nltb→le 0 (held s) (p6 .0));
+      }
+
+  pub lock-passed : (locked : Bool) (path : Bytes) → Passes (refusals (setLock locked path) (treeOf b)) → Locks b path
+  unfolding refusals earlier later treeOf arrivedOr
+  lock-passed locked path e =
+      let p1 = passed _ _ e in
+      let p2 = passed _ _ (p1 .1) in
+      let p3 = passed _ _ (p2 .1) in
+      let p4 = passed _ _ (p3 .1) in
+      let top : Row = rowAt (pageCount b) b 0 in
+      let w = last-name (pathOf path) (p1 .0) (not-root (pathOf path) top (p4 .0)) in
+      record {
+        ns = w .0;
+        n = w .1;
+        is = w .2;
+        reached = subst (λ (p : Path). T (not (isMissing (walkTo p top)))) (w .2) (p2 .0);
+        entered = subst (λ (p : Path). T (not (isBlocked (walkTo p top)))) (w .2) (p3 .0);
+        isFile = λ x a. subst (λ (y : Walked Node). T (not (isDirectoryNode (arrivedOr (directoryNode [] end) y)))) a
+            (subst (λ (p : Path). T (not (isDirectoryNode (arrivedOr (directoryNode [] end) (walkTo p top))))) (w .2) (p4 .0));
       }

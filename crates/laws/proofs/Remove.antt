@@ -40,7 +40,7 @@ held-nothing d b (x ∷ xs) h = go (entryAt b x) h (held-nothing d b xs)
     go : (y : Entry) → held (entryRow b (rowAt d b) y (rowOf b (rowAt d b) xs)) ≤ 0 → (held (rowOf b (rowAt d b) xs) ≤ 0 → flatMap (λ z. own d b (entryAt b z)) xs ≡ [])
         → own d b y ++ flatMap (λ z. own d b (entryAt b z)) xs ≡ []
     go vacant k next = next k
-    go (aFile name date start size) k next = absurd (omega arith)
+    go (aFile locked name date start size) k next = absurd (omega arith)
     go (aDirectory name date start size) k next = absurd (omega arith)
 
 empty-owns : (d : ℕ) (b : Bytes) (p : ℕ) → held (rowAt d b p) ≤ 0 → owned d b p ≡ []
@@ -51,7 +51,7 @@ empty-owns (suc d) b p h = owned-entries d b p ∙ held-nothing d b (entries p) 
 entry-pages : (d : ℕ) (b : Bytes) (x : Entry) → held (rowIn (nodeOf b (rowAt d b) x)) ≤ 0 → own d b x ≡ pagesOf b x
 unfolding own pagesOf nodeOf rowIn
 entry-pages d b vacant h = refl
-entry-pages d b (aFile name date start size) h = refl
+entry-pages d b (aFile locked name date start size) h = refl
 entry-pages d b (aDirectory name date start size) h = ap (λ (l : List ℕ). start ∷ l) (empty-owns d b start h)
 
 -- ---- vacate
@@ -59,13 +59,13 @@ entry-pages d b (aDirectory name date start size) h = ap (λ (l : List ℕ). sta
 vacate-skip : (b : Bytes) (g : ℕ → Row) (n : Bytes) (x : Entry) → T (not (isNamed n x)) → (rest : Row) → vacate n (entryRow b g x rest) ≡ entryRow b g x (vacate n rest)
 unfolding vacate entryRow isNamed
 vacate-skip b g n vacant h rest = refl
-vacate-skip b g n (aFile name date start size) h rest = if-no (same name n) (free rest) (entryRow b g (aFile name date start size) (vacate n rest)) h
+vacate-skip b g n (aFile locked name date start size) h rest = if-no (same name n) (free rest) (entryRow b g (aFile locked name date start size) (vacate n rest)) h
 vacate-skip b g n (aDirectory name date start size) h rest = if-no (same name n) (free rest) (entryRow b g (aDirectory name date start size) (vacate n rest)) h
 
 vacate-work : (b : Bytes) (g : ℕ → Row) (n : Bytes) (x : Entry) → T (isNamed n x) → (rest : Row) → vacate n (entryRow b g x rest) ≡ free rest
 unfolding vacate entryRow isNamed
 vacate-work b g n vacant h rest = absurd h
-vacate-work b g n (aFile name date start size) h rest = if-yes (same name n) (free rest) (entryRow b g (aFile name date start size) (vacate n rest)) h
+vacate-work b g n (aFile locked name date start size) h rest = if-yes (same name n) (free rest) (entryRow b g (aFile locked name date start size) (vacate n rest)) h
 vacate-work b g n (aDirectory name date start size) h rest = if-yes (same name n) (free rest) (entryRow b g (aDirectory name date start size) (vacate n rest)) h
 
 -- ---- the entry afterwards

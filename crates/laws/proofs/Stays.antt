@@ -9,6 +9,7 @@ use mathlib.Core.Option.{Option, Option·getD}
 use mathlib.Core.List.{List, [], _++_, foldl}
 use lib.ListN.{length, set}
 use lib.Dec.{T, eqb}
+use lib.Seq.{getD-set-other}
 use Rattle.volume.specs.Bytes.{Bytes, byteAt, if_then_else_}
 use Rattle.volume.specs.Chain.{chain}
 use Rattle.volume.specs.Geometry as On
@@ -23,8 +24,8 @@ use Rattle.model.specs.Tree.{Node}
 use Rattle.model.specs.Path.{Path, below, pathOf}
 use Rattle.model.specs.Image.{rowAt, treeOf}
 use Rattle.model.specs.Walk.{Walked, arrivedOr, parentPage, entryPosition}
-use Rattle.model.specs.Effect.{lowestVacant, made, rewritten, written, removed}
-use Rattle.model.specs.Call.{Call, format, verdict, find, list, read, makeFile, makeDirectory, write, removeFile, removeDirectory, refusal}
+use Rattle.model.specs.Effect.{lowestVacant, made, rewritten, written, removed, withLock, relocked}
+use Rattle.model.specs.Call.{Call, format, verdict, find, list, read, makeFile, makeDirectory, write, removeFile, removeDirectory, setLock, refusal}
 use Rattle.model.specs.Refusal.{isDirectoryNode, contentIn, node, size, wanted, earlier, later, refusals, Passes}
 use Rattle.model.specs.Meaning.{isFormat, lines, effect, after}
 use Rattle.laws.proofs.Facts.{Facts, sound-facts}
@@ -60,6 +61,7 @@ Unnamed (write path from v) b i =
     Outside (at + 17) 3 (pagesAt b at ++ On.gained version1 (pageCount b) more b) i
 Unnamed (removeFile path) b i = Outside (entryPosition b (pathOf path)) 1 [] i
 Unnamed (removeDirectory path) b i = Outside (entryPosition b (pathOf path)) 1 [] i
+Unnamed (setLock locked path) b i = Outside (entryPosition b (pathOf path)) 1 [] i
 
 kept : (b : Bytes) → Facts b → (i : ℕ) → (3 ≤ i → 36 ≤ i) → Kept version1 (pageCount b) i
 kept b f i h = elim (decLt i 3) [ yes l ↦ head-kept b f i l | no l ↦ rest-kept b f i (h (omega (arith, l))) ]
@@ -144,7 +146,7 @@ removed-stays b f path r i o =
 -- ---- every call, on any image
 
 effect-stays : (c : Call) (b : Bytes) (i : ℕ) → Unnamed c b i → Passes (lines c b) → byteAt (effect c b) i ≡ byteAt b i
-unfolding effect lines isFormat refusals earlier later wanted
+unfolding effect lines isFormat refusals earlier later wanted relocked
 effect-stays format b i u e = formatted-rest b (not-not (validLength (length b)) (passed _ _ e .0)) i u
 effect-stays verdict b i u e = refl
 effect-stays (find path) b i u e = refl
@@ -170,6 +172,9 @@ effect-stays (removeDirectory path) b i u e =
     let g = sound-passed (removeDirectory path) b tt e in
     let f = sound-facts b (g .0) in
     removed-stays b f path (remove-directory-passed b f path (g .1)) i u
+effect-stays (setLock locked path) b i u e =
+    let at = entryPosition b (pathOf path) in
+    getD-set-other b at i (withLock locked (byteAt b at)) 0 (λ q. omega (arith, q, u .entry (omega (arith, q))))
 
 pub stays : (c : Call) (b : Bytes) (i : ℕ) → Unnamed c b i → byteAt (after c b) i ≡ byteAt b i
 unfolding after

@@ -17,7 +17,7 @@ use Rattle.model.specs.Sound.{sound}
 use Rattle.model.specs.Judge.{badEntry, badChain, ownedTwice, markedFree, lostPage, badCount, Judged, fault, clean, judge, isClean}
 use Rattle.model.specs.Tree.{Tree, freeNumber}
 use Rattle.model.specs.Image.{treeOf}
-use Rattle.model.specs.Call.{Call, format, verdict, find, list, read, makeFile, makeDirectory, write, removeFile, removeDirectory, bufferBefore, Refusal, refusal, refused, granted}
+use Rattle.model.specs.Call.{Call, format, verdict, find, list, read, makeFile, makeDirectory, write, removeFile, removeDirectory, setLock, bufferBefore, Refusal, refusal, refused, granted}
 use Rattle.model.specs.Refusal.{Line, wanted, makeLines, earlier, later, refusals, settle, Passes, tableOrder}
 use Rattle.model.specs.Meaning.{freshTree, told, filled, changed, treeAnswer, treeBuffer, treeAfter, firstFault, soundLine, imageLines, isFormat, lines, effect, answer, after, bufferAfter}
 use Rattle.model.specs.Demands.{Untouched, Unsound, byLength, byHeader, byFault, AsTree}
@@ -51,6 +51,7 @@ module _ {A : Type 0} (b : Bytes) (h : T (sound b)) (f : Refusal → A) (x : A) 
   settled (write path at v) = image-skip (refusals (write path at v) (treeOf b))
   settled (removeFile path) = image-skip (refusals (removeFile path) (treeOf b))
   settled (removeDirectory path) = image-skip (refusals (removeDirectory path) (treeOf b))
+  settled (setLock locked path) = image-skip (refusals (setLock locked path) (treeOf b))
 
 -- ---- a call on a sound image
 
@@ -93,6 +94,7 @@ numbered (makeDirectory path date) b = rw (fault-numbered (judge b)) tt
 numbered (write path at v) b = rw (fault-numbered (judge b)) tt
 numbered (removeFile path) b = rw (fault-numbered (judge b)) tt
 numbered (removeDirectory path) b = rw (fault-numbered (judge b)) tt
+numbered (setLock locked path) b = rw (fault-numbered (judge b)) tt
 
 -- what rises from a number rises from a lower one
 rising-from : (k m : ℕ) → k ≤ m → (r : List ℕ) → T (rising (m ∷ r)) → T (rising (k ∷ r))
@@ -131,6 +133,7 @@ in-order (makeDirectory path date) b = fault-rising b (refusals (makeDirectory p
 in-order (write path at v) b = fault-rising b (refusals (write path at v) (treeOf b)) (tt {0})
 in-order (removeFile path) b = fault-rising b (refusals (removeFile path) (treeOf b)) (tt {0})
 in-order (removeDirectory path) b = fault-rising b (refusals (removeDirectory path) (treeOf b)) (tt {0})
+in-order (setLock locked path) b = fault-rising b (refusals (setLock locked path) (treeOf b)) (tt {0})
 
 pub untouched : (c : Call) (b : Bytes) (f : Refusal) → answer c b ≡ refused f → Untouched c b f
 unfolding answer after bufferAfter
@@ -178,6 +181,7 @@ no-ten-earlier (makeDirectory path date) t = tt
 no-ten-earlier (write path at v) t = tt
 no-ten-earlier (removeFile path) t = tt
 no-ten-earlier (removeDirectory path) t = tt
+no-ten-earlier (setLock locked path) t = tt
 
 no-ten-later : (c : Call) (t : Tree) → NoTen (later c t)
 unfolding later all
@@ -191,6 +195,7 @@ no-ten-later (makeDirectory path date) t = tt
 no-ten-later (write path at v) t = tt
 no-ten-later (removeFile path) t = tt
 no-ten-later (removeDirectory path) t = tt
+no-ten-later (setLock locked path) t = tt
 
 pub want-of-pages : (c : Call) (t : Tree) → (treeAnswer c t ≡ refused (refusal 10)) ↔ (Passes (earlier c t) × (freeNumber t < wanted c t))
 unfolding treeAnswer refusals

@@ -25,14 +25,14 @@ use Rattle.laws.proofs.Focus.{DirectoryAt, Leads, named-found, leads-de
 
 -- what an entry is in the tree; a vacant one is nothing, and no name leads to it
 unfoldable pub nodeOf : Bytes → (ℕ → Row) → Entry → Node
-nodeOf b g vacant = fileNode [] []
-nodeOf b g (aFile name date start size) = fileNode date (contentOf b size (pagesOf b (aFile name date start size)))
+nodeOf b g vacant = fileNode false [] []
+nodeOf b g (aFile locked name date start size) = fileNode locked date (contentOf b size (pagesOf b (aFile locked name date start size)))
 nodeOf b g (aDirectory name date start size) = directoryNode date (g start)
 
 lookup-entry : (b : Bytes) (g : ℕ → Row) (n : Bytes) (x : Entry) (rest : Row) → lookup n (entryRow b g x rest) ≡ (if isNamed n x then some (nodeOf b g x) else lookup n rest)
 unfolding lookup entryRow isNamed nodeOf
 lookup-entry b g n vacant rest = refl
-lookup-entry b g n (aFile name date start size) rest = refl
+lookup-entry b g n (aFile locked name date start size) rest = refl
 lookup-entry b g n (aDirectory name date start size) rest = refl
 
 pub lookup-row : (b : Bytes) (g : ℕ → Row) (n : Bytes) (ats : List ℕ)
@@ -80,7 +80,7 @@ walk-mirrors b (n ∷ ns) (suc d) p h =
         → ((s : ℕ) → T (goodDirectory d b s) → Mirrors b d s ns (walkOn b ns s) (walk ns (rowAt d b s)))
         → Mirrors b (suc d) p (n ∷ ns) (enterOn n (some x) (walkOn b ns)) (enter n (some (nodeOf b (rowAt d b) x)) (walk ns))
     at-entry at e vacant q named sub next = absurd named
-    at-entry at e (aFile name date start size) q named sub next = refl
+    at-entry at e (aFile locked name date start size) q named sub next = refl
     at-entry at e (aDirectory name date start size) q named sub next =
         mirrors-further b d p n ns at start e (record { name = name; date = date; size = size; is = q }) (walkOn b ns start) (walk ns (rowAt d b start)) (next start sub)
 
@@ -174,7 +174,7 @@ last-entered [] n r s e = go (lookup (n .bytes) r) e
   where
     go : (o : Option Node) → enter n o (walk []) ≡ arrived s → (d : Bytes) × (nodeNamed n o ≡ arrived (directoryNode d s))
     go none q = absurd (subst (λ (w : Walked Row). T (isMissing w)) q tt)
-    go (some (fileNode d v)) q = absurd (subst (λ (w : Walked Row). T (isBlocked w)) q tt)
+    go (some (fileNode l d v)) q = absurd (subst (λ (w : Walked Row). T (isBlocked w)) q tt)
     go (some (directoryNode d u)) q = (d, let same : u ≡ s = cc q in ap (λ (x : Row). arrived (directoryNode d x)) same)
 last-entered (m ∷ ns) n r s e = go (lookup (m .bytes) r) e (λ u. last-entered ns n u s)
   where
@@ -182,7 +182,7 @@ last-entered (m ∷ ns) n r s e = go (lookup (m .bytes) r) e (λ u. last-entered
         → ((u : Row) → walk (ns ++ (n ∷ [])) u ≡ arrived s → (d : Bytes) × (walkTo (below ns n) u ≡ arrived (directoryNode d s)))
         → (d : Bytes) × (inWalked (enter m o (walk ns)) (λ q. nodeNamed n (lookup (n .bytes) q)) ≡ arrived (directoryNode d s))
     go none q next = absurd (subst (λ (w : Walked Row). T (isMissing w)) q tt)
-    go (some (fileNode d v)) q next = absurd (subst (λ (w : Walked Row). T (isBlocked w)) q tt)
+    go (some (fileNode l d v)) q next = absurd (subst (λ (w : Walked Row). T (isBlocked w)) q tt)
     go (some (directoryNode d u)) q next = next u q
 
 pub target : (b : Bytes) → Facts b → (ns : List Name) (n : Name)

@@ -22,7 +22,7 @@ use Rattle.volume.proofs.Longer.{Chained}
 use Rattle.volume.proofs.Writes.{Beside, Written, written-is}
 use Rattle.model.specs.Layout.{version1, pageCount, pagesFor, zeroBits, link}
 use Rattle.model.specs.Name.{legalName}
-use Rattle.model.specs.Entry.{entries, occupied, isDirectory, nameAt, startAt, sizeAt, dateAt, Entry, vacant, aFile, aDirectory, entryAt}
+use Rattle.model.specs.Entry.{entries, occupied, isDirectory, isLocked, nameAt, startAt, sizeAt, dateAt, Entry, vacant, aFile, aDirectory, entryAt}
 use Rattle.model.specs.Sound.{pagesOf, pagesAt, goodEntry, isNamed, sameName, inDirectory, goodDirectory, sound}
 use Rattle.model.specs.Tree.{Row, file, Node, rewrite}
 use Rattle.model.specs.Path.{Name, below}
@@ -45,18 +45,18 @@ use Rattle.laws.proofs.Slots.{size, lawful, head-kept, rest-kept, heade
 
 unfoldable pub isFileEntry : Entry → Bool
 isFileEntry vacant = false
-isFileEntry (aFile name date start size) = true
+isFileEntry (aFile locked name date start size) = true
 isFileEntry (aDirectory name date start size) = false
 
 -- an entry with the fields of a file at `at`, and flags, name and date of another image's entry that is one
 pub file-entry : (b b′ : Bytes) (at : ℕ) → T (isFileEntry (entryAt b at)) → byteAt b′ at ≡ byteAt b at → nameAt b′ at ≡ nameAt b at → dateAt b′ at ≡ dateAt b at
-    → entryAt b′ at ≡ aFile (nameAt b at) (dateAt b at) (startAt b′ at) (sizeAt b′ at)
+    → entryAt b′ at ≡ aFile (isLocked b at) (nameAt b at) (dateAt b at) (startAt b′ at) (sizeAt b′ at)
 unfolding entryAt isFileEntry
 file-entry b b′ at h fl n d = rw (fl, n, d) (go (occupied b at) (isDirectory b at) h)
   where
-    go : (o c : Bool) → T (isFileEntry (if o then (if c then aDirectory (nameAt b at) (dateAt b at) (startAt b at) (sizeAt b at) else aFile (nameAt b at) (dateAt b at) (startAt b at) (sizeAt b at)) else vacant))
-        → (if o then (if c then aDirectory (nameAt b at) (dateAt b at) (startAt b′ at) (sizeAt b′ at) else aFile (nameAt b at) (dateAt b at) (startAt b′ at) (sizeAt b′ at)) else vacant)
-        ≡ aFile (nameAt b at) (dateAt b at) (startAt b′ at) (sizeAt b′ at)
+    go : (o c : Bool) → T (isFileEntry (if o then (if c then aDirectory (nameAt b at) (dateAt b at) (startAt b at) (sizeAt b at) else aFile (isLocked b at) (nameAt b at) (dateAt b at) (startAt b at) (sizeAt b at)) else vacant))
+        → (if o then (if c then aDirectory (nameAt b at) (dateAt b at) (startAt b′ at) (sizeAt b′ at) else aFile (isLocked b at) (nameAt b at) (dateAt b at) (startAt b′ at) (sizeAt b′ at)) else vacant)
+        ≡ aFile (isLocked b at) (nameAt b at) (dateAt b at) (startAt b′ at) (sizeAt b′ at)
     go true true k = absurd k
     go true false k = refl
     go false c k = absurd k
@@ -65,7 +65,7 @@ file-entry b b′ at h fl n d = rw (fl, n, d) (go (occupied b at) (isDirectory b
 pub node-file : (b : Bytes) (g : ℕ → Row) (n : Bytes) (x : Entry) → T (isNamed n x) → T (not (isDirectoryNode (nodeOf b g x))) → T (isFileEntry x)
 unfolding isNamed isDirectoryNode nodeOf isFileEntry
 node-file b g n vacant h k = h
-node-file b g n (aFile name date start size) h k = tt
+node-file b g n (aFile locked name date start size) h k = tt
 node-file b g n (aDirectory name date start size) h k = k
 
 -- ---- rewrite
@@ -73,15 +73,15 @@ node-file b g n (aDirectory name date start size) h k = k
 rewrite-skip : (b : Bytes) (g : ℕ → Row) (n w : Bytes) (x : Entry) → T (not (isNamed n x)) → (rest : Row) → rewrite n w (entryRow b g x rest) ≡ entryRow b g x (rewrite n w rest)
 unfolding rewrite entryRow isNamed
 rewrite-skip b g n w vacant h rest = refl
-rewrite-skip b g n w (aFile name date start size) h rest =
-    if-no (same name n) (file name date w rest) (entryRow b g (aFile name date start size) (rewrite n w rest)) h
+rewrite-skip b g n w (aFile locked name date start size) h rest =
+    if-no (same name n) (file locked name date w rest) (entryRow b g (aFile locked name date start size) (rewrite n w rest)) h
 rewrite-skip b g n w (aDirectory name date start size) h rest = refl
 
-rewrite-work : (b : Bytes) (g : ℕ → Row) (n w name date : Bytes) (start size : ℕ) → T (isNamed n (aFile name date start size)) → (rest : Row)
-    → rewrite n w (entryRow b g (aFile name date start size) rest) ≡ file name date w rest
+rewrite-work : (b : Bytes) (g : ℕ → Row) (n w : Bytes) (locked : Bool) (name date : Bytes) (start size : ℕ) → T (isNamed n (aFile locked name date start size)) → (rest : Row)
+    → rewrite n w (entryRow b g (aFile locked name date start size) rest) ≡ file locked name date w rest
 unfolding rewrite entryRow isNamed
-rewrite-work b g n w name date start size h rest =
-    if-yes (same name n) (file name date w rest) (entryRow b g (aFile name date start size) (rewrite n w rest)) h
+rewrite-work b g n w locked name date start size h rest =
+    if-yes (same name n) (file locked name date w rest) (entryRow b g (aFile locked name date start size) (rewrite n w rest)) h
 
 -- the sizes of a file that grows
 pages-rise : (s₀ s : ℕ) → s₀ ≤ s → pagesFor s₀ + (pagesFor s - pagesFor s₀) ≡ pagesFor s
@@ -110,21 +110,21 @@ module _ (b : Bytes) (f : Facts b) (ns : List Name) (n : Name) (tg : Target b ns
   abbrev content : Bytes
   content = contentOf b s₀ ps
 
-  found : Mem at (entries t) × T (isNamed (n .bytes) (entryAt b at))
+  pub found : Mem at (entries t) × T (isNamed (n .bytes) (entryAt b at))
   found = named-found b t (n .bytes) at (tg .found)
 
-  is : entryAt b at ≡ aFile (nameAt b at) (dateAt b at) (startAt b at) s₀
+  pub is : entryAt b at ≡ aFile (isLocked b at) (nameAt b at) (dateAt b at) (startAt b at) s₀
   is = file-entry b b at isFile refl refl refl
 
   pub file-pages : pagesAt b at ≡ ps
   unfolding pagesOf
   file-pages = ap (pagesOf b) is
 
-  mine : own e b (entryAt b at) ≡ ps
+  pub mine : own e b (entryAt b at) ≡ ps
   unfolding own pagesOf
   mine = ap (own e b) is
 
-  good : Good e b t
+  pub good : Good e b t
   good = good-split e b t (tg .above .good)
 
   pub file-good : T (legalName (nameAt b at)) × (beyond (link b) (pagesFor s₀) (startAt b at) ≡ 0)
@@ -163,7 +163,7 @@ module _ (b : Bytes) (f : Facts b) (ns : List Name) (n : Name) (tg : Target b ns
   file-size = content-length b (startAt b at) s₀ (λ q m. let r = file-owned .inside q m in omega (arith, r .1, size b f .whole))
 
   -- what the entry must be afterwards: a file of the same name and date, with these bytes
-  works : (b′ : Bytes) (start s : ℕ) (w : Bytes) → entryAt b′ at ≡ aFile (nameAt b at) (dateAt b at) start s
+  works : (b′ : Bytes) (start s : ℕ) (w : Bytes) → entryAt b′ at ≡ aFile (isLocked b at) (nameAt b at) (dateAt b at) start s
       → contentOf b′ s (chain (link b′) (pagesFor s) start) ≡ w → beyond (link b′) (pagesFor s) start ≡ 0
       → Works b b′ e t at (rewrite (n .bytes) w) (isNamed (n .bytes))
   unfolding entryNamed goodEntry sameName entryRow pagesOf
@@ -171,8 +171,8 @@ module _ (b : Bytes) (f : Facts b) (ns : List Name) (n : Name) (tg : Target b ns
     skip = rewrite-skip b (rowAt e b) (n .bytes) w;
     work = λ rest.
         ap (λ (x : Entry). rewrite (n .bytes) w (entryRow b (rowAt e b) x rest)) is
-        ∙ rewrite-work b (rowAt e b) (n .bytes) w (nameAt b at) (dateAt b at) (startAt b at) s₀ (subst (λ (x : Entry). T (isNamed (n .bytes) x)) is (found .1)) rest
-        ∙ ap {B = Row} (λ v. file (nameAt b at) (dateAt b at) v rest) (sym c)
+        ∙ rewrite-work b (rowAt e b) (n .bytes) w (isLocked b at) (nameAt b at) (dateAt b at) (startAt b at) s₀ (subst (λ (x : Entry). T (isNamed (n .bytes) x)) is (found .1)) rest
+        ∙ ap {B = Row} (λ v. file (isLocked b at) (nameAt b at) (dateAt b at) v rest) (sym c)
         ∙ ap (λ (x : Entry). entryRow b′ (rowAt e b′) x rest) (sym is′);
     found = tg .found;
     good = subst (λ (x : Entry). T (goodEntry b′ x)) (sym is′) (both-and (legalName (nameAt b at)) (eqb (beyond (link b′) (pagesFor s) start) 0) (file-good .0) (eq-eqb ends));
@@ -231,12 +231,12 @@ module _ (b : Bytes) (f : Facts b) (ns : List Name) (n : Name) (tg : Target b ns
         let ey : at + 19 ≡ at + 18 + 1 = omega arith in
         ap₂ (λ (p q : ℕ). p + 256 * q) (ap (byteAt b′) ex ∙ x) (ap (byteAt b′) ey ∙ y) ∙ omega arith
 
-    is′ : entryAt b′ at ≡ aFile (nameAt b at) (dateAt b at) (startAt b′ at) s
+    is′ : entryAt b′ at ≡ aFile (isLocked b at) (nameAt b at) (dateAt b at) (startAt b′ at) s
     is′ =
         file-entry b b′ at isFile (entry-kept at (omega arith) (omega arith) (λ x. omega arith))
         (part-bytes (at + 1) 16 b b′ (write-bytes .size) (λ i l u. entry-kept i (omega arith) (omega arith) (λ x. omega arith)))
         (part-bytes (at + 20) 8 b b′ (write-bytes .size) (λ i l u. entry-kept i (omega arith) (omega arith) (λ x. omega arith)))
-        ∙ ap (λ (z : ℕ). aFile (nameAt b at) (dateAt b at) (startAt b′ at) z) new-size
+        ∙ ap (λ (z : ℕ). aFile (isLocked b at) (nameAt b at) (dateAt b at) (startAt b′ at) z) new-size
 
     pages′ : chain (link b′) (pagesFor s) (startAt b′ at) ≡ ps ++ qs
     pages′ = ap (λ (m : ℕ). chain (link b′) m (startAt b′ at)) (sym many) ∙ write-bytes .pages

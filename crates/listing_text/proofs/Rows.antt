@@ -15,7 +15,7 @@ use Rattle.volume.specs.Chain.{chain}
 use Rattle.volume.proofs.Occ.{Mem, mem-head, mem-tail}
 use Rattle.model.specs.Layout.{pageCount, pagesFor, link}
 use Rattle.model.specs.Entry as Model
-use Rattle.model.specs.Entry.{entryCount, entriesStart, entries, nameAt, dateAt, entryAt, vacant, aFile, aDirectory}
+use Rattle.model.specs.Entry.{entryCount, entriesStart, entries, isLocked, nameAt, dateAt, entryAt, vacant, aFile, aDirectory}
 use Rattle.model.specs.Sound.{pagesOf, owned}
 use Rattle.model.specs.Tree.{Row, end}
 use Rattle.model.specs.Image.{entryRow, rowOf, rowAt}
@@ -43,7 +43,7 @@ lines-apart : (d : ℕ) (b : Bytes) (e : Model.Entry) (rest : Row) (path : Bytes
     → rowLines path (entryRow b (rowAt d b) e rest) ≡ rowLines path (entryRow b (rowAt d b) e end) ++ rowLines path rest
 unfolding entryRow rowLines
 lines-apart d b vacant rest path = refl
-lines-apart d b (aFile name date start size) rest path = simp append-nil
+lines-apart d b (aFile locked name date start size) rest path = simp append-nil
 lines-apart d b (aDirectory name date start size) rest path = simp append-nil
 
 module _ (b : Bytes) (p : ℕ) (path : Bytes) where
@@ -103,8 +103,8 @@ entry-readable b p (suc d) i at ne h e r =
 -- ---- an entry, by its cases
 
 -- the entry that was read is s
-pub seen : (b : Bytes) (at : ℕ) {r s : Entry} → entryOf r (nameAt b at) (dateAt b at) ≡ entryAt b at → r ≡ s
-    → entryOf s (nameAt b at) (dateAt b at) ≡ entryAt b at
+pub seen : (b : Bytes) (at : ℕ) {r s : Entry} → entryOf r (isLocked b at) (nameAt b at) (dateAt b at) ≡ entryAt b at → r ≡ s
+    → entryOf s (isLocked b at) (nameAt b at) (dateAt b at) ≡ entryAt b at
 seen b at {r} {s} read e = rw (← e) read
 
 module _ (d : ℕ) (b : Bytes) (at : ℕ) (path : Bytes) where
@@ -112,7 +112,7 @@ module _ (d : ℕ) (b : Bytes) (at : ℕ) (path : Bytes) where
   unfolding entryLines entryRow rowLines
   lines-vacant e = rw (← e)
 
-  pub lines-file : (start size : ℕ) → aFile (nameAt b at) (dateAt b at) start size ≡ entryAt b at → Readable b (own d b (entryAt b at))
+  pub lines-file : (start size : ℕ) → aFile (isLocked b at) (nameAt b at) (dateAt b at) start size ≡ entryAt b at → Readable b (own d b (entryAt b at))
       → entryLines d b at path ≡ line (text "F") size (entryPath b at path)
   unfolding entryLines entryRow rowLines own pagesOf
   lines-file start size e r =

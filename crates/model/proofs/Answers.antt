@@ -1,9 +1,10 @@
 -- What calls answer: numbers and places of refusals and which goes first, what find, list and read tell, the bounds of names and dates.
 use mathlib.Core.Path.{refl}
+use mathlib.Core.Bool.{true, false}
 use mathlib.Core.List.{List, [], _∷_, _++_}
 use lib.ListN.{replicate, set, drop}
 use Rattle.volume.specs.Bytes.{part, put}
-use Rattle.model.specs.Call.{format, verdict, find, list, read, makeFile, makeDirectory, write, removeFile, removeDirectory, isFile, isDirectory, empty, Refusal, refusal as number, refusalAt as numberAt, refused, granted}
+use Rattle.model.specs.Call.{format, verdict, find, list, read, makeFile, makeDirectory, write, removeFile, removeDirectory, setLock, isFile, isDirectory, empty, Refusal, refusal as number, refusalAt as numberAt, refused, granted}
 use Rattle.model.specs.Text.{text}
 use Rattle.model.proofs.Run.{computing, Step, Case, _gives_, reads, done, sized, answered, shown, Hold, computed, stated, hold}
 use Rattle.model.proofs.Table.{blank}
@@ -45,6 +46,8 @@ everyCall r =
     ∷ write (text "x") 9 (1 ∷ []) gives refused r
     ∷ removeFile (text "x") gives refused r
     ∷ removeDirectory (text "x") gives refused r
+    ∷ setLock true (text "x") gives refused r
+    ∷ setLock false (text "x") gives refused r
     ∷ []
 
 pub judgedFirst : List Case
@@ -137,18 +140,18 @@ told =
     ∷ shown desk (
     verdict gives sized 8 2
     ∷ find (text "/") gives found isDirectory 256 (replicate 8 0)
-    ∷ find (text "/0042") gives found isFile 256 day1
+    ∷ find (text "/0042") gives found (isFile false) 256 day1
     ∷ find (text "/A") gives found isDirectory 256 day2
-    ∷ find (text "/A/7") gives found isFile 0 day3
+    ∷ find (text "/A/7") gives found (isFile false) 0 day3
     ∷ find (text "/A/B") gives found isDirectory 256 day1
     -- the root has 6 entries
-    ∷ list (text "/") 0 gives entry isFile (text "0042" ++ replicate 12 0) 256 day1
+    ∷ list (text "/") 0 gives entry (isFile false) (text "0042" ++ replicate 12 0) 256 day1
     ∷ list (text "/") 1 gives entry isDirectory (text "A" ++ replicate 15 0) 256 day2
     ∷ list (text "/") 2 gives granted empty
     ∷ list (text "/") 5 gives granted empty
     ∷ list (text "/") 6 gives refusal 12
     -- any other directory has 8
-    ∷ list (text "/A") 0 gives entry isFile (text "7" ++ replicate 15 0) 0 day3
+    ∷ list (text "/A") 0 gives entry (isFile false) (text "7" ++ replicate 15 0) 0 day3
     ∷ list (text "/A") 1 gives entry isDirectory (text "B" ++ replicate 15 0) 256 day1
     ∷ list (text "/A") 7 gives granted empty
     ∷ list (text "/A") 8 gives refusal 12
@@ -232,8 +235,8 @@ makes =
     ∷ makeDirectory (text "/A/C") day1 gives refusal 10
     ∷ write (text "/D") 0 (replicate 256 1) gives refusal 10
     -- what wants no page is not refused
-    ∷ find (text "/D") gives found isFile 0 day2
-    ∷ list (text "/") 4 gives entry isFile (text "E" ++ replicate 15 0) 0 day3
+    ∷ find (text "/D") gives found (isFile false) 0 day2
+    ∷ list (text "/") 4 gives entry (isFile false) (text "E" ++ replicate 15 0) 0 day3
     ∷ reads (text "/C") 254 (9 ∷ 9 ∷ []) 1 (1 ∷ 9 ∷ [])
     ∷ write (text "/C") 254 (1 ∷ []) gives done
     ∷ [])
@@ -264,7 +267,7 @@ makes =
     ∷ makeFile (text "/A/G") day1 gives done
     ∷ makeFile (text "/A/H") day2 gives done
     ∷ makeFile (text "/A/I") day1 gives refusal 9
-    ∷ list (text "/A") 7 gives entry isFile (text "H" ++ replicate 15 0) 0 day2
+    ∷ list (text "/A") 7 gives entry (isFile false) (text "H" ++ replicate 15 0) 0 day2
     ∷ verdict gives sized 16 6
     ∷ [])
     -- the lowest empty entry is filled, the one that a removal left
@@ -275,8 +278,8 @@ makes =
     ∷ makeFile (text "/E") day2 gives done
     ∷ list (text "/") 0 gives entry isDirectory (text "D" ++ replicate 15 0) 256 day3
     ∷ list (text "/") 1 gives entry isDirectory (text "A" ++ replicate 15 0) 256 day2
-    ∷ list (text "/") 2 gives entry isFile (text "C" ++ replicate 15 0) 0 day1
-    ∷ list (text "/") 3 gives entry isFile (text "E" ++ replicate 15 0) 0 day2
+    ∷ list (text "/") 2 gives entry (isFile false) (text "C" ++ replicate 15 0) 0 day1
+    ∷ list (text "/") 3 gives entry (isFile false) (text "E" ++ replicate 15 0) 0 day2
     ∷ [])
     -- names: each byte counts, and so do case and leading zeros; "." and ".." are ordinary
     ∷ answered fresh (
@@ -284,30 +287,30 @@ makes =
     ∷ makeDirectory (text "/A") day2 gives done
     ∷ makeFile (text "/42") day2 gives done
     ∷ makeFile (text "/00042") day3 gives done
-    ∷ find (text "/0042") gives found isFile 0 day1
-    ∷ find (text "/42") gives found isFile 0 day2
-    ∷ find (text "/00042") gives found isFile 0 day3
+    ∷ find (text "/0042") gives found (isFile false) 0 day1
+    ∷ find (text "/42") gives found (isFile false) 0 day2
+    ∷ find (text "/00042") gives found (isFile false) 0 day3
     ∷ makeDirectory (text "/.") day2 gives done
     ∷ makeFile (text "/./..") day3 gives done
-    ∷ find (text "/./..") gives found isFile 0 day3
+    ∷ find (text "/./..") gives found (isFile false) 0 day3
     ∷ find (text "/..") gives refusalAt 5 1
     ∷ makeFile (text "/a") day3 gives done
     ∷ find (text "/A") gives found isDirectory 256 day2
-    ∷ find (text "/a") gives found isFile 0 day3
+    ∷ find (text "/a") gives found (isFile false) 0 day3
     ∷ [])
     ∷ answered desk (
     removeFile (text "/A/7") gives done
     ∷ removeDirectory (text "/A/B") gives done
     ∷ makeFile (text "/0123456789ABCDEF") day2 gives done
     ∷ makeFile (text "/0123456789ABCDE") day3 gives done
-    ∷ find (text "/0123456789ABCDEF") gives found isFile 0 day2
-    ∷ find (text "/0123456789ABCDE") gives found isFile 0 day3
-    ∷ list (text "/") 2 gives entry isFile (text "0123456789ABCDEF") 0 day2
-    ∷ list (text "/") 3 gives entry isFile (text "0123456789ABCDE" ++ 0 ∷ []) 0 day3
+    ∷ find (text "/0123456789ABCDEF") gives found (isFile false) 0 day2
+    ∷ find (text "/0123456789ABCDE") gives found (isFile false) 0 day3
+    ∷ list (text "/") 2 gives entry (isFile false) (text "0123456789ABCDEF") 0 day2
+    ∷ list (text "/") 3 gives entry (isFile false) (text "0123456789ABCDE" ++ 0 ∷ []) 0 day3
     ∷ makeFile (0x2F ∷ 0x20 ∷ []) day1 gives done
     ∷ makeFile (0x2F ∷ 0x7E ∷ []) day1 gives done
-    ∷ list (text "/") 4 gives entry isFile (0x20 ∷ replicate 15 0) 0 day1
-    ∷ list (text "/") 5 gives entry isFile (0x7E ∷ replicate 15 0) 0 day1
+    ∷ list (text "/") 4 gives entry (isFile false) (0x20 ∷ replicate 15 0) 0 day1
+    ∷ list (text "/") 5 gives entry (isFile false) (0x7E ∷ replicate 15 0) 0 day1
     ∷ [])
     -- names of which one begins as the other does, whichever came first
     ∷ answered fresh (
@@ -316,8 +319,8 @@ makes =
     ∷ makeFile (text "/ABC") day3 gives done
     ∷ write (text "/A") 0 (1 ∷ []) gives done
     ∷ find (text "/AB") gives found isDirectory 256 day1
-    ∷ find (text "/A") gives found isFile 1 day2
-    ∷ find (text "/ABC") gives found isFile 0 day3
+    ∷ find (text "/A") gives found (isFile false) 1 day2
+    ∷ find (text "/ABC") gives found (isFile false) 0 day3
     ∷ removeFile (text "/A") gives done
     ∷ find (text "/A") gives refusalAt 5 1
     ∷ makeDirectory (text "/ABCD") day1 gives done
@@ -344,7 +347,7 @@ dates =
     -- leap days, on any weekday (document 02 §3)
     ∷ makeFile (text "/E") (0x20 ∷ 0x00 ∷ 0x02 ∷ 0x29 ∷ 0x00 ∷ 0x14 ∷ 0x30 ∷ 0x00 ∷ []) gives done
     ∷ makeDirectory (text "/F") (0x00 ∷ 0x00 ∷ 0x02 ∷ 0x29 ∷ 0x99 ∷ 0x14 ∷ 0x30 ∷ 0x00 ∷ []) gives done
-    ∷ find (text "/A") gives found isFile 0 (0x99 ∷ 0x99 ∷ 0x01 ∷ 0x01 ∷ 0x99 ∷ 0x00 ∷ 0x00 ∷ 0x00 ∷ [])
+    ∷ find (text "/A") gives found (isFile false) 0 (0x99 ∷ 0x99 ∷ 0x01 ∷ 0x01 ∷ 0x99 ∷ 0x00 ∷ 0x00 ∷ 0x00 ∷ [])
     ∷ [])
     -- one past each end
     ∷ shown fresh (

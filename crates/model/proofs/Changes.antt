@@ -1,12 +1,13 @@
 -- What calls change: whole images after a write, a removal and a make.
 use mathlib.Core.Path.{refl}
+use mathlib.Core.Bool.{true, false}
 use mathlib.Core.List.{List, [], _∷_, _++_}
 use lib.ListN.{replicate, set}
 use Rattle.volume.specs.Bytes.{Bytes, part, put}
-use Rattle.model.specs.Call.{format, verdict, find, makeFile, makeDirectory, write, removeFile, removeDirectory, isFile}
+use Rattle.model.specs.Call.{format, verdict, find, makeFile, makeDirectory, list, write, removeFile, removeDirectory, setLock, isFile, isDirectory}
 use Rattle.model.specs.Text.{text}
 use Rattle.model.proofs.Run.{computing, Case, _gives_, reads, done, sized, answered, shown, Hold, computed, stated, hold}
-use Rattle.model.proofs.Desk.{day1, day2, day3, content, refusal, refusalAt, found, whole, stored, fresh, two, desk, shelf, far}
+use Rattle.model.proofs.Desk.{day1, day2, day3, content, refusal, refusalAt, found, entry, whole, stored, fresh, two, desk, full, shelf, far}
 
 -- ---- write
 
@@ -39,10 +40,10 @@ writes =
     ∷ write (text "/E") 0 (replicate 766 1) gives refusal 10
     ∷ [])
     whole shelf
-    ∷ answered shelf (write (text "/R") 600 (replicate 675 1) gives done ∷ find (text "/R") gives found isFile 1275 day1 ∷ verdict gives sized 8 0 ∷ [])
+    ∷ answered shelf (write (text "/R") 600 (replicate 675 1) gives done ∷ find (text "/R") gives found (isFile false) 1275 day1 ∷ verdict gives sized 8 0 ∷ [])
     ∷ answered shelf (write (text "/E") 0 (replicate 765 1) gives done ∷ verdict gives sized 8 0 ∷ [])
     -- in the middle, across pages
-    ∷ shown shelf (write (text "/R") 253 (0xA0 ∷ 0xA1 ∷ 0xA2 ∷ 0xA3 ∷ []) gives done ∷ find (text "/R") gives found isFile 600 day1 ∷ [])
+    ∷ shown shelf (write (text "/R") 253 (0xA0 ∷ 0xA1 ∷ 0xA2 ∷ 0xA3 ∷ []) gives done ∷ find (text "/R") gives found (isFile false) 600 day1 ∷ [])
     whole (put 766 (0xA0 ∷ 0xA1 ∷ []) (put 769 (0xA2 ∷ 0xA3 ∷ []) shelf))
     -- over the end, on the last page: 602 bytes
     ∷ shown shelf (write (text "/R") 599 (0xA0 ∷ 0xA1 ∷ 0xA2 ∷ []) gives done ∷ [])
@@ -54,7 +55,7 @@ writes =
     -- into an empty file, which keeps its page (paper 02 §1): 255 bytes want no other, 300 want one more, zeroed before
     ∷ shown shelf (write (text "/E") 0 (content 255) gives done ∷ verdict gives sized 8 2 ∷ [])
     whole (put 146 (0xFF ∷ 0x00 ∷ []) (put 1281 (content 255) shelf))
-    ∷ shown shelf (write (text "/E") 0 (content 300) gives done ∷ find (text "/E") gives found isFile 300 day3 ∷ [])
+    ∷ shown shelf (write (text "/E") 0 (content 300) gives done ∷ find (text "/E") gives found (isFile false) 300 day3 ∷ [])
     whole (put 3 (1 ∷ 0b1111111 ∷ []) (put 146 (0x2C ∷ 0x01 ∷ [])
     (put 1280 (6 ∷ content 255 ++ 0 ∷ part 255 45 (content 300) ++ replicate 210 0) shelf)))
     -- the lowest free page comes first, wherever it stands: /B goes on from page 2 on pages 1 and 3
@@ -137,6 +138,64 @@ pub removes-hold : Hold removes
 unfolding computing computed stated removes desk fresh far
 removes-hold = hold removes refl
 
+-- ---- lock and unlock (paper 02 §10)
+
+pub locks : List Case
+locks =
+    -- refused; a directory and the root are no files
+    shown desk (
+    setLock true (text "A") gives refusal 4
+    ∷ setLock true (text "/x") gives refusalAt 5 1
+    ∷ setLock false (text "/0042/x") gives refusalAt 6 1
+    ∷ setLock true (text "/") gives refusal 7
+    ∷ setLock false (text "/") gives refusal 7
+    ∷ setLock true (text "/A") gives refusal 7
+    ∷ setLock false (text "/A/B") gives refusal 7
+    ∷ [])
+    whole desk
+    -- the flags byte alone changes; twice is once; 25 stands above 12 and 10, and a write of no bytes gets it too
+    ∷ shown desk (
+    setLock true (text "/0042") gives done
+    ∷ setLock true (text "/0042") gives done
+    ∷ find (text "/0042") gives found (isFile true) 256 day1
+    ∷ list (text "/") 0 gives entry (isFile true) (text "0042" ++ replicate 12 0) 256 day1
+    ∷ write (text "/0042") 0 (1 ∷ []) gives refusal 25
+    ∷ write (text "/0042") 0 [] gives refusal 25
+    ∷ write (text "/0042") 257 (1 ∷ []) gives refusal 25
+    ∷ write (text "/0042") 0 (replicate 2000 1) gives refusal 25
+    ∷ removeFile (text "/0042") gives refusal 25
+    ∷ removeDirectory (text "/0042") gives refusalAt 6 1
+    ∷ makeFile (text "/0042") day1 gives refusal 8
+    ∷ makeDirectory (text "/0042") day1 gives refusal 8
+    ∷ reads (text "/0042") 254 (replicate 3 9) 2 (3 ∷ 4 ∷ 9 ∷ [])
+    ∷ verdict gives sized 8 2
+    ∷ [])
+    whole (set desk 64 0xC0)
+    ∷ shown (set desk 64 0xC0) (setLock false (text "/0042") gives done ∷ setLock false (text "/0042") gives done ∷ find (text "/0042") gives found (isFile false) 256 day1 ∷ [])
+    whole desk
+    ∷ shown desk (setLock false (text "/A/7") gives done ∷ []) whole desk
+    -- where no page is free, a position past the size and more bytes than fit
+    ∷ shown (set full 128 0xC0) (write (text "/C") 256 (replicate 300 1) gives refusal 25 ∷ removeFile (text "/C") gives refusal 25 ∷ []) whole (set full 128 0xC0)
+    -- the flags' other bits stay
+    ∷ shown (set desk 64 0xBE) (setLock true (text "/0042") gives done ∷ []) whole (set desk 64 0xFE)
+    ∷ shown (set desk 64 0xFE) (setLock false (text "/0042") gives done ∷ []) whole (set desk 64 0xBE)
+    -- a directory's bit 6 says nothing and stays
+    ∷ shown (set desk 544 0xC1) (
+    find (text "/A/B") gives found isDirectory 256 day1
+    ∷ list (text "/A") 1 gives entry isDirectory (text "B" ++ replicate 15 0) 256 day1
+    ∷ makeFile (text "/A/B/x") day1 gives done
+    ∷ removeFile (text "/A/B/x") gives done
+    ∷ setLock true (text "/A/B") gives refusal 7
+    ∷ setLock false (text "/A/B") gives refusal 7
+    ∷ [])
+    (part 544 1) (0xC1 ∷ [])
+    ∷ answered (set desk 544 0xC1) (removeDirectory (text "/A/B") gives done ∷ [])
+    ∷ []
+
+pub locks-hold : Hold locks
+unfolding computing computed stated locks desk full
+locks-hold = hold locks refl
+
 -- ---- what make writes: all 32 bytes of the entry, and all 256 of the page that an empty file (paper 02 §1) or a directory has
 
 -- an image whose empty entries hold 65 bytes
@@ -170,7 +229,7 @@ made =
     ∷ removeDirectory (text "/1/2/3/4/5/6/7") gives done
     ∷ makeFile (text "/1/2/3/4/5/6/7") day2 gives done
     ∷ verdict gives sized 8 0
-    ∷ find (text "/1/2/3/4/5/6/7") gives found isFile 0 day2
+    ∷ find (text "/1/2/3/4/5/6/7") gives found (isFile false) 0 day2
     ∷ find (text "/1/2/3/4/5/6/7/8") gives refusalAt 6 13
     ∷ removeDirectory (text "/1/2/3/4/5/6") gives refusal 13
     ∷ [])

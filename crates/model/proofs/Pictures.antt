@@ -1,5 +1,6 @@
 -- What an image means as a whole: its tree, the tree that the calls replay to, and the listing.
 use mathlib.Core.Path.{refl}
+use mathlib.Core.Bool.{false}
 use mathlib.Core.List.{List, [], _∷_, _++_}
 use lib.ListN.{replicate, set}
 use Rattle.model.specs.Tree.{end, free, file, dir, Tree, fill, rewrite, vacate, inside}
@@ -28,9 +29,9 @@ deskTree : Tree
 deskTree = record {
   pages = 8;
   root =
-      file (text "0042" ++ replicate 12 0) day1 (content 256)
+      file false (text "0042" ++ replicate 12 0) day1 (content 256)
       (dir (text "A" ++ replicate 15 0) day2
-      (file (text "7" ++ replicate 15 0) day3 []
+      (file false (text "7" ++ replicate 15 0) day3 []
       (dir (text "B" ++ replicate 15 0) day1 (free (free (free (free (free (free (free (free end))))))))
       (free (free (free (free (free (free end))))))))
       (free (free (free (free end)))));
@@ -89,6 +90,8 @@ listings =
     listing (text "pages 8 free 1\nF 0 /0123456789ABCDEF\nD 256 /A\nF 0 /A/7\nD 256 /A/B\nF 0 /A/B/ ~\nF 0 /a b\n")
     ∷ shown fresh (newFile "/A" gives done ∷ write (text "/A") 0 (replicate 1785 0) gives done ∷ []) listing (text "pages 8 free 0\nF 1785 /A\n")
     ∷ shown (replicate 65536 0) (format gives done ∷ []) listing (text "pages 256 free 255\n")
+    -- a locked file's line is that of any other (paper 02 §10)
+    ∷ shown (set desk 64 0xC0) [] listing (text "pages 8 free 2\nF 256 /0042\nD 256 /A\nF 0 /A/7\nD 256 /A/B\n")
     -- refused
     ∷ shown [] [] listing (text "refused 1\n")
     ∷ shown (replicate 65537 0) [] listing (text "refused 1\n")

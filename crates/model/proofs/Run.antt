@@ -17,9 +17,9 @@ use Rattle.model.specs.Tree.{emptyRow, width, held, needs, freeNumber, l
 use Rattle.model.specs.Path.{before, texts, namesFrom, pathTo, pathOf, isNoPath, isRoot}
 use Rattle.model.specs.Image.{contentOf, entryRow, rowOf, rowAt, treeOf}
 use Rattle.model.specs.Walk.{enter, walk, nodeNamed, inWalked, walkTo, entryNamed, enterOn, walkOn, arrivedOr}
-use Rattle.model.specs.Effect.{formatted, isVacant, lowestVacant, made, rewritten, written, removed}
+use Rattle.model.specs.Effect.{formatted, isVacant, lowestVacant, made, rewritten, written, removed, withLock, relocked}
 use Rattle.model.specs.Call.{Call, read, Verdict, Told, bufferBefore, Refusal, Answer, refused, granted}
-use Rattle.model.specs.Refusal.{Line, isMissing, isBlocked, stoppedAt, isThere, isDirectoryNode, contentIn, rowIn, wanted, makeLines, earlier, later, refusals, settle}
+use Rattle.model.specs.Refusal.{Line, isMissing, isBlocked, stoppedAt, isThere, isDirectoryNode, isLockedNode, contentIn, rowIn, wanted, makeLines, earlier, later, refusals, settle}
 use Rattle.model.specs.Meaning.{foundAt, listed, told, filled, isFormat, lines, effect, answer, after, bufferAfter}
 use Rattle.model.specs.Demands.{Result, Results}
 use Rattle.model.specs.Text.{text}
@@ -78,7 +78,7 @@ turns-are (c ∷ cs) b =
 
 -- Everything that a list of calls computes with: to unfold this is to unfold them all.
 unfoldable pub computing : Unit {0}
-unfolding flatMap same all any keep lastOr distinct countFrom first chain beyond spread On.pageBit On.zeroBits On.lowestFree On.mark On.unmark On.taken On.released On.grown On.gained On.jointOf On.written pagesFor validLength validHeader legalByte legalRest legalName legalText padded unpadded isBcd bcd between isLeap daysIn goodDate entries entryAt newEntry pagesOf goodEntry isNamed sameName namesApart goodDirectory reachedBy reached soundTo sound owners thenJudge judgePage judgeChain freshName judgeEntry judgeEntries judgeDirectory lostOr judgeRest judge isClean emptyRow width held needs freeNumber lookup before texts namesFrom pathTo pathOf isNoPath isRoot contentOf entryRow rowOf rowAt treeOf enter walk nodeNamed inWalked walkTo entryNamed enterOn walkOn arrivedOr formatted isVacant lowestVacant made rewritten written removed isMissing isBlocked stoppedAt isThere isDirectoryNode contentIn rowIn wanted makeLines earlier later refusals settle foundAt listed told filled isFormat lines effect answer after bufferAfter text run results turn turns
+unfolding flatMap same all any keep lastOr distinct countFrom first chain beyond spread On.pageBit On.zeroBits On.lowestFree On.mark On.unmark On.taken On.released On.grown On.gained On.jointOf On.written pagesFor validLength validHeader legalByte legalRest legalName legalText padded unpadded isBcd bcd between isLeap daysIn goodDate entries entryAt newEntry pagesOf goodEntry isNamed sameName namesApart goodDirectory reachedBy reached soundTo sound owners thenJudge judgePage judgeChain freshName judgeEntry judgeEntries judgeDirectory lostOr judgeRest judge isClean emptyRow width held needs freeNumber lookup before texts namesFrom pathTo pathOf isNoPath isRoot contentOf entryRow rowOf rowAt treeOf enter walk nodeNamed inWalked walkTo entryNamed enterOn walkOn arrivedOr formatted isVacant lowestVacant made rewritten written removed withLock relocked isMissing isBlocked stoppedAt isThere isDirectoryNode isLockedNode contentIn rowIn wanted makeLines earlier later refusals settle foundAt listed told filled isFormat lines effect answer after bufferAfter text run results turn turns
 computing = tt
 
 -- ---- cases

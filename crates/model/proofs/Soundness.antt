@@ -164,14 +164,14 @@ order =
 
 -- Other flags, reserved bytes, bitmap bytes past the first N/8, stored dates and empty entries may hold anything, and are kept.
 loose : Bytes
-loose = put 5 (replicate 59 0xFF) (put 64 (0xFE ∷ []) (put 84 (replicate 12 0xFF) (put 96 (replicate 160 0x7F) one)))
+loose = put 5 (replicate 59 0xFF) (put 64 (0xBE ∷ []) (put 84 (replicate 12 0xFF) (put 96 (replicate 160 0x7F) one)))
 
 pub kept : List Case
 kept =
     clear loose 6 (1 ∷ [])
     ∷ shown loose (
-    find (text "/A") gives found isFile 255 (replicate 8 0xFF)
-    ∷ list (text "/") 0 gives entry isFile (text "A" ++ replicate 15 0) 255 (replicate 8 0xFF)
+    find (text "/A") gives found (isFile false) 255 (replicate 8 0xFF)
+    ∷ list (text "/") 0 gives entry (isFile false) (text "A" ++ replicate 15 0) 255 (replicate 8 0xFF)
     ∷ list (text "/") 1 gives granted empty
     ∷ write (text "/A") 255 (0xA0 ∷ []) gives done
     ∷ makeDirectory (text "/B") day1 gives done

@@ -3,6 +3,7 @@
 use mathlib.Core.Path.{refl}
 use Prim.Native.Nat.{ℕ, _+_, _-_}
 use Prim.Native.String.{String}
+use mathlib.Core.Bool.{false}
 use mathlib.Core.List.{List, [], _∷_, _++_, map}
 use lib.ListN.{replicate}
 use Rattle.volume.specs.Bytes.{Bytes, part, byteAt}
@@ -46,8 +47,8 @@ table =
     format gives done
     ∷ newFile "/0042" gives done
     ∷ newFile "/42" gives done
-    ∷ list (text "/") 0 gives granted (holds isFile (text "0042" ++ replicate 12 0) 0 date)
-    ∷ list (text "/") 1 gives granted (holds isFile (text "42" ++ replicate 14 0) 0 date)
+    ∷ list (text "/") 0 gives granted (holds (isFile false) (text "0042" ++ replicate 12 0) 0 date)
+    ∷ list (text "/") 1 gives granted (holds (isFile false) (text "42" ++ replicate 14 0) 0 date)
     ∷ verdict gives sized 8 5
     ∷ find (text "/00042") gives refused (refusalAt 5 1)
     ∷ [])
@@ -93,7 +94,7 @@ table =
     format gives done ∷ newFile "/0042" gives done ∷ writeAt "/0042" 0 255 gives done
     ∷ writeAt "/0042" 256 1 gives refused (refusal 12)
     ∷ writeAt "/0042" 255 1 gives done
-    ∷ find (text "/0042") gives granted (record { kind = isFile; size = 256; date = date })
+    ∷ find (text "/0042") gives granted (record { kind = (isFile false); size = 256; date = date })
     ∷ [])
     ∷ []
 

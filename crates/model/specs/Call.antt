@@ -1,9 +1,10 @@
 -- Document 01, "What the delivery holds" and "The plain tree": the calls with their arguments, and what each answers.
 use Prim.Native.Nat.{ℕ}
+use mathlib.Core.Bool.{Bool}
 use mathlib.Core.List.{[]}
 use Rattle.volume.specs.Bytes.{Bytes}
 
--- A path, a date and what a write writes are bytes. A read's last argument is what the reader's buffer holds beforehand.
+-- The two calls of paper 02 §10 are one here, by the mark that they leave. A path, a date and what a write writes are bytes. A read's last argument is what the reader's buffer holds beforehand.
 pub data Call : Type 0 where
   format : Call
   verdict : Call
@@ -15,11 +16,13 @@ pub data Call : Type 0 where
   write : (path : Bytes) (position : ℕ) (bytes : Bytes) → Call
   removeFile : (path : Bytes) → Call
   removeDirectory : (path : Bytes) → Call
+  setLock : (locked : Bool) (path : Bytes) → Call
 
 -- ---- what a granted call tells
 
 pub data Kind : Type 0 where
-  isFile isDirectory : Kind
+  isFile : (locked : Bool) → Kind
+  isDirectory : Kind
 
 -- N and the free number
 pub record Verdict : Type 0 where
@@ -35,7 +38,7 @@ pub data Listed : Type 0 where
   empty : Listed
   holds : (kind : Kind) (name : Bytes) (size : ℕ) (date : Bytes) → Listed
 
--- read tells how many bytes it copied; format, make, write and remove tell only that they were done
+-- read tells how many bytes it copied; the calls that change an image tell only that they were done
 abbrev pub Told : Call → Type 0
 Told format = Unit {0}
 Told verdict = Verdict
@@ -47,6 +50,7 @@ Told (makeDirectory path date) = Unit {0}
 Told (write path position bytes) = Unit {0}
 Told (removeFile path) = Unit {0}
 Told (removeDirectory path) = Unit {0}
+Told (setLock locked path) = Unit {0}
 
 -- the reader's buffer before the call; only a read has one
 abbrev pub bufferBefore : Call → Bytes
@@ -60,6 +64,7 @@ bufferBefore (makeDirectory path date) = []
 bufferBefore (write path position bytes) = []
 bufferBefore (removeFile path) = []
 bufferBefore (removeDirectory path) = []
+bufferBefore (setLock locked path) = []
 
 -- ---- answers
 

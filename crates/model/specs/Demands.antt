@@ -1,8 +1,9 @@
--- The three demands of document 00, as statements about `answer`, `after` and `bufferAfter`, and that of paper 02 §9. The crate `laws` proves them.
+-- The three demands of document 00, as statements about `answer`, `after` and `bufferAfter`, and those of paper 02 §9 and §10. The crate `laws`
+-- proves them.
 use mathlib.Core.Path.{_≡_}
 use mathlib.Core.Logic.{_↔_, _≢_}
 use Prim.Native.Nat.{ℕ, _+_, _≤_, _<_}
-use mathlib.Core.Bool.{false, not}
+use mathlib.Core.Bool.{Bool, false, not}
 use mathlib.Core.List.{List, [], _∷_}
 use lib.ListN.{length}
 use lib.Dec.{T}
@@ -17,7 +18,7 @@ use Rattle.model.specs.Tree.{Row, Tree, needs, freeNumber, fileNode, dir
 use Rattle.model.specs.Path.{Path, isRoot}
 use Rattle.model.specs.Image.{contentOf, treeOf}
 use Rattle.model.specs.Walk.{arrived, walkTo, entryPosition}
-use Rattle.model.specs.Call.{Call, format, verdict, Told, bufferBefore, Refusal, refusal, Answer, refused, granted}
+use Rattle.model.specs.Call.{Call, format, verdict, setLock, Told, bufferBefore, Refusal, refusal, Answer, refused, granted}
 use Rattle.model.specs.Refusal.{earlier, wanted, Passes, tableOrder}
 use Rattle.model.specs.Meaning.{freshTree, treeAnswer, treeBuffer, treeAfter, faultTold, isFormat, answer, after, bufferAfter}
 
@@ -133,11 +134,11 @@ pub record Unbroken (b : Bytes) (start size : ℕ) : Type 0 where
   pub ends : beyond (link b) (pagesFor size) start ≡ 0
 
 -- the entry at a position is a file, whose chain is unbroken and holds this content
-pub record WholeFile (b : Bytes) (at : ℕ) (date content : Bytes) : Type 0 where
+pub record WholeFile (b : Bytes) (at : ℕ) (locked : Bool) (date content : Bytes) : Type 0 where
   pub name : Bytes
   pub start : ℕ
   pub size : ℕ
-  pub is : entryAt b at ≡ aFile name date start size
+  pub is : entryAt b at ≡ aFile locked name date start size
   pub unbroken : Unbroken b start size
   pub holds : contentOf b size (chain (link b) (pagesFor size) start) ≡ content
 
@@ -151,15 +152,20 @@ pub record WholeDirectory (b : Bytes) (at : ℕ) (date : Bytes) : Type 0 where
 
 pub record NeverBroken (b : Bytes) : Type 0 where
   -- every file and every directory
-  pub everyFile : (at : ℕ) → T (member at (reachedEntries b)) → (name date : Bytes) (start size : ℕ) → entryAt b at ≡ aFile name date start size
+  pub everyFile : (at : ℕ) → T (member at (reachedEntries b)) → (locked : Bool) (name date : Bytes) (start size : ℕ) → entryAt b at ≡ aFile locked name date start size
       → Unbroken b start size
   pub everyDirectory : (at : ℕ) → T (member at (reachedEntries b)) → (name date : Bytes) (start size : ℕ) → entryAt b at ≡ aDirectory name date start size
       → T (inRange (pageCount b) start)
   -- what read, write and remove walk: the entry that a path leads to is one of these
-  pub toFile : (path : Path) (date content : Bytes) → walkTo path (treeOf b .root) ≡ arrived (fileNode date content)
-      → WholeFile b (entryPosition b path) date content
+  pub toFile : (path : Path) (locked : Bool) (date content : Bytes) → walkTo path (treeOf b .root) ≡ arrived (fileNode locked date content)
+      → WholeFile b (entryPosition b path) locked date content
   pub toDirectory : (path : Path) (date : Bytes) (r : Row) → walkTo path (treeOf b .root) ≡ arrived (directoryNode date r) → T (not (isRoot path))
       → WholeDirectory b (entryPosition b path) date
 
 abbrev pub Chains : Type 0
 Chains = (b : Bytes) → T (sound b) → NeverBroken b
+
+-- ---- Paper 02 §10: to lock or unlock twice changes nothing, on any bytes.
+
+abbrev pub LockTwice : Type 0
+LockTwice = (locked : Bool) (path b : Bytes) → after (setLock locked path) (after (setLock locked path) b) ≡ after (setLock locked path) b

@@ -1,11 +1,11 @@
 -- Document 01, "The plain tree": what a granted call does to the bytes of a sound image. Every byte not named here stays.
-use Prim.Native.Nat.{ℕ, _+_, _-_, _/_, max}
+use Prim.Native.Nat.{ℕ, _+_, _-_, _*_, _/_, max}
 use mathlib.Core.Bool.{Bool, true, false}
 use mathlib.Core.Option.{Option·getD}
 use mathlib.Core.List.{_∷_, foldl}
 use lib.ListN.{length, set, replicate}
 use lib.Dec.{eqb}
-use Rattle.volume.specs.Bytes.{Bytes, put, le16, if_then_else_}
+use Rattle.volume.specs.Bytes.{Bytes, byteAt, put, le16, bit, if_then_else_}
 use Rattle.volume.specs.Lists.{first}
 use Rattle.volume.specs.Field.{byte}
 use Rattle.volume.specs.Geometry as On
@@ -21,7 +21,7 @@ formatted b = put 0 (0x5A ∷ 1 ∷ pageCount b / 8 ∷ (pageCount b - 1) ∷ 1 
 
 unfoldable pub isVacant : Entry → Bool
 isVacant vacant = true
-isVacant (aFile name date start size) = false
+isVacant (aFile locked name date start size) = false
 isVacant (aDirectory name date start size) = false
 
 -- the lowest empty entry of the directory on page p
@@ -51,6 +51,13 @@ rewritten at from v b =
 -- A write of no bytes changes nothing.
 unfoldable pub written : Path → (from : ℕ) (v : Bytes) → Bytes → Bytes
 written path from v b = let after = rewritten (entryPosition b path) from v b in if eqb (length v) 0 then b else after
+
+-- Bit 6 of the flags becomes the mark; the other bits, and all other bytes, stay (paper 02 §10).
+unfoldable pub withLock : Bool → (flags : ℕ) → ℕ
+withLock locked x = x - 64 * bit 6 x + (if locked then 64 else 0)
+
+unfoldable pub relocked : Path → Bool → Bytes → Bytes
+relocked path locked b = let at = entryPosition b path in set b at (withLock locked (byteAt b at))
 
 -- The flags byte becomes 0; the pages are given back and keep their bytes.
 unfoldable pub removed : Path → Bytes → Bytes

@@ -43,19 +43,23 @@ sizeAt b at = byteAt b (at + 18) + 256 * byteAt b (at + 19)
 abbrev pub dateAt : Bytes → ℕ → Bytes
 dateAt b at = part (at + 20) 8 b
 
+-- A file is locked by bit 6 (paper 02 §10). On a directory the bit says nothing.
+abbrev pub isLocked : Bytes → ℕ → Bool
+isLocked b at = eqb (bit 6 (flags b at)) 1
+
 -- ---- an entry as a value
 
 -- A vacant entry may hold anything.
 pub data Entry : Type 0 where
   vacant : Entry
-  aFile : (name date : Bytes) (start size : ℕ) → Entry
+  aFile : (locked : Bool) (name date : Bytes) (start size : ℕ) → Entry
   aDirectory : (name date : Bytes) (start size : ℕ) → Entry
 
 unfoldable pub entryAt : Bytes → ℕ → Entry
 entryAt b at =
     if occupied b at
     then (if isDirectory b at then aDirectory (nameAt b at) (dateAt b at) (startAt b at) (sizeAt b at)
-    else aFile (nameAt b at) (dateAt b at) (startAt b at) (sizeAt b at))
+    else aFile (isLocked b at) (nameAt b at) (dateAt b at) (startAt b at) (sizeAt b at))
     else vacant
 
 -- the 32 bytes that a make writes; the last four are reserved

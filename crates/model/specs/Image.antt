@@ -20,7 +20,7 @@ contentOf b size pages = take size (flatMap (contentOn b) pages)
 -- an entry before the rest of its row; `below` is the row of the directory on a page
 unfoldable pub entryRow : Bytes → (ℕ → Row) → Entry → Row → Row
 entryRow b below vacant rest = free rest
-entryRow b below (aFile name date start size) rest = file name date (contentOf b size (pagesOf b (aFile name date start size))) rest
+entryRow b below (aFile locked name date start size) rest = file locked name date (contentOf b size (pagesOf b (aFile locked name date start size))) rest
 entryRow b below (aDirectory name date start size) rest = dir name date (below start) rest
 
 unfoldable pub rowOf : Bytes → (ℕ → Row) → List ℕ → Row

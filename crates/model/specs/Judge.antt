@@ -58,7 +58,7 @@ freshName b earlier name = legalName name && all (λ at. not (isNamed name (entr
 -- pages in chain order, then a directory's contents. `below` judges the directory on a page.
 unfoldable pub judgeEntry : (ℕ → List ℕ → Judged) → Bytes → (d i : ℕ) (earlier : List ℕ) → Entry → List ℕ → Judged
 judgeEntry below b d i earlier vacant marks = clean marks
-judgeEntry below b d i earlier (aFile name date start size) marks =
+judgeEntry below b d i earlier (aFile locked name date start size) marks =
     let walked = judgeChain b d i (pagesFor size) 0 start marks in
     if freshName b earlier name then walked else fault (badEntry d i)
 judgeEntry below b d i earlier (aDirectory name date start size) marks =

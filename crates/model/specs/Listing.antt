@@ -31,7 +31,7 @@ line kind size path = kind ++ text " " ++ decimal size ++ text " " ++ path ++ ne
 unfoldable pub rowLines : (path : Bytes) → Row → Bytes
 rowLines path end = []
 rowLines path (free r) = rowLines path r
-rowLines path (file n d v r) = line (text "F") (length v) (path ++ text "/" ++ unpadded n) ++ rowLines path r
+rowLines path (file l n d v r) = line (text "F") (length v) (path ++ text "/" ++ unpadded n) ++ rowLines path r
 rowLines path (dir n d s r) =
     line (text "D") pageSize (path ++ text "/" ++ unpadded n) ++ rowLines (path ++ text "/" ++ unpadded n) s ++ rowLines path r
 

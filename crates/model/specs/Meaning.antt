@@ -8,19 +8,19 @@ use Rattle.volume.specs.Bytes.{Bytes, put, if_then_else_}
 use Rattle.model.specs.Layout.{pageSize, validLength, validHeader}
 use Rattle.model.specs.Sound.{sound}
 use Rattle.model.specs.Judge.{Fault, badEntry, badChain, ownedTwice, markedFree, lostPage, badCount, Judged, fault, clean, judge}
-use Rattle.model.specs.Tree.{Row, end, free, file, dir, Tree, emptyRow, freeNumber, Node, fileNode, directoryNode, fill, rewrite, vacate}
+use Rattle.model.specs.Tree.{Row, end, free, file, dir, Tree, emptyRow, freeNumber, Node, fileNode, directoryNode, fill, rewrite, relock, vacate}
 use Rattle.model.specs.Path.{Path, pathOf, parents, lastName}
 use Rattle.model.specs.Image.{treeOf}
 use Rattle.model.specs.Walk.{changeAt}
-use Rattle.model.specs.Effect.{formatted, fileMade, directoryMade, written, removed}
-use Rattle.model.specs.Call.{Call, format, verdict, find, list, read, makeFile, makeDirectory, write, removeFile, removeDirectory, isFile, isDirectory, Found, Listed, empty, holds, Told, bufferBefore, Refusal, refusal, refusalAt, Answer, refused, granted}
+use Rattle.model.specs.Effect.{formatted, fileMade, directoryMade, written, removed, relocked}
+use Rattle.model.specs.Call.{Call, format, verdict, find, list, read, makeFile, makeDirectory, write, removeFile, removeDirectory, setLock, isFile, isDirectory, Found, Listed, empty, holds, Told, bufferBefore, Refusal, refusal, refusalAt, Answer, refused, granted}
 use Rattle.model.specs.Refusal.{Line, refusals, settle, node, directoryRow, contentIn}
 
 -- ---- on the plain tree
 
 -- kind, size and date; a directory's size is 256
 unfoldable pub foundAt : Node → Found
-foundAt (fileNode date v) = record { kind = isFile; size = length v; date = date }
+foundAt (fileNode locked date v) = record { kind = isFile locked; size = length v; date = date }
 foundAt (directoryNode date r) = record { kind = isDirectory; size = pageSize; date = date }
 
 -- entry i of a row
@@ -28,8 +28,8 @@ unfoldable pub listed : Row → ℕ → Listed
 listed end i = empty
 listed (free r) zero = empty
 listed (free r) (suc i) = listed r i
-listed (file n d v r) zero = holds isFile n (length v) d
-listed (file n d v r) (suc i) = listed r i
+listed (file l n d v r) zero = holds (isFile l) n (length v) d
+listed (file l n d v r) (suc i) = listed r i
 listed (dir n d s r) zero = holds isDirectory n pageSize d
 listed (dir n d s r) (suc i) = listed r i
 
@@ -49,6 +49,7 @@ told (makeDirectory path date) t = tt
 told (write path at v) t = tt
 told (removeFile path) t = tt
 told (removeDirectory path) t = tt
+told (setLock locked path) t = tt
 
 -- the reader's buffer after a granted call; past what a read copied it stays
 unfoldable pub filled : Call → Tree → Bytes
@@ -62,6 +63,7 @@ filled (makeDirectory path date) t = []
 filled (write path at v) t = []
 filled (removeFile path) t = []
 filled (removeDirectory path) t = []
+filled (setLock locked path) t = []
 
 -- f done to the row of the parent directory
 unfoldable pub inParent : Path → (Row → Row) → Tree → Tree
@@ -77,11 +79,12 @@ changed verdict t = t
 changed (find path) t = t
 changed (list path i) t = t
 changed (read path at room) t = t
-changed (makeFile path date) t = inParent (pathOf path) (fill (file (lastName (pathOf path)) date [])) t
+changed (makeFile path date) t = inParent (pathOf path) (fill (file false (lastName (pathOf path)) date [])) t
 changed (makeDirectory path date) t = inParent (pathOf path) (fill (dir (lastName (pathOf path)) date (emptyRow 8))) t
 changed (write path at v) t = inParent (pathOf path) (rewrite (lastName (pathOf path)) (put at v (contentIn (node path t)))) t
 changed (removeFile path) t = inParent (pathOf path) (vacate (lastName (pathOf path))) t
 changed (removeDirectory path) t = inParent (pathOf path) (vacate (lastName (pathOf path))) t
+changed (setLock locked path) t = inParent (pathOf path) (relock (lastName (pathOf path)) locked) t
 
 unfoldable pub treeAnswer : (c : Call) → Tree → Answer (Told c)
 treeAnswer c t = settle (refusals c t) refused (granted (told c t))
@@ -105,6 +108,7 @@ isFormat (makeDirectory path date) = false
 isFormat (write path at v) = false
 isFormat (removeFile path) = false
 isFormat (removeDirectory path) = false
+isFormat (setLock locked path) = false
 
 -- 16 bad entry (directory page, entry); 17 page out of range, or chain not ending where the size says (directory page, entry, how many of its
 -- pages passed); 18 page owned twice, 20 owned page marked free, 19 lost page (the page); 3 bit 0 or byte 3
@@ -151,6 +155,7 @@ effect (makeDirectory path date) b = directoryMade (pathOf path) date b
 effect (write path at v) b = written (pathOf path) at v b
 effect (removeFile path) b = removed (pathOf path) b
 effect (removeDirectory path) b = removed (pathOf path) b
+effect (setLock locked path) b = relocked (pathOf path) locked b
 
 -- what call c answers on image b, what the image is after it, and what the reader's buffer is; a refused call changes nothing
 unfoldable pub answer : (c : Call) → Bytes → Answer (Told c)

@@ -13,7 +13,7 @@ use Rattle.model.specs.Date.{goodDate}
 use Rattle.model.specs.Path.{pathOf, isNoPath, isRoot, parents, names, lastName}
 use Rattle.model.specs.Tree.{Row, end, Tree, width, held, freeNumber, Node, fileNode, directoryNode, lookup}
 use Rattle.model.specs.Walk.{Walked, arrived, missing, blocked, walk, walkTo, arrivedOr}
-use Rattle.model.specs.Call.{Call, format, verdict, find, list, read, makeFile, makeDirectory, write, removeFile, removeDirectory, Refusal, refusal, refusalAt}
+use Rattle.model.specs.Call.{Call, format, verdict, find, list, read, makeFile, makeDirectory, write, removeFile, removeDirectory, setLock, Refusal, refusal, refusalAt}
 
 -- ---- what the lines ask
 
@@ -38,16 +38,20 @@ isThere none = false
 isThere (some x) = true
 
 unfoldable pub isDirectoryNode : Node → Bool
-isDirectoryNode (fileNode d v) = false
+isDirectoryNode (fileNode l d v) = false
 isDirectoryNode (directoryNode d r) = true
+
+unfoldable pub isLockedNode : Node → Bool
+isLockedNode (fileNode l d v) = l
+isLockedNode (directoryNode d r) = false
 
 -- the bytes of a file, and the row of a directory
 unfoldable pub contentIn : Node → Bytes
-contentIn (fileNode d v) = v
+contentIn (fileNode l d v) = v
 contentIn (directoryNode d r) = []
 
 unfoldable pub rowIn : Node → Row
-rowIn (fileNode d v) = end
+rowIn (fileNode l d v) = end
 rowIn (directoryNode d r) = r
 
 -- where a path leads, and the row of its parent directory
@@ -84,6 +88,7 @@ wanted (makeDirectory path date) t = 1
 wanted (write path at v) t = pagesFor (max (size path t) (at + length v)) - pagesFor (size path t)
 wanted (removeFile path) t = 0
 wanted (removeDirectory path) t = 0
+wanted (setLock locked path) t = 0
 
 -- ---- the lines
 
@@ -103,13 +108,17 @@ rootLine path = (isRoot (pathOf path), refusal 14)
 abbrev pub walkLines : {A : Type 0} → Walked A → List Line
 walkLines w = (isMissing w, refusalAt 5 (stoppedAt w)) ∷ (isBlocked w, refusalAt 6 (stoppedAt w)) ∷ []
 
--- 7: read, write or the removal of a file: the path is a directory
+-- 7: read, write, the removal of a file, lock or unlock: the path is a directory
 abbrev pub directoryLine : Bytes → Tree → Line
 directoryLine path t = (isDirectoryNode (node path t), refusal 7)
 
+-- 25: write or the removal of a file: it is locked (paper 02 §10)
+abbrev pub lockLine : Bytes → Tree → Line
+lockLine path t = (isLockedNode (node path t), refusal 25)
+
 -- 12: read or write: the position is past the size
-abbrev pub fileLines : Bytes → ℕ → Tree → List Line
-fileLines path at t = directoryLine path t ∷ (ltb (size path t) at, refusal 12) ∷ []
+abbrev pub pastLine : Bytes → ℕ → Tree → Line
+pastLine path at t = (ltb (size path t) at, refusal 12)
 
 -- 11: the date is not good; then the walk of all names but the last; 8: the name is there already, or the path is `/`; 9: no empty entry
 unfoldable pub makeLines : Bytes → Bytes → Tree → List Line
@@ -127,12 +136,13 @@ earlier format t = []
 earlier verdict t = []
 earlier (find path) t = pathLine path ∷ walkLines (walked path t)
 earlier (list path i) t = pathLine path ∷ walkLines (walkedDirectory path t) ++ ((leb (width (directoryRow path t)) i, refusal 12) ∷ [])
-earlier (read path at buffer) t = pathLine path ∷ walkLines (walked path t) ++ fileLines path at t
+earlier (read path at buffer) t = pathLine path ∷ walkLines (walked path t) ++ (directoryLine path t ∷ pastLine path at t ∷ [])
 earlier (makeFile path date) t = makeLines path date t
 earlier (makeDirectory path date) t = makeLines path date t
-earlier (write path at v) t = pathLine path ∷ walkLines (walked path t) ++ fileLines path at t
-earlier (removeFile path) t = pathLine path ∷ rootLine path ∷ walkLines (walked path t) ++ (directoryLine path t ∷ [])
+earlier (write path at v) t = pathLine path ∷ walkLines (walked path t) ++ (directoryLine path t ∷ lockLine path t ∷ pastLine path at t ∷ [])
+earlier (removeFile path) t = pathLine path ∷ rootLine path ∷ walkLines (walked path t) ++ (directoryLine path t ∷ lockLine path t ∷ [])
 earlier (removeDirectory path) t = pathLine path ∷ rootLine path ∷ walkLines (walkedDirectory path t)
+earlier (setLock locked path) t = pathLine path ∷ walkLines (walked path t) ++ (directoryLine path t ∷ [])
 
 -- 10: more pages wanted than the free number; a call that needs none never gets it
 abbrev pub spaceLine : Call → Tree → Line
@@ -150,6 +160,7 @@ later (makeDirectory path date) t = []
 later (write path at v) t = []
 later (removeFile path) t = []
 later (removeDirectory path) t = (ltb 0 (held (directoryRow path t)), refusal 13) ∷ []
+later (setLock locked path) t = []
 
 unfoldable pub refusals : Call → Tree → List Line
 refusals c t = earlier c t ++ (spaceLine c t ∷ later c t)
@@ -165,4 +176,4 @@ Passes ls = settle ls some none ≡ none
 
 -- the paper's table from the top down; where 3 stood stand the faults of paper 02 §2, in the order told, and 15 is gone (paper 02 §9)
 unfoldable pub tableOrder : List ℕ
-tableOrder = 1 ∷ 2 ∷ 16 ∷ 17 ∷ 18 ∷ 20 ∷ 19 ∷ 3 ∷ 4 ∷ 11 ∷ 14 ∷ 5 ∷ 6 ∷ 8 ∷ 7 ∷ 12 ∷ 9 ∷ 10 ∷ 13 ∷ []
+tableOrder = 1 ∷ 2 ∷ 16 ∷ 17 ∷ 18 ∷ 20 ∷ 19 ∷ 3 ∷ 4 ∷ 11 ∷ 14 ∷ 5 ∷ 6 ∷ 8 ∷ 7 ∷ 25 ∷ 12 ∷ 9 ∷ 10 ∷ 13 ∷ []

@@ -16,25 +16,25 @@ use Rattle.model.specs.Entry.{entries, Entry, vacant, aFile, aDirectory,
 -- the pages that an entry owns, in order: a directory its start page, a file its chain
 unfoldable pub pagesOf : Bytes → Entry → List ℕ
 pagesOf b vacant = []
-pagesOf b (aFile name date start size) = chain (link b) (pagesFor size) start
+pagesOf b (aFile locked name date start size) = chain (link b) (pagesFor size) start
 pagesOf b (aDirectory name date start size) = start ∷ []
 
 -- A legal name; a directory has size 0x0100; the last page of a file has link 0. (Every file has a page, also an empty one: paper 02 §1.)
 unfoldable pub goodEntry : Bytes → Entry → Bool
 goodEntry b vacant = true
-goodEntry b (aFile name date start size) = legalName name && eqb (beyond (link b) (pagesFor size) start) 0
+goodEntry b (aFile locked name date start size) = legalName name && eqb (beyond (link b) (pagesFor size) start) 0
 goodEntry b (aDirectory name date start size) = legalName name && eqb size 0x0100
 
 -- an entry has this name: all 16 bytes are equal
 unfoldable pub isNamed : Bytes → Entry → Bool
 isNamed n vacant = false
-isNamed n (aFile name date start size) = same name n
+isNamed n (aFile locked name date start size) = same name n
 isNamed n (aDirectory name date start size) = same name n
 
 -- two entries have the same name
 unfoldable pub sameName : Entry → Entry → Bool
 sameName vacant e = false
-sameName (aFile name date start size) e = isNamed name e
+sameName (aFile locked name date start size) e = isNamed name e
 sameName (aDirectory name date start size) e = isNamed name e
 
 -- ---- one directory
@@ -49,7 +49,7 @@ namesApart b (at ∷ ats) = all (λ later. not (sameName (entryAt b at) (entryAt
 -- `below` of a directory's page, or a value for any other entry
 abbrev pub inDirectory {ℓ} : {A : Type ℓ} → A → (ℕ → A) → Entry → A
 inDirectory other below vacant = other
-inDirectory other below (aFile name date start size) = other
+inDirectory other below (aFile locked name date start size) = other
 inDirectory other below (aDirectory name date start size) = below start
 
 -- every entry good, and no two of one directory with the same name
@@ -64,7 +64,7 @@ goodDirectory (suc depth) b p = conditions (
 -- what is reached by way of the entry at position `at`: itself, and what is below it if it is a directory
 unfoldable pub reachedBy : ℕ → (ℕ → List ℕ) → Entry → List ℕ
 reachedBy at below vacant = []
-reachedBy at below (aFile name date start size) = at ∷ []
+reachedBy at below (aFile locked name date start size) = at ∷ []
 reachedBy at below (aDirectory name date start size) = at ∷ below start
 
 -- the positions of all files and directories: entries in order, a directory's contents directly after it

@@ -23,7 +23,7 @@ pub data Walked (A : Type 0) : Type 0 where
 -- into the directory of that name
 unfoldable pub enter : Name → Option Node → (Row → Walked Row) → Walked Row
 enter n none on = missing (n .begins)
-enter n (some (fileNode d v)) on = blocked (n .begins)
+enter n (some (fileNode l d v)) on = blocked (n .begins)
 enter n (some (directoryNode d r)) on = on r
 
 -- the directory that the names lead to
@@ -60,7 +60,7 @@ entryNamed b p n = first (λ at. isNamed n (entryAt b at)) (entries p)
 unfoldable pub enterOn : Name → Option Entry → (ℕ → Walked ℕ) → Walked ℕ
 enterOn n none on = missing (n .begins)
 enterOn n (some vacant) on = missing (n .begins)
-enterOn n (some (aFile name date start size)) on = blocked (n .begins)
+enterOn n (some (aFile locked name date start size)) on = blocked (n .begins)
 enterOn n (some (aDirectory name date start size)) on = on start
 
 -- the page of the directory that the names lead to from the one on page p

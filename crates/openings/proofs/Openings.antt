@@ -77,7 +77,7 @@ held-width : (r : Row) → held r ≤ width r
 unfolding held width
 held-width end = omega arith
 held-width (free r) = omega (arith, held-width r)
-held-width (file n d v r) = omega (arith, held-width r)
+held-width (file l n d v r) = omega (arith, held-width r)
 held-width (dir n d i r) = omega (arith, held-width r)
 
 row-full : (b : Bytes) (g : ℕ → Row) (ats : List ℕ) → eqb (held (rowOf b g ats)) (width (rowOf b g ats)) ≡ isNone (first (vacancy b) ats)
@@ -88,7 +88,7 @@ row-full b g (x ∷ xs) = go (entryAt b x) (row-full b g xs)
     go : (y : Entry) → eqb (held (rowOf b g xs)) (width (rowOf b g xs)) ≡ isNone (first (vacancy b) xs)
         → eqb (held (entryRow b g y (rowOf b g xs))) (width (entryRow b g y (rowOf b g xs))) ≡ isNone (if isVacant y then some x else first (vacancy b) xs)
     go vacant e = ne-eqb (held (rowOf b g xs)) (suc (width (rowOf b g xs))) (λ q. omega (arith, q, held-width (rowOf b g xs)))
-    go (aFile name date start k) e = eqb·suc-suc (held (rowOf b g xs)) (width (rowOf b g xs)) ∙ e
+    go (aFile locked name date start k) e = eqb·suc-suc (held (rowOf b g xs)) (width (rowOf b g xs)) ∙ e
     go (aDirectory name date start k) e = eqb·suc-suc (held (rowOf b g xs)) (width (rowOf b g xs)) ∙ e
 
 -- ---- the lines behind the path and the date

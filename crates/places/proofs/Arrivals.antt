@@ -11,7 +11,7 @@ use lib.Dec.{T}
 use Rattle.volume.specs.Bytes.{Bytes, if_then_else_}
 use Rattle.volume.specs.Chain.{chain}
 use Rattle.model.specs.Layout.{pageCount, pagesFor, link}
-use Rattle.model.specs.Entry.{Entry, vacant, aFile, aDirectory, nameAt, startAt, sizeAt, dateAt, occupied, isDirectory, entryAt}
+use Rattle.model.specs.Entry.{isLocked, Entry, vacant, aFile, aDirectory, nameAt, startAt, sizeAt, dateAt, occupied, isDirectory, entryAt}
 use Rattle.model.specs.Sound.{pagesOf, isNamed}
 use Rattle.model.specs.Tree.{Row, Node, fileNode, directoryNode, lookup}
 use Rattle.model.specs.Path.{Name, Path, noPath, root, below}
@@ -24,12 +24,12 @@ use Rattle.places.specs.Places.{Spot, theRoot, theFile, theDirectory, sp
 
 -- ---- an entry by its fields
 
-file-read : (b : Bytes) (at : ℕ) {name date : Bytes} {start size : ℕ} → entryAt b at ≡ aFile name date start size → entryAt b at ≡ aFile (nameAt b at) (dateAt b at) start size
+file-read : (b : Bytes) (at : ℕ) {locked : Bool} {name date : Bytes} {start size : ℕ} → entryAt b at ≡ aFile locked name date start size → entryAt b at ≡ aFile (isLocked b at) (nameAt b at) (dateAt b at) start size
 unfolding entryAt
-file-read b at {name} {date} {start} {size} e = go (occupied b at) (isDirectory b at) e
+file-read b at {locked} {name} {date} {start} {size} e = go (occupied b at) (isDirectory b at) e
   where
-    go : (o d : Bool) → (if o then (if d then aDirectory (nameAt b at) (dateAt b at) (startAt b at) (sizeAt b at) else aFile (nameAt b at) (dateAt b at) (startAt b at) (sizeAt b at)) else vacant) ≡ aFile name date start size
-        → (if o then (if d then aDirectory (nameAt b at) (dateAt b at) (startAt b at) (sizeAt b at) else aFile (nameAt b at) (dateAt b at) (startAt b at) (sizeAt b at)) else vacant) ≡ aFile (nameAt b at) (dateAt b at) start size
+    go : (o d : Bool) → (if o then (if d then aDirectory (nameAt b at) (dateAt b at) (startAt b at) (sizeAt b at) else aFile (isLocked b at) (nameAt b at) (dateAt b at) (startAt b at) (sizeAt b at)) else vacant) ≡ aFile locked name date start size
+        → (if o then (if d then aDirectory (nameAt b at) (dateAt b at) (startAt b at) (sizeAt b at) else aFile (isLocked b at) (nameAt b at) (dateAt b at) (startAt b at) (sizeAt b at)) else vacant) ≡ aFile (isLocked b at) (nameAt b at) (dateAt b at) start size
     go true true k = cc k
     go true false k = cc k
     go false d k = cc k
@@ -39,8 +39,8 @@ directory-read : (b : Bytes) (at : ℕ) {name date : Bytes} {start size : ℕ} �
 unfolding entryAt
 directory-read b at {name} {date} {start} {size} e = go (occupied b at) (isDirectory b at) e
   where
-    go : (o d : Bool) → (if o then (if d then aDirectory (nameAt b at) (dateAt b at) (startAt b at) (sizeAt b at) else aFile (nameAt b at) (dateAt b at) (startAt b at) (sizeAt b at)) else vacant) ≡ aDirectory name date start size
-        → (if o then (if d then aDirectory (nameAt b at) (dateAt b at) (startAt b at) (sizeAt b at) else aFile (nameAt b at) (dateAt b at) (startAt b at) (sizeAt b at)) else vacant) ≡ aDirectory (nameAt b at) (dateAt b at) start size
+    go : (o d : Bool) → (if o then (if d then aDirectory (nameAt b at) (dateAt b at) (startAt b at) (sizeAt b at) else aFile (isLocked b at) (nameAt b at) (dateAt b at) (startAt b at) (sizeAt b at)) else vacant) ≡ aDirectory name date start size
+        → (if o then (if d then aDirectory (nameAt b at) (dateAt b at) (startAt b at) (sizeAt b at) else aFile (isLocked b at) (nameAt b at) (dateAt b at) (startAt b at) (sizeAt b at)) else vacant) ≡ aDirectory (nameAt b at) (dateAt b at) start size
     go true true k = cc k
     go true false k = cc k
     go false d k = cc k
@@ -53,7 +53,7 @@ nodeAt b (theFile at begins start size) = nodeOf b (rowAt (pageCount b - 1) b) (
 nodeAt b (theDirectory at begins start size) = nodeOf b (rowAt (pageCount b - 1) b) (entryAt b at)
 
 module _ (b : Bytes) (at begins start k : ℕ) where
-  pub file-node : entryAt b at ≡ aFile (nameAt b at) (dateAt b at) start k → nodeAt b (theFile at begins start k) ≡ fileNode (dateAt b at) (contentOf b k (chain (link b) (pagesFor k) start))
+  pub file-node : entryAt b at ≡ aFile (isLocked b at) (nameAt b at) (dateAt b at) start k → nodeAt b (theFile at begins start k) ≡ fileNode (isLocked b at) (dateAt b at) (contentOf b k (chain (link b) (pagesFor k) start))
   unfolding nodeOf pagesOf
   file-node is = ap (nodeOf b (rowAt (pageCount b - 1) b)) is
 
@@ -73,7 +73,7 @@ module _ (b : Bytes) (f : Facts b) where
     where
       go : (x : Entry) → entryAt b at ≡ x → T (isNamed (n .bytes) x) → arrived (nodeOf b (rowAt (pageCount b - 1) b) (entryAt b at)) ≡ mapWalked (nodeAt b) (spotAt n at x)
       go vacant q h = absurd h
-      go (aFile name date start size) q h = refl
+      go (aFile locked name date start size) q h = refl
       go (aDirectory name date start size) q h = refl
 
   pub walk-located : (p : Path) → walkTo p (treeOf b .root) ≡ mapWalked (nodeAt b) (located b p)
@@ -103,7 +103,7 @@ pub record EntryOf (b : Bytes) (p : Path) (at begins : ℕ) : Type 0 where
 
 abbrev pub At : Bytes → Path → Spot → Type 0
 At b p theRoot = p ≡ root
-At b p (theFile at begins start size) = EntryOf b p at begins × (entryAt b at ≡ aFile (nameAt b at) (dateAt b at) start size)
+At b p (theFile at begins start size) = EntryOf b p at begins × (entryAt b at ≡ aFile (isLocked b at) (nameAt b at) (dateAt b at) start size)
 At b p (theDirectory at begins start size) = EntryOf b p at begins × (entryAt b at ≡ aDirectory (nameAt b at) (dateAt b at) start size)
 
 abbrev AtEnd : Bytes → Path → Walked Spot → Type 0
@@ -119,7 +119,7 @@ at-end b (below ns n) = by-page (walkOn b ns 0) refl
   where
     by-entry : (t : ℕ) → walkOn b ns 0 ≡ arrived t → (at : ℕ) → entryNamed b t (n .bytes) ≡ some at → (x : Entry) → entryAt b at ≡ x → AtEnd b (below ns n) (spotAt n at x)
     by-entry t w at o vacant q = tt
-    by-entry t w at o (aFile name date start size) q = (record { ns = ns; n = n; is = refl; first = refl; page = t; reached = w; found = o }, file-read b at q)
+    by-entry t w at o (aFile locked name date start size) q = (record { ns = ns; n = n; is = refl; first = refl; page = t; reached = w; found = o }, file-read b at q)
     by-entry t w at o (aDirectory name date start size) q = (record { ns = ns; n = n; is = refl; first = refl; page = t; reached = w; found = o }, directory-read b at q)
 
     by-name : (t : ℕ) → walkOn b ns 0 ≡ arrived t → (o : Option ℕ) → entryNamed b t (n .bytes) ≡ o → AtEnd b (below ns n) (spotNamed b n o)

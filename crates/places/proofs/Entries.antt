@@ -2,7 +2,7 @@
 use mathlib.Core.Path.{_≡_, refl, _∙_, subst}
 use Prim.Native.Nat.{ℕ, zero, suc, _+_, _≤_, _<_}
 use native.Mathlib.Omega.{arith}
-use mathlib.Core.Bool.{not}
+use mathlib.Core.Bool.{Bool, not}
 use mathlib.Core.Option.{Option, none, some, Option·map}
 use mathlib.Core.List.{List, [], _∷_, _++_}
 use lib.ListN.{length}
@@ -43,12 +43,12 @@ module _ (b : Bytes) (f : Facts b) (ns : List Name) (t : ℕ) (come : walkOn b n
     owned-by y is = subst (λ (z : Entry). Owned b (own (leads .0) b z)) is (entry-owned b f ns (leads .0) t at (leads .1) m)
 
     module _ {name date : Bytes} {start k : ℕ} where
-      pub chain-owned : entryAt b at ≡ aFile name date start k → Owned b (chain (link b) (pagesFor k) start)
+      pub chain-owned : {locked : Bool} → entryAt b at ≡ aFile locked name date start k → Owned b (chain (link b) (pagesFor k) start)
       unfolding own pagesOf
-      chain-owned is = owned-by (aFile name date start k) is
+      chain-owned {locked} is = owned-by (aFile locked name date start k) is
 
       -- a file's size is the length of its content
-      pub size-told : entryAt b at ≡ aFile name date start k → length (contentOf b k (chain (link b) (pagesFor k) start)) ≡ k
+      pub size-told : {locked : Bool} → entryAt b at ≡ aFile locked name date start k → length (contentOf b k (chain (link b) (pagesFor k) start)) ≡ k
       size-told is = content-length b start k (λ q n. omega (arith, chain-owned is .inside q n .1, size b f .whole))
 
       page-owned : entryAt b at ≡ aDirectory name date start k → (1 ≤ start) × (start < pageCount b)
@@ -68,13 +68,13 @@ module _ (b : Bytes) (f : Facts b) (p : Path) (at begins : ℕ) (x : EntryOf b p
   entry-inside = entry-slot .inside
 
   module _ {name date : Bytes} {start k : ℕ} where
-    pub file-owned : entryAt b at ≡ aFile name date start k → Owned b (chain (link b) (pagesFor k) start)
+    pub file-owned : {locked : Bool} → entryAt b at ≡ aFile locked name date start k → Owned b (chain (link b) (pagesFor k) start)
     file-owned is = chain-owned b f (x .ns) (x .page) (x .reached) at among is
 
-    pub file-inside : entryAt b at ≡ aFile name date start k → Under (pageCount b) (chain (link b) (pagesFor k) start)
+    pub file-inside : {locked : Bool} → entryAt b at ≡ aFile locked name date start k → Under (pageCount b) (chain (link b) (pagesFor k) start)
     file-inside is = under-of-mem (pageCount b) (chain (link b) (pagesFor k) start) (λ q m. file-owned is .inside q m .1)
 
-    pub file-size : entryAt b at ≡ aFile name date start k → length (contentOf b k (chain (link b) (pagesFor k) start)) ≡ k
+    pub file-size : {locked : Bool} → entryAt b at ≡ aFile locked name date start k → length (contentOf b k (chain (link b) (pagesFor k) start)) ≡ k
     file-size is = size-told b f (x .ns) (x .page) (x .reached) at among is
 
     pub directory-inside : entryAt b at ≡ aDirectory name date start k → (1 ≤ start) × (start < pageCount b)
@@ -100,7 +100,7 @@ walk-last b (m ∷ ns) n p = go (Option·map (entryAt b) (entryNamed b p (m .byt
     go : (o : Option Entry) → ((q : ℕ) → walkOn b (ns ++ (n ∷ [])) q ≡ inWalked (walkOn b ns q) into) → enterOn m o (walkOn b (ns ++ (n ∷ []))) ≡ inWalked (enterOn m o (walkOn b ns)) into
     go none h = refl
     go (some vacant) h = refl
-    go (some (aFile name date start size)) h = refl
+    go (some (aFile locked name date start size)) h = refl
     go (some (aDirectory name date start size)) h = h start
 
 pub walk-entered : (b : Bytes) (p : Path) → T (not (isNoPath p)) → walkOn b (names p) 0 ≡ inWalked (located b p) entered
@@ -111,7 +111,7 @@ walk-entered b (below ns n) h = walk-last b ns n 0 ∙ by-page (walkOn b ns 0)
   where
     by-entry : (at : ℕ) (x : Entry) → enterOn n (some x) arrived ≡ inWalked (spotAt n at x) entered
     by-entry at vacant = refl
-    by-entry at (aFile name date start size) = refl
+    by-entry at (aFile locked name date start size) = refl
     by-entry at (aDirectory name date start size) = refl
 
     by-name : (o : Option ℕ) → enterOn n (Option·map (entryAt b) o) arrived ≡ inWalked (spotNamed b n o) entered

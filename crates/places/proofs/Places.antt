@@ -48,9 +48,9 @@ module _ (b : Bytes) (p : ℕ) (n : Name) {m : Bytes} (is : m ≡ n .bytes) wher
     unfolding spotAt walkedAnswer
     named-vacant = named at e vacant
 
-    pub named-file : {name date : Bytes} {start size : ℕ} → aFile name date start size ≡ entryAt b at → granted (theFile at (n .begins) start size) ≡ placeNamed b p n
+    pub named-file : {locked : Bool} {name date : Bytes} {start size : ℕ} → aFile locked name date start size ≡ entryAt b at → granted (theFile at (n .begins) start size) ≡ placeNamed b p n
     unfolding spotAt walkedAnswer
-    named-file {name} {date} {start} {size} = named at e (aFile name date start size)
+    named-file {locked} {name} {date} {start} {size} = named at e (aFile locked name date start size)
 
     pub named-directory : {name date : Bytes} {start size : ℕ} → aDirectory name date start size ≡ entryAt b at
         → granted (theDirectory at (n .begins) start size) ≡ placeNamed b p n

@@ -26,7 +26,7 @@ pub data Spot : Type 0 where
 -- No entry that has a name is vacant.
 unfoldable pub spotAt : Name → (position : ℕ) → Entry → Walked Spot
 spotAt n at vacant = missing (n .begins)
-spotAt n at (aFile name date start size) = arrived (theFile at (n .begins) start size)
+spotAt n at (aFile locked name date start size) = arrived (theFile at (n .begins) start size)
 spotAt n at (aDirectory name date start size) = arrived (theDirectory at (n .begins) start size)
 
 unfoldable pub spotNamed : Bytes → Name → Option ℕ → Walked Spot

@@ -3,7 +3,7 @@ use Rattle.model.specs.Call.{Refusal as Model, refusal, refusalAt}
 use Rattle.model.specs.Meaning.{faultTold}
 use Rattle.judge.specs.Answers.{faultOf}
 use Rattle.refusals.specs.declared.Refusal.{Refusal}
-use Rattle.refusals.specs.declared.Refusal.the-variants.{BadLength, BadHeader, Unsound, NoPath, BadDate, IsRoot, NoSuchName, NotADirectory, NameTaken, IsADirectory, PastEnd, DirectoryFull, NoFreePages, NotEmpty}
+use Rattle.refusals.specs.declared.Refusal.the-variants.{BadLength, BadHeader, Unsound, NoPath, BadDate, IsRoot, NoSuchName, NotADirectory, NameTaken, IsADirectory, Locked, PastEnd, DirectoryFull, NoFreePages, NotEmpty}
 
 abbrev pub told : Refusal → Model
 told BadLength = refusal 1
@@ -16,6 +16,7 @@ told (NoSuchName byte) = refusalAt 5 byte
 told (NotADirectory byte) = refusalAt 6 byte
 told NameTaken = refusal 8
 told IsADirectory = refusal 7
+told Locked = refusal 25
 told PastEnd = refusal 12
 told DirectoryFull = refusal 9
 told NoFreePages = refusal 10

@@ -26,8 +26,10 @@ pub enum Refusal {
     NotADirectory(usize),
     // 8: make: the name is there already, or the path is `/`.
     NameTaken,
-    // 7: read, write or remove file: the path is a directory.
+    // 7: read, write, remove file, lock or unlock: the path is a directory.
     IsADirectory,
+    // 25: write or remove file: the file is locked (02 §10).
+    Locked,
     // 12: the position is past the size, or the entry number past the directory's last.
     PastEnd,
     // 9: make: no empty entry.
@@ -67,6 +69,7 @@ pub fn number(r: Refusal) -> u8
         Refusal::NotADirectory(_) => 6,
         Refusal::NameTaken => 8,
         Refusal::IsADirectory => 7,
+        Refusal::Locked => 25,
         Refusal::PastEnd => 12,
         Refusal::DirectoryFull => 9,
         Refusal::NoFreePages => 10,

@@ -162,6 +162,13 @@ fn sized(size: usize, date: &[u8]) {
     hex_row(date);
 }
 
+// A file's lock.
+fn marked(locked: bool) {
+    if locked {
+        put(b" locked");
+    }
+}
+
 // ---- the calls
 
 pub fn format(image: &mut [u8]) {
@@ -192,8 +199,9 @@ pub fn find(image: &[u8], path: &[u8]) {
     let answer = found.answer;
     let date = found.date;
     match answer {
-        FindAnswer::File(size) => {
+        FindAnswer::File(size, locked) => {
             put(b"file");
+            marked(locked);
             sized(size, &date);
         }
         FindAnswer::Directory => {
@@ -216,9 +224,10 @@ pub fn list(image: &[u8], path: &[u8], i: usize) {
     let date = listed.date;
     match answer {
         ListAnswer::Empty => put(b"empty"),
-        ListAnswer::File(size) => {
+        ListAnswer::File(size, locked) => {
             put(b"file ");
             quoted(&name);
+            marked(locked);
             sized(size, &date);
         }
         ListAnswer::Directory => {
@@ -292,4 +301,16 @@ pub fn remove_directory(image: &mut [u8], path: &[u8]) {
     asked(b"remove_directory", path);
     arrow();
     changed(zealfs::remove_directory(image, path));
+}
+
+pub fn lock(image: &mut [u8], path: &[u8]) {
+    asked(b"lock", path);
+    arrow();
+    changed(zealfs::lock(image, path));
+}
+
+pub fn unlock(image: &mut [u8], path: &[u8]) {
+    asked(b"unlock", path);
+    arrow();
+    changed(zealfs::unlock(image, path));
 }

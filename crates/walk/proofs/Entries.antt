@@ -3,7 +3,7 @@ use mathlib.Core.Path.{_≡_, refl, sym, ap, _∙_}
 use mathlib.Core.Logic.{_⊎_, inl, inr}
 use Prim.Native.Nat.{ℕ, zero, suc, _+_, _*_, _≤_, _<_}
 use native.Mathlib.Omega.{arith}
-use mathlib.Core.Bool.{true, false}
+use mathlib.Core.Bool.{Bool, true, false}
 use mathlib.Core.Option.{none, some}
 use mathlib.Core.List.{map}
 use denote.Enum.Declared.{tagOf}
@@ -11,7 +11,7 @@ use lib.ListN.{length, List·getD-eq-default}
 use Rattle.volume.specs.Bytes.{Bytes, same}
 use Rattle.volume.specs.Lists.{first, countFrom}
 use Rattle.model.specs.Layout.{pageSize, pageCount}
-use Rattle.model.specs.Entry.{Entry as Model, vacant, aFile, aDirectory, entryCount, entriesStart, entries, nameAt, dateAt, entryAt}
+use Rattle.model.specs.Entry.{isLocked, Entry as Model, vacant, aFile, aDirectory, entryCount, entriesStart, entries, nameAt, dateAt, entryAt}
 use Rattle.model.specs.Sound.{isNamed}
 use Rattle.model.specs.Path.{Name}
 use Rattle.model.specs.Walk.{arrived, missing, blocked, entryNamed, enterOn}
@@ -22,16 +22,16 @@ use Rattle.fields.specs.declared.Entry.{Entry}
 use Rattle.fields.specs.declared.Entry.the-variants.{Vacant, File, Directory}
 use Rattle.fields.specs.Read.{entryOf}
 
-module _ (b n : Bytes) (at : ℕ) (r : Entry) (read : entryOf r (nameAt b at) (dateAt b at) ≡ entryAt b at) where
+module _ (b n : Bytes) (at : ℕ) (r : Entry) (read : entryOf r (isLocked b at) (nameAt b at) (dateAt b at) ≡ entryAt b at) where
   pub vacant-unnamed : r ≡ Vacant → false ≡ isNamed n (entryAt b at)
   unfolding isNamed
-  vacant-unnamed v = ap (isNamed n) (ap (λ (s : Entry). entryOf s (nameAt b at) (dateAt b at)) (sym v) ∙ read)
+  vacant-unnamed v = ap (isNamed n) (ap (λ (s : Entry). entryOf s (isLocked b at) (nameAt b at) (dateAt b at)) (sym v) ∙ read)
 
   pub occupied-named : (tagOf the-type r ≡ 1) ⊎ (tagOf the-type r ≡ 2) → same (nameAt b at) n ≡ isNamed n (entryAt b at)
   unfolding isNamed
   occupied-named o = named r o ∙ ap (isNamed n) read
     where
-      named : (s : Entry) → (tagOf the-type s ≡ 1) ⊎ (tagOf the-type s ≡ 2) → same (nameAt b at) n ≡ isNamed n (entryOf s (nameAt b at) (dateAt b at))
+      named : (s : Entry) → (tagOf the-type s ≡ 1) ⊎ (tagOf the-type s ≡ 2) → same (nameAt b at) n ≡ isNamed n (entryOf s (isLocked b at) (nameAt b at) (dateAt b at))
       named Vacant k = elim k [ inl u ↦ absurd (omega arith) | inr u ↦ absurd (omega arith) ]
       named (File start size) k = refl
       named (Directory start size) k = refl
@@ -80,9 +80,9 @@ module _ (b : Bytes) (n : Name) (p : ℕ) where
     unfolding enterOn
     entry-vacant = entry-read vacant
 
-    pub entry-file : {name date : Bytes} {start size : ℕ} → aFile name date start size ≡ entryAt b at → blocked (n .begins) ≡ entered b n p
+    pub entry-file : {locked : Bool} {name date : Bytes} {start size : ℕ} → aFile locked name date start size ≡ entryAt b at → blocked (n .begins) ≡ entered b n p
     unfolding enterOn
-    entry-file {name} {date} {start} {size} = entry-read (aFile name date start size)
+    entry-file {locked} {name} {date} {start} {size} = entry-read (aFile locked name date start size)
 
     pub entry-directory : {name date : Bytes} {start size : ℕ} → aDirectory name date start size ≡ entryAt b at → arrived start ≡ entered b n p
     unfolding enterOn

@@ -67,7 +67,7 @@ enter-then : (n : Name) (o : Option Entry) (on : ℕ → Walked ℕ) → enterOn
 unfolding enterOn inWalked
 enter-then n none on = refl
 enter-then n (some vacant) on = refl
-enter-then n (some (aFile name date start size)) on = refl
+enter-then n (some (aFile locked name date start size)) on = refl
 enter-then n (some (aDirectory name date start size)) on = refl
 
 walk-step : (b : Bytes) (n : Name) (ns : List Name) (p : ℕ) → walkOn b (n ∷ ns) p ≡ inWalked (entered b n p) (walkOn b ns)

@@ -1,19 +1,18 @@
--- Read and write: both walk to a file, refuse a directory and a position past its size, and then ask for pages. What is left at a file's place is
--- the call's own.
+-- Read, write and lock: they walk to a file and refuse a directory; read and write also refuse a position past its size, and then ask for pages.
+-- What is left at a file's place is the call's own.
 use mathlib.Core.Path.{_≡_, sym, ap, _∙_}
 use mathlib.Core.Logic.{_⊎_, inl, inr}
-use Prim.Native.Nat.{ℕ, _≤_, _<_}
+use Prim.Native.Nat.{ℕ}
 use native.Mathlib.Omega.{arith}
 use mathlib.Core.Bool.{false}
 use mathlib.Core.List.{List, [], _∷_, _++_}
 use lib.ListN.{length}
 use lib.Dec.{ltb}
-use borrow.Author.Tests.{lt-ltb, le-ltb}
 use denote.Enum.Declared.{tagOf}
 use Rattle.volume.specs.Bytes.{Bytes}
 use Rattle.volume.specs.Chain.{chain}
 use Rattle.model.specs.Layout.{pagesFor, link}
-use Rattle.model.specs.Entry.{dateAt}
+use Rattle.model.specs.Entry.{isLocked, dateAt}
 use Rattle.model.specs.Tree.{Node, fileNode}
 use Rattle.model.specs.Path.{pathOf}
 use Rattle.model.specs.Image.{contentOf, treeOf}
@@ -28,9 +27,17 @@ use Rattle.places.proofs.Arrivals.{nodeAt, file-node, directory-node}
 use Rattle.places.proofs.Entries.{file-size}
 use Rattle.places.proofs.Settled.{opened, Arrived, placed-arrived, node-settled}
 
--- the lines of a call on a file, with that of number 10
-abbrev pub fileCall : (from : ℕ) → (Node → Line) → Node → List Line
-fileCall from space n = (isDirectoryNode n, refusal 7) ∷ (ltb (length (contentIn n)) from, refusal 12) ∷ space n ∷ []
+-- the lines of a call on a file: a directory is refused, and the rest is the call's own
+abbrev pub fileCall : (Node → List Line) → Node → List Line
+fileCall rest n = (isDirectoryNode n, refusal 7) ∷ rest n
+
+-- 12, and then number 10
+abbrev pub pastOr : (from : ℕ) → (Node → Line) → Node → List Line
+pastOr from space n = (ltb (length (contentIn n)) from, refusal 12) ∷ space n ∷ []
+
+-- a file in the tree, by its entry
+abbrev pub fileAt : Bytes → (entry start size : ℕ) → Node
+fileAt b entry start k = fileNode (isLocked b entry) (dateAt b entry) (contentOf b k (chain (link b) (pagesFor k) start))
 
 -- what is left of a file's node: its content is as long as its size
 pub record Content (b path : Bytes) (entry begins start k : ℕ) : Type 0 where
@@ -43,17 +50,17 @@ content-at b path {entry} {begins} {start} {k} e =
     record { arrived = a; long = file-size b (a .facts) (pathOf path) entry begins (a .at .0) (a .at .1) }
 
 -- what a call does: f of a refusal, or x of what the path leads to
-module _ {A : Type 0} (b path : Bytes) (from : ℕ) (c : Call) (other : isFormat c ≡ false) (space : Node → Line)
-    (is : refusals c (treeOf b) ≡ pathLine path ∷ (walkLines (walked path (treeOf b)) ++ fileCall from space (node path (treeOf b))))
+module _ {A : Type 0} (b path : Bytes) (c : Call) (other : isFormat c ≡ false) (rest : Node → List Line)
+    (is : refusals c (treeOf b) ≡ pathLine path ∷ (walkLines (walked path (treeOf b)) ++ fileCall rest (node path (treeOf b))))
     (f : Refusal → A) (x : Node → A) where
   abbrev does : A
   does = settle (lines c b) f (x (node path (treeOf b)))
 
   abbrev left : Spot → A
-  left s = settle (fileCall from space (nodeAt b s)) f (x (nodeAt b s))
+  left s = settle (fileCall rest (nodeAt b s)) f (x (nodeAt b s))
 
   by-place : does ≡ opened f left (placed b path)
-  by-place = node-settled b path f c other (fileCall from space) x is
+  by-place = node-settled b path f c other (fileCall rest) x is
 
   pub refused-does : {m : Refusal} → refused m ≡ placed b path → f m ≡ does
   refused-does e = ap (opened f left) e ∙ sym by-place
@@ -67,22 +74,12 @@ module _ {A : Type 0} (b path : Bytes) (from : ℕ) (c : Call) (other : isFormat
   directory-does place.Root k e = at-place theRoot e
   directory-does (place.File t) k e = elim k [ inl u ↦ absurd (omega (arith, u)) | inr u ↦ absurd (omega (arith, u)) ]
   directory-does (place.Directory t) k e =
-      ap (λ (n : Node). settle (fileCall from space n) f (x n)) (sym (directory-node b (t .entry) (t .begins) (t .start .0) (t .size) (placed-arrived b path (spotOf (place.Directory t)) e .at .1)))
+      ap (λ (n : Node). settle (fileCall rest n) f (x n)) (sym (directory-node b (t .entry) (t .begins) (t .start .0) (t .size) (placed-arrived b path (spotOf (place.Directory t)) e .at .1)))
       ∙ at-place (spotOf (place.Directory t)) e
 
   module _ {entry begins start k : ℕ} (e : granted (theFile entry begins start k) ≡ placed b path) where
-    abbrev there : Node
-    there = fileNode (dateAt b entry) (contentOf b k (chain (link b) (pagesFor k) start))
-
-    file-at : settle (fileCall from space there) f (x there) ≡ does
-    file-at =
-        ap (λ (n : Node). settle (fileCall from space n) f (x n)) (sym (file-node b entry begins start k (placed-arrived b path (theFile entry begins start k) e .at .1)))
+    pub file-does : settle (rest (fileAt b entry start k)) f (x (fileAt b entry start k)) ≡ does
+    unfolding settle isDirectoryNode
+    file-does =
+        ap (λ (n : Node). settle (fileCall rest n) f (x n)) (sym (file-node b entry begins start k (placed-arrived b path (theFile entry begins start k) e .at .1)))
         ∙ at-place (theFile entry begins start k) e
-
-    pub past-does : k < from → f (refusal 12) ≡ does
-    unfolding settle isDirectoryNode contentIn
-    past-does h = rw (content-at b path e .long, lt-ltb k from h) at file-at
-
-    pub file-does : from ≤ k → settle (space there ∷ []) f (x there) ≡ does
-    unfolding settle isDirectoryNode contentIn
-    file-does h = rw (content-at b path e .long, le-ltb k from h) at file-at

@@ -1,12 +1,13 @@
 -- Find: at each place that a path leads to, what its entry says.
 use mathlib.Core.Path.{_≡_, refl, sym, ap, ap₂, _∙_}
 use Prim.Native.Nat.{ℕ}
+use mathlib.Core.Bool.{Bool}
 use mathlib.Core.List.{[], _∷_}
 use lib.ListN.{replicate}
 use lib.Dec.{leb·suc-zero}
 use Rattle.volume.specs.Bytes.{Bytes}
 use Rattle.model.specs.Layout.{pageSize}
-use Rattle.model.specs.Entry.{dateAt}
+use Rattle.model.specs.Entry.{isLocked, dateAt}
 use Rattle.model.specs.Tree.{Node, freeNumber}
 use Rattle.model.specs.Path.{pathOf}
 use Rattle.model.specs.Image.{treeOf}
@@ -63,11 +64,12 @@ module _ (b path : Bytes) where
         ∙ ap (λ (x : Node). granted (foundAt x)) (sym (directory-node b at begins start k (s .at .1))) ∙ at-place (theDirectory at begins start k) e in
         (a, ap findDate a)
 
-    pub find-file : granted (theFile at begins start k) ≡ placed b path → Finds isFile k date
+    pub find-file : {locked : Bool} → locked ≡ isLocked b at → granted (theFile at begins start k) ≡ placed b path → Finds (isFile locked) k date
     unfolding foundAt findDate
-    find-file e =
+    find-file {locked} l e =
         let s = placed-arrived b path (theFile at begins start k) e in
-        let a : granted (record { kind = isFile; size = k; date = date }) ≡ answer (find path) b =
-        ap₂ (λ (n : ℕ) (v : Bytes). granted (record { kind = isFile; size = n; date = v })) (sym (file-size b (s .facts) (pathOf path) at begins (s .at .0) (s .at .1))) d
+        let a : granted (record { kind = isFile locked; size = k; date = date }) ≡ answer (find path) b =
+        ap (λ (c : Bool). granted (record { kind = isFile c; size = k; date = date })) l
+        ∙ ap₂ (λ (n : ℕ) (v : Bytes). granted (record { kind = isFile (isLocked b at); size = n; date = v })) (sym (file-size b (s .facts) (pathOf path) at begins (s .at .0) (s .at .1))) d
         ∙ ap (λ (x : Node). granted (foundAt x)) (sym (file-node b at begins start k (s .at .1))) ∙ at-place (theFile at begins start k) e in
         (a, ap findDate a)

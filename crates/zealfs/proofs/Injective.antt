@@ -1,6 +1,7 @@
 -- The model's answer tells the case of a call's enum: two cases that differ answer differently.
 use mathlib.Core.Path.{_≡_, refl, sym, ap, ap₂, _∙_}
 use Prim.Native.Nat.{ℕ}
+use mathlib.Core.Bool.{Bool}
 use Rattle.volume.specs.Bytes.{Bytes}
 use Rattle.model.specs.Call.{Kind, isFile, isDirectory, Verdict, Found as Finding, Listed as Listing, empty, holds, Answer, refused, granted}
 use Rattle.refusals.proofs.Injective.{case, case-told}
@@ -44,17 +45,17 @@ verdict-injective r s e = sym (verdict-case r) ∙ ap verdictCase e ∙ verdict-
 
 -- ---- with what stands beside the answer: at most one result says what the model says
 
-kindOf : {A : Type 0} → A → A → Kind → A
-kindOf x y isFile = x
+kindOf : {A : Type 0} → (Bool → A) → A → Kind → A
+kindOf x y (isFile locked) = x locked
 kindOf x y isDirectory = y
 
 unfoldable findCase : Answer Finding → FindAnswer
 findCase (refused m) = find.Refused (case m)
-findCase (granted f) = kindOf (find.File (f .size)) find.Directory (f .kind)
+findCase (granted f) = kindOf (λ locked. find.File (f .size) locked) find.Directory (f .kind)
 
 find-case : (x : FindAnswer) (date : Bytes) → findCase (findAnswer x date) ≡ x
 unfolding findCase kindOf
-find-case (find.File size) date = refl
+find-case (find.File size locked) date = refl
 find-case find.Directory date = refl
 find-case (find.Refused r) date = ap find.Refused (case-told r)
 
@@ -66,12 +67,12 @@ find-injective r s a h k = ap₂ (λ (x : FindAnswer) (date : Bytes). record { a
 unfoldable listCase : Answer Listing → ListAnswer
 listCase (refused m) = list.Refused (case m)
 listCase (granted empty) = list.Empty
-listCase (granted (holds kind name size date)) = kindOf (list.File size) list.Directory kind
+listCase (granted (holds kind name size date)) = kindOf (λ locked. list.File size locked) list.Directory kind
 
 list-case : (x : ListAnswer) (name date : Bytes) → listCase (listAnswer x name date) ≡ x
 unfolding listCase kindOf
 list-case list.Empty name date = refl
-list-case (list.File size) name date = refl
+list-case (list.File size locked) name date = refl
 list-case list.Directory name date = refl
 list-case (list.Refused r) name date = ap list.Refused (case-told r)
 

@@ -6,5 +6,6 @@ pub mod Files
 pub mod Readings
 pub mod Writings
 pub mod Removes
+pub mod Locks
 pub mod Makes
 pub mod Injective

@@ -11,7 +11,7 @@ use Rattle.volume.specs.Lists.{countFrom}
 use Rattle.volume.specs.Chain.{chain}
 use Rattle.volume.proofs.Occ.{Mem, mem-head, mem-tail}
 use Rattle.model.specs.Layout.{pageSize, pageCount, pagesFor, link}
-use Rattle.model.specs.Entry.{entryCount, entriesStart, entries, nameAt, dateAt, Entry, vacant, aFile, aDirectory, entryAt}
+use Rattle.model.specs.Entry.{entryCount, entriesStart, entries, isLocked, nameAt, dateAt, Entry, vacant, aFile, aDirectory, entryAt}
 use Rattle.model.specs.Sound.{pagesOf}
 use Rattle.model.specs.Tree.{Row, end, width, freeNumber}
 use Rattle.model.specs.Path.{Name, pathOf, isNoPath, names}
@@ -42,25 +42,25 @@ listedOf b (at ∷ ats) (suc i) = listedOf b ats i
 
 -- the files at these positions are as long as their sizes say
 abbrev Told : Bytes → List ℕ → Type 0
-Told b ats = (at : ℕ) → Mem at ats → (name date : Bytes) (start k : ℕ) → entryAt b at ≡ aFile name date start k → length (contentOf b k (chain (link b) (pagesFor k) start)) ≡ k
+Told b ats = (at : ℕ) → Mem at ats → (locked : Bool) (name date : Bytes) (start k : ℕ) → entryAt b at ≡ aFile locked name date start k → length (contentOf b k (chain (link b) (pagesFor k) start)) ≡ k
 
 abbrev rowAnswer : Row → ℕ → Answer Listed
 rowAnswer r i = if leb (width r) i then refused (refusal 12) else granted (listed r i)
 
 entry-first : (b : Bytes) (g : ℕ → Row) (at : ℕ) (rest : Row) → Told b (at ∷ []) → rowAnswer (entryRow b g (entryAt b at) rest) 0 ≡ granted (entryTold (entryAt b at))
 unfolding entryRow width listed entryTold pagesOf
-entry-first b g at rest h = go (entryAt b at) (λ name date start k. h at (mem-head at []) name date start k)
+entry-first b g at rest h = go (entryAt b at) (λ locked name date start k. h at (mem-head at []) locked name date start k)
   where
-    go : (x : Entry) → ((name date : Bytes) (start k : ℕ) → x ≡ aFile name date start k → length (contentOf b k (chain (link b) (pagesFor k) start)) ≡ k)
+    go : (x : Entry) → ((locked : Bool) (name date : Bytes) (start k : ℕ) → x ≡ aFile locked name date start k → length (contentOf b k (chain (link b) (pagesFor k) start)) ≡ k)
         → rowAnswer (entryRow b g x rest) 0 ≡ granted (entryTold x)
     go vacant h = rw (leb·suc-zero (width rest))
-    go (aFile name date start k) h = rw (leb·suc-zero (width rest), h name date start k refl)
+    go (aFile locked name date start k) h = rw (leb·suc-zero (width rest), h locked name date start k refl)
     go (aDirectory name date start k) h = rw (leb·suc-zero (width rest))
 
 entry-other : (b : Bytes) (g : ℕ → Row) (x : Entry) (rest : Row) (i : ℕ) → rowAnswer (entryRow b g x rest) (suc i) ≡ rowAnswer rest i
 unfolding entryRow width listed
 entry-other b g vacant rest i = rw (leb·suc-suc (width rest) i)
-entry-other b g (aFile name date start k) rest i = rw (leb·suc-suc (width rest) i)
+entry-other b g (aFile locked name date start k) rest i = rw (leb·suc-suc (width rest) i)
 entry-other b g (aDirectory name date start k) rest i = rw (leb·suc-suc (width rest) i)
 
 row-listed : (b : Bytes) (g : ℕ → Row) (ats : List ℕ) (i : ℕ) → Told b ats → rowAnswer (rowOf b g ats) i ≡ listedOf b ats i
@@ -86,7 +86,7 @@ unfolding rowAt
 directory-listed b f ns t come i =
     let deep : pageCount b ≡ suc (pageCount b - 1) = omega (arith, valid-sized b (f .fits) .low) in
     ap (λ (k : ℕ). rowAnswer (rowAt k b t) i) deep
-    ∙ row-listed b (rowAt (pageCount b - 1) b) (entries t) i (λ at m name date start k is. size-told b f ns t come at m is)
+    ∙ row-listed b (rowAt (pageCount b - 1) b) (entries t) i (λ at m locked name date start k is. size-told b f ns t come at m is)
     ∙ page-listed b t i
 
 -- ---- the call
@@ -168,10 +168,12 @@ module _ (b : Bytes) (p i : ℕ) where
       abbrev Says : Kind → ℕ → Type 0
       Says kind size = (granted (holds kind name size date) ≡ entryListed b p i) × (name ≡ listName (entryListed b p i)) × (date ≡ listDate (entryListed b p i))
 
-      pub listed-file : {start k : ℕ} → aFile (nameAt b at) (dateAt b at) start k ≡ entryAt b at → Says isFile k
+      pub listed-file : {locked : Bool} {start k : ℕ} → locked ≡ isLocked b at → aFile (isLocked b at) (nameAt b at) (dateAt b at) start k ≡ entryAt b at → Says (isFile locked) k
       unfolding entryTold listName listDate
-      listed-file {start} {k} e =
-          let a : granted (holds isFile name k date) ≡ entryListed b p i = ap₂ (λ (n d : Bytes). granted (holds isFile n k d)) isName isDate ∙ here (aFile (nameAt b at) (dateAt b at) start k) e in
+      listed-file {locked} {start} {k} l e =
+          let a : granted (holds (isFile locked) name k date) ≡ entryListed b p i =
+          ap (λ (c : Bool). granted (holds (isFile c) name k date)) l ∙ ap₂ (λ (n d : Bytes). granted (holds (isFile (isLocked b at)) n k d)) isName isDate
+          ∙ here (aFile (isLocked b at) (nameAt b at) (dateAt b at) start k) e in
           (a, ap listName a, ap listDate a)
 
       pub listed-directory : {start k : ℕ} → aDirectory (nameAt b at) (dateAt b at) start k ≡ entryAt b at → Says isDirectory pageSize

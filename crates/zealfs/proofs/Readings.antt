@@ -7,14 +7,14 @@ use mathlib.Core.List.{_∷_, _++_, flatMap}
 use lib.ListN.{length, take, drop, length-take, length-drop}
 use lib.Seq.{take-take}
 use lib.Dec.{leb·suc-zero}
+use borrow.Author.Tests.{lt-ltb, le-ltb}
 use denote.Enum.Declared.{tagOf}
 use Rattle.volume.specs.Bytes.{Bytes, put}
 use Rattle.volume.specs.Chain.{chain}
 use Rattle.volume.proofs.Splice.{drop-take}
 use Rattle.chains.proofs.Stretches.{take-min}
 use Rattle.model.specs.Layout.{pagesFor, link}
-use Rattle.model.specs.Entry.{dateAt}
-use Rattle.model.specs.Tree.{Node, fileNode, freeNumber}
+use Rattle.model.specs.Tree.{Node, freeNumber}
 use Rattle.model.specs.Image.{contentOn, contentOf, treeOf}
 use Rattle.model.specs.Call.{read, Refusal, refusal, Answer, refused, granted}
 use Rattle.model.specs.Refusal.{Line, pathLine, walkLines, contentIn, walked, node, spaceLine, wanted, earlier, later, refusals, settle}
@@ -22,7 +22,7 @@ use Rattle.model.specs.Meaning.{copied, told, filled, isFormat, lines, answer, 
 use Rattle.places.specs.Places.{theFile, placed, spotOf}
 use Rattle.places.specs.declared.Place.{Place}
 use Rattle.places.proofs.Place.{the-type}
-use Rattle.zealfs.proofs.Files.{fileCall, content-at, refused-does, directory-does, past-does, file-does}
+use Rattle.zealfs.proofs.Files.{fileCall, pastOr, fileAt, content-at, refused-does, directory-does, file-does}
 
 -- the bytes that a read copies of content of length k, and how many they are
 module _ (xs room : Bytes) (k at count : ℕ) (long : length (take k xs) ≡ k) (is : count ≡ min (length room) (k - at)) where
@@ -44,7 +44,7 @@ module _ (b path : Bytes) (at : ℕ) (room : Bytes) where
   abbrev space : Node → Line
   space n = spaceLine (read path at room) (treeOf b)
 
-  its-lines : refusals (read path at room) (treeOf b) ≡ pathLine path ∷ (walkLines (walked path (treeOf b)) ++ fileCall at space (node path (treeOf b)))
+  its-lines : refusals (read path at room) (treeOf b) ≡ pathLine path ∷ (walkLines (walked path (treeOf b)) ++ fileCall (pastOr at space) (node path (treeOf b)))
   unfolding refusals earlier later
   its-lines = refl
 
@@ -57,23 +57,26 @@ module _ (b path : Bytes) (at : ℕ) (room : Bytes) where
   pub read-refused : {m : Refusal} → refused m ≡ placed b path → Refuses m
   unfolding answer bufferAfter told filled isFormat
   read-refused e =
-      (refused-does b path at (read path at room) refl space its-lines refused counted e, refused-does b path at (read path at room) refl space its-lines (λ m. room) held e)
+      (refused-does b path (read path at room) refl (pastOr at space) its-lines refused counted e, refused-does b path (read path at room) refl (pastOr at space) its-lines (λ m. room) held e)
 
   pub read-directory : (p : Place) → (tagOf the-type p ≡ 0) ⊎ (tagOf the-type p ≡ 2) → granted (spotOf p) ≡ placed b path → Refuses (refusal 7)
   unfolding answer bufferAfter told filled isFormat
   read-directory p k e =
-      (directory-does b path at (read path at room) refl space its-lines refused counted p k e, directory-does b path at (read path at room) refl space its-lines (λ m. room) held p k e)
+      (directory-does b path (read path at room) refl (pastOr at space) its-lines refused counted p k e, directory-does b path (read path at room) refl (pastOr at space) its-lines (λ m. room) held p k e)
 
   module _ {entry begins start k : ℕ} (e : granted (theFile entry begins start k) ≡ placed b path) where
     pub read-past : k < at → Refuses (refusal 12)
-    unfolding answer bufferAfter told filled isFormat
-    read-past h =
-        (past-does b path at (read path at room) refl space its-lines refused counted e h, past-does b path at (read path at room) refl space its-lines (λ m. room) held e h)
+    unfolding answer bufferAfter told filled isFormat settle contentIn
+    read-past h = (
+      rw (content-at b path e .long, lt-ltb k at h) at (file-does b path (read path at room) refl (pastOr at space) its-lines refused counted e),
+      rw (content-at b path e .long, lt-ltb k at h) at (file-does b path (read path at room) refl (pastOr at space) its-lines (λ m. room) held e),
+    )
 
     -- a read wants no pages
-    file-done : {A : Type 0} (f : Refusal → A) (x : Node → A) → at ≤ k → x (fileNode (dateAt b entry) (contentOf b k (chain (link b) (pagesFor k) start))) ≡ settle (lines (read path at room) b) f (x (node path (treeOf b)))
-    unfolding settle wanted isFormat
-    file-done f x h = rw (leb·suc-zero (freeNumber (treeOf b))) at (file-does b path at (read path at room) refl space its-lines f x e h)
+    file-done : {A : Type 0} (f : Refusal → A) (x : Node → A) → at ≤ k → x (fileAt b entry start k) ≡ settle (lines (read path at room) b) f (x (node path (treeOf b)))
+    unfolding settle wanted isFormat contentIn
+    file-done f x h =
+        rw (content-at b path e .long, le-ltb k at h, leb·suc-zero (freeNumber (treeOf b))) at (file-does b path (read path at room) refl (pastOr at space) its-lines f x e)
 
     pub read-file : at ≤ k → (count : ℕ) → count ≡ min (length room) (k - at)
         → (granted count ≡ answer (read path at room) b)

@@ -1,25 +1,25 @@
--- The two removals: the root is refused before the walk, but the path `/` leads to it all the same; that of a file refuses a directory, and that of a
--- directory a file, as the walk would, and asks whether it holds anything.
+-- The two removals: the root is refused before the walk, but the path `/` leads to it all the same; that of a file refuses a directory and a locked
+-- file, and that of a directory a file, as the walk would, and asks whether it holds anything.
 use mathlib.Core.Path.{_≡_, refl, sym, ap, _∙_}
-use Prim.Native.Nat.{ℕ, suc, _-_, _<_}
+use Prim.Native.Nat.{ℕ, suc, _+_, _-_, _≤_, _<_}
 use native.Mathlib.Omega.{arith}
 use mathlib.Core.Bool.{Bool, true, false, not, true≢false}
 use mathlib.Core.List.{List, [], _∷_, _++_, foldl}
 use lib.ListN.{length, set}
-use lib.Dec.{T, ltb, leb·suc-zero}
+use lib.Dec.{ltb, leb·suc-zero}
 use Rattle.volume.specs.Bytes.{Bytes, if_then_else_}
 use Rattle.volume.specs.Lists.{all}
 use Rattle.volume.specs.Chain.{chain}
 use Rattle.volume.specs.Geometry as On
 use Rattle.model.specs.Layout.{version1, pageCount, pagesFor, link}
-use Rattle.model.specs.Entry.{entries}
+use Rattle.model.specs.Entry.{isLocked, entries}
 use Rattle.model.specs.Tree.{Row, end, held, freeNumber, Node, directoryNode}
 use Rattle.model.specs.Path.{Name, Path, noPath, root, below, pathOf, isNoPath, isRoot, names}
 use Rattle.model.specs.Image.{rowAt, treeOf}
 use Rattle.model.specs.Walk.{Walked, arrived, missing, blocked, walk, inWalked, walkTo, arrivedOr}
 use Rattle.model.specs.Effect.{removed}
 use Rattle.model.specs.Call.{removeFile, removeDirectory, Refusal, refusal, refusalAt, Answer, refused, granted}
-use Rattle.model.specs.Refusal.{walkLines, isMissing, isBlocked, stoppedAt, isDirectoryNode, spaceLine, wanted, earlier, later, refusals, settle}
+use Rattle.model.specs.Refusal.{walkLines, isMissing, isBlocked, stoppedAt, isDirectoryNode, isLockedNode, spaceLine, wanted, earlier, later, refusals, settle}
 use Rattle.model.specs.Meaning.{told, isFormat, lines, effect, answer, after}
 use Rattle.laws.proofs.Facts.{Facts}
 use Rattle.laws.proofs.Slots.{size}
@@ -33,10 +33,10 @@ use Rattle.changes.proofs.Removals.{file-returned, directory-returned, file-rem
 use Rattle.changes.proofs.Vacancies.{vacancy, directory-holds}
 
 -- what a call does at a place: f of a refusal, or x
-abbrev pub removeFileAt : {A : Type 0} → (Refusal → A) → A → Spot → A
-removeFileAt f x theRoot = f (refusal 14)
-removeFileAt f x (theFile at begins start size) = x
-removeFileAt f x (theDirectory at begins start size) = f (refusal 7)
+abbrev pub removeFileAt : {A : Type 0} → Bytes → (Refusal → A) → A → Spot → A
+removeFileAt b f x theRoot = f (refusal 14)
+removeFileAt b f x (theFile at begins start size) = if isLocked b at then f (refusal 25) else x
+removeFileAt b f x (theDirectory at begins start size) = f (refusal 7)
 
 abbrev pub removeDirectoryAt : {A : Type 0} → Bytes → (Refusal → A) → A → Spot → A
 removeDirectoryAt b f x theRoot = f (refusal 14)
@@ -50,13 +50,13 @@ not-root ns n q = let bad : _≡_ {A = Bool} true false = sym (ap isRoot q) in t
 module _ {A : Type 0} (b path : Bytes) (f : Refusal → A) (x : A) where
   -- the lines behind that of the root
   abbrev fileLinesOf : Walked Node → A
-  fileLinesOf w = settle (walkLines w ++ ((isDirectoryNode (arrivedOr (directoryNode [] end) w), refusal 7) ∷ spaceLine (removeFile path) (treeOf b) ∷ [])) f x
+  fileLinesOf w = settle (walkLines w ++ ((isDirectoryNode (arrivedOr (directoryNode [] end) w), refusal 7) ∷ (isLockedNode (arrivedOr (directoryNode [] end) w), refusal 25) ∷ spaceLine (removeFile path) (treeOf b) ∷ [])) f x
 
-  walk-file : (p : Path) → (p ≡ root → ⊥) → fileLinesOf (mapWalked (nodeAt b) (located b p)) ≡ opened f (removeFileAt f x) (walkedAnswer (located b p))
-  unfolding settle isMissing isBlocked stoppedAt arrivedOr mapWalked walkedAnswer wanted isDirectoryNode
+  walk-file : (p : Path) → (p ≡ root → ⊥) → fileLinesOf (mapWalked (nodeAt b) (located b p)) ≡ opened f (removeFileAt b f x) (walkedAnswer (located b p))
+  unfolding settle isMissing isBlocked stoppedAt arrivedOr mapWalked walkedAnswer wanted isDirectoryNode isLockedNode
   walk-file p low = go (located b p) refl
     where
-      go : (l : Walked Spot) → located b p ≡ l → fileLinesOf (mapWalked (nodeAt b) l) ≡ opened f (removeFileAt f x) (walkedAnswer l)
+      go : (l : Walked Spot) → located b p ≡ l → fileLinesOf (mapWalked (nodeAt b) l) ≡ opened f (removeFileAt b f x) (walkedAnswer l)
       go (arrived theRoot) e = absurd (low (located-at b p theRoot e))
       go (arrived (theFile at begins start k)) e =
           let a : At b p (theFile at begins start k) = located-at b p (theFile at begins start k) e in
@@ -67,12 +67,12 @@ module _ {A : Type 0} (b path : Bytes) (f : Refusal → A) (x : A) where
       go (missing i) e = refl
       go (blocked i) e = refl
 
-  remove-file-placed : settle (lines (removeFile path) b) f x ≡ opened f (removeFileAt f x) (placed b path)
+  remove-file-placed : settle (lines (removeFile path) b) f x ≡ opened f (removeFileAt b f x) (placed b path)
   unfolding isFormat refusals earlier later settle isNoPath isRoot located walkedAnswer
-  remove-file-placed = by-place b path f (removeFile path) refl x (removeFileAt f x) (λ facts. go facts (pathOf path))
+  remove-file-placed = by-place b path f (removeFile path) refl x (removeFileAt b f x) (λ facts. go facts (pathOf path))
     where
       go : Facts b → (p : Path) → (if isNoPath p then f (refusal 4) else if isRoot p then f (refusal 14) else fileLinesOf (walkTo p (treeOf b .root)))
-          ≡ (if isNoPath p then f (refusal 4) else opened f (removeFileAt f x) (walkedAnswer (located b p)))
+          ≡ (if isNoPath p then f (refusal 4) else opened f (removeFileAt b f x) (walkedAnswer (located b p)))
       go facts noPath = refl
       go facts root = refl
       go facts (below ns n) = ap fileLinesOf (walk-located b facts (below ns n)) ∙ walk-file (below ns n) (not-root ns n)
@@ -120,8 +120,8 @@ module _ (b path : Bytes) where
   abbrev DirectoryRefuses : Refusal → Type 0
   DirectoryRefuses m = (refused m ≡ answer (removeDirectory path) b) × (b ≡ after (removeDirectory path) b)
 
-  at-file : {A : Type 0} (f : Refusal → A) (x : A) {a : Answer Spot} → a ≡ placed b path → opened f (removeFileAt f x) a ≡ settle (lines (removeFile path) b) f x
-  at-file f x e = ap (opened f (removeFileAt f x)) e ∙ sym (remove-file-placed b path f x)
+  at-file : {A : Type 0} (f : Refusal → A) (x : A) {a : Answer Spot} → a ≡ placed b path → opened f (removeFileAt b f x) a ≡ settle (lines (removeFile path) b) f x
+  at-file f x e = ap (opened f (removeFileAt b f x)) e ∙ sym (remove-file-placed b path f x)
 
   at-directory : {A : Type 0} (f : Refusal → A) (x : A) {a : Answer Spot} → a ≡ placed b path → opened f (removeDirectoryAt b f x) a ≡ settle (lines (removeDirectory path) b) f x
   at-directory f x e = ap (opened f (removeDirectoryAt b f x)) e ∙ sym (remove-directory-placed b path f x)
@@ -155,17 +155,26 @@ module _ (b path : Bytes) where
       file-there : Arrived b path (theFile at begins start k)
       file-there = placed-arrived b path (theFile at begins start k) e
 
+      pub file-inside : at + 32 ≤ length b
+      file-inside = let s = file-there in entry-inside b (s .facts) (pathOf path) at begins (s .at .0)
+
       pub file-asked : Returned b (pagesFor k) start × (at < length b)
       file-asked =
           let s = file-there in
-          (file-returned b (s .facts) (pathOf path) at begins (s .at .0) (s .at .1), omega (arith, entry-inside b (s .facts) (pathOf path) at begins (s .at .0)))
+          (file-returned b (s .facts) (pathOf path) at begins (s .at .0) (s .at .1), omega (arith, file-inside))
 
-      pub file-done : {b′ : Bytes} → b′ ≡ set (foldl (On.released version1) b (chain (link b) (pagesFor k) start)) at 0
+      pub file-locked : isLocked b at ≡ true → FileRefuses (refusal 25)
+      unfolding answer after told effect
+      file-locked l = (rw l at (at-file refused (granted (tt {0})) e), rw l at (at-file (λ m. b) (removed (pathOf path) b) e))
+
+      pub file-done : isLocked b at ≡ false → {b′ : Bytes} → b′ ≡ set (foldl (On.released version1) b (chain (link b) (pagesFor k) start)) at 0
           → (granted (tt {0}) ≡ answer (removeFile path) b) × (b′ ≡ after (removeFile path) b)
       unfolding answer after told effect
-      file-done is =
-          let s = file-there in
-          (at-file refused (granted (tt {0})) e, is ∙ file-removed b (s .facts) (pathOf path) at begins (s .at .0) (s .at .1) ∙ at-file (λ m. b) (removed (pathOf path) b) e)
+      file-done l is =
+          let s = file-there in (
+            rw l at (at-file refused (granted (tt {0})) e),
+            is ∙ file-removed b (s .facts) (pathOf path) at begins (s .at .0) (s .at .1) ∙ (rw l at (at-file (λ m. b) (removed (pathOf path) b) e)),
+          )
 
     module _ (e : granted (theDirectory at begins start k) ≡ placed b path) where
       directory-there : Arrived b path (theDirectory at begins start k)

@@ -4,7 +4,7 @@ use mathlib.Core.Logic.{_⊎_}
 use Prim.Native.Nat.{ℕ, _+_, _-_, _≤_, _<_, max}
 use native.Mathlib.Omega.{arith}
 use mathlib.Core.Bool.{true, false}
-use mathlib.Core.List.{_∷_, _++_}
+use mathlib.Core.List.{List, _∷_, _++_}
 use lib.ListN.{length}
 use lib.Dec.{ltb}
 use borrow.Author.Tests.{lt-ltb, le-ltb, ltb-false}
@@ -13,12 +13,13 @@ use Rattle.volume.specs.Bytes.{Bytes}
 use Rattle.volume.specs.Chain.{chain}
 use Rattle.volume.proofs.Chains.{chain-length}
 use Rattle.model.specs.Layout.{pagesFor, freeCount, link}
+use Rattle.model.specs.Entry.{isLocked}
 use Rattle.model.specs.Tree.{Node, freeNumber}
 use Rattle.model.specs.Path.{pathOf}
 use Rattle.model.specs.Image.{treeOf}
 use Rattle.model.specs.Effect.{rewritten, written}
 use Rattle.model.specs.Call.{write, Refusal, refusal, refused, granted}
-use Rattle.model.specs.Refusal.{Line, pathLine, walkLines, contentIn, walked, node, wanted, earlier, later, refusals, settle}
+use Rattle.model.specs.Refusal.{Line, pathLine, walkLines, isLockedNode, contentIn, walked, node, wanted, earlier, later, refusals, settle}
 use Rattle.model.specs.Meaning.{told, isFormat, effect, answer, after}
 use Rattle.laws.proofs.Facts.{Facts}
 use Rattle.laws.proofs.Counting.{fill-up, free-number}
@@ -26,11 +27,11 @@ use Rattle.laws.proofs.Slots.{size}
 use Rattle.places.specs.Places.{theFile, placed, spotOf}
 use Rattle.places.specs.declared.Place.{Place}
 use Rattle.places.proofs.Place.{the-type}
-use Rattle.places.proofs.Entries.{file-owned}
+use Rattle.places.proofs.Entries.{entry-inside, file-owned}
 use Rattle.changes.specs.Asked.{Writing}
 use Rattle.changes.proofs.Entries.{own-few}
 use Rattle.changes.proofs.Writable.{writing, bytes-written, none-written}
-use Rattle.zealfs.proofs.Files.{fileCall, Content, content-at, refused-does, directory-does, past-does, file-does}
+use Rattle.zealfs.proofs.Files.{fileCall, pastOr, fileAt, Content, content-at, refused-does, directory-does, file-does}
 
 -- ---- the pages that a write wants
 
@@ -61,7 +62,10 @@ module _ (b path : Bytes) (from : ℕ) (v : Bytes) where
   abbrev space : Node → Line
   space n = (ltb (freeNumber (treeOf b)) (more (length (contentIn n)) from (length v)), refusal 10)
 
-  its-lines : refusals (write path from v) (treeOf b) ≡ pathLine path ∷ (walkLines (walked path (treeOf b)) ++ fileCall from space (node path (treeOf b)))
+  abbrev rest : Node → List Line
+  rest n = (isLockedNode n, refusal 25) ∷ pastOr from space n
+
+  its-lines : refusals (write path from v) (treeOf b) ≡ pathLine path ∷ (walkLines (walked path (treeOf b)) ++ fileCall rest (node path (treeOf b)))
   unfolding refusals earlier later wanted
   its-lines = refl
 
@@ -71,12 +75,12 @@ module _ (b path : Bytes) (from : ℕ) (v : Bytes) where
   pub write-refused : {m : Refusal} → refused m ≡ placed b path → Refuses m
   unfolding answer after told effect isFormat
   write-refused e =
-      (refused-does b path from (write path from v) refl space its-lines refused (λ n. granted (tt {0})) e, refused-does b path from (write path from v) refl space its-lines (λ m. b) result e)
+      (refused-does b path (write path from v) refl rest its-lines refused (λ n. granted (tt {0})) e, refused-does b path (write path from v) refl rest its-lines (λ m. b) result e)
 
   pub write-directory : (p : Place) → (tagOf the-type p ≡ 0) ⊎ (tagOf the-type p ≡ 2) → granted (spotOf p) ≡ placed b path → Refuses (refusal 7)
   unfolding answer after told effect isFormat
   write-directory p k e =
-      (directory-does b path from (write path from v) refl space its-lines refused (λ n. granted (tt {0})) p k e, directory-does b path from (write path from v) refl space its-lines (λ m. b) result p k e)
+      (directory-does b path (write path from v) refl rest its-lines refused (λ n. granted (tt {0})) p k e, directory-does b path (write path from v) refl rest its-lines (λ m. b) result p k e)
 
   module _ {entry begins start k : ℕ} (e : granted (theFile entry begins start k) ≡ placed b path) where
     content : Content b path entry begins start k
@@ -85,10 +89,21 @@ module _ (b path : Bytes) (from : ℕ) (v : Bytes) where
     facts : Facts b
     facts = content .arrived .facts
 
-    pub write-past : k < from → Refuses (refusal 12)
-    unfolding answer after told effect isFormat
-    write-past h =
-        (past-does b path from (write path from v) refl space its-lines refused (λ n. granted (tt {0})) e h, past-does b path from (write path from v) refl space its-lines (λ m. b) result e h)
+    -- what the lines behind 7 give is what the call gives
+    answers : settle (rest (fileAt b entry start k)) refused (granted (tt {0})) ≡ answer (write path from v) b
+    unfolding answer told isFormat
+    answers = file-does b path (write path from v) refl rest its-lines refused (λ n. granted (tt {0})) e
+
+    leaves : settle (rest (fileAt b entry start k)) (λ m. b) (written (pathOf path) from v b) ≡ after (write path from v) b
+    unfolding after effect isFormat
+    leaves = file-does b path (write path from v) refl rest its-lines (λ m. b) result e
+
+    pub write-locked : isLocked b entry ≡ true → Refuses (refusal 25)
+    unfolding settle isLockedNode
+    write-locked l = (rw l at answers, rw l at leaves)
+
+    pub write-inside : entry + 32 ≤ length b
+    write-inside = entry-inside b facts (pathOf path) entry begins (content .arrived .at .0)
 
     -- its pages and the free ones are fewer than 256
     pub few : freeCount b + pagesFor k ≤ 255
@@ -102,28 +117,28 @@ module _ (b path : Bytes) (from : ℕ) (v : Bytes) where
     pub long : 4 ≤ length b
     long = omega (arith, size b facts .low, size b facts .whole)
 
-    module _ (h : from ≤ k) where
-      pub write-lacking : ltb (freeCount b) (more k from (length v)) ≡ true → Refuses (refusal 10)
-      unfolding answer after told effect isFormat settle contentIn
-      write-lacking l = (
-        rw (content .long, free-number b facts, l) at (file-does b path from (write path from v) refl space its-lines refused (λ n. granted (tt {0})) e h),
-        rw (content .long, free-number b facts, l) at (file-does b path from (write path from v) refl space its-lines (λ m. b) result e h),
-      )
+    module _ (u : isLocked b entry ≡ false) where
+      pub write-past : k < from → Refuses (refusal 12)
+      unfolding settle isLockedNode contentIn
+      write-past h = (rw (u, content .long, lt-ltb k from h) at answers, rw (u, content .long, lt-ltb k from h) at leaves)
 
-      module _ (l : ltb (freeCount b) (more k from (length v)) ≡ false) where
-        done : (granted (tt {0}) ≡ answer (write path from v) b) × (written (pathOf path) from v b ≡ after (write path from v) b)
-        unfolding answer after told effect isFormat settle contentIn
-        done = (
-          rw (content .long, free-number b facts, l) at (file-does b path from (write path from v) refl space its-lines refused (λ n. granted (tt {0})) e h),
-          rw (content .long, free-number b facts, l) at (file-does b path from (write path from v) refl space its-lines (λ m. b) result e h),
-        )
+      module _ (h : from ≤ k) where
+        pub write-lacking : ltb (freeCount b) (more k from (length v)) ≡ true → Refuses (refusal 10)
+        unfolding settle isLockedNode contentIn
+        write-lacking l =
+            (rw (u, content .long, le-ltb k from h, free-number b facts, l) at answers, rw (u, content .long, le-ltb k from h, free-number b facts, l) at leaves)
 
-        pub write-nothing : length v ≡ 0 → (granted (tt {0}) ≡ answer (write path from v) b) × (b ≡ after (write path from v) b)
-        write-nothing z = (done .0, none-written b (pathOf path) from v z ∙ done .1)
+        module _ (l : ltb (freeCount b) (more k from (length v)) ≡ false) where
+          done : (granted (tt {0}) ≡ answer (write path from v) b) × (written (pathOf path) from v b ≡ after (write path from v) b)
+          unfolding settle isLockedNode contentIn
+          done = (rw (u, content .long, le-ltb k from h, free-number b facts, l) at answers, rw (u, content .long, le-ltb k from h, free-number b facts, l) at leaves)
 
-        pub writable : Writing entry start k from v b
-        writable = writing b facts (pathOf path) entry begins (content .arrived .at .0) (content .arrived .at .1) from v
-            (omega (arith, ltb-false (freeCount b) (more k from (length v)) l, facts .counted))
+          pub write-nothing : length v ≡ 0 → (granted (tt {0}) ≡ answer (write path from v) b) × (b ≡ after (write path from v) b)
+          write-nothing z = (done .0, none-written b (pathOf path) from v z ∙ done .1)
 
-        pub write-done : 0 < length v → {b′ : Bytes} → b′ ≡ rewritten entry from v b → (granted (tt {0}) ≡ answer (write path from v) b) × (b′ ≡ after (write path from v) b)
-        write-done z w = (done .0, w ∙ bytes-written b (pathOf path) entry begins (content .arrived .at .0) from v z ∙ done .1)
+          pub writable : Writing entry start k from v b
+          writable = writing b facts (pathOf path) entry begins (content .arrived .at .0) (content .arrived .at .1) from v
+              (omega (arith, ltb-false (freeCount b) (more k from (length v)) l, facts .counted))
+
+          pub write-done : 0 < length v → {b′ : Bytes} → b′ ≡ rewritten entry from v b → (granted (tt {0}) ≡ answer (write path from v) b) × (b′ ≡ after (write path from v) b)
+          write-done z w = (done .0, w ∙ bytes-written b (pathOf path) entry begins (content .arrived .at .0) from v z ∙ done .1)

@@ -31,7 +31,7 @@ verdictAnswer (verdict.Refused r) = refused (told r)
 
 -- find: with the date that stands beside the answer
 abbrev pub findAnswer : FindAnswer → (date : Bytes) → Answer Finding
-findAnswer (find.File size) date = granted (record { kind = isFile; size = size; date = date })
+findAnswer (find.File size locked) date = granted (record { kind = isFile locked; size = size; date = date })
 findAnswer find.Directory date = granted (record { kind = isDirectory; size = pageSize; date = date })
 findAnswer (find.Refused r) date = refused (told r)
 
@@ -46,7 +46,7 @@ FindSays r a = (findAnswer (r .answer) (r .date) ≡ a) × (r .date ≡ findDate
 -- list: with the name and the date that stand beside the answer
 abbrev pub listAnswer : ListAnswer → (name date : Bytes) → Answer Listing
 listAnswer list.Empty name date = granted empty
-listAnswer (list.File size) name date = granted (holds isFile name size date)
+listAnswer (list.File size locked) name date = granted (holds (isFile locked) name size date)
 listAnswer list.Directory name date = granted (holds isDirectory name pageSize date)
 listAnswer (list.Refused r) name date = refused (told r)
 
@@ -73,7 +73,7 @@ readAnswer (read.Refused r) = refused (told r)
 -- an entry as list tells it
 unfoldable pub entryTold : Entry → Listing
 entryTold vacant = empty
-entryTold (aFile name date start size) = holds isFile name size date
+entryTold (aFile locked name date start size) = holds (isFile locked) name size date
 entryTold (aDirectory name date start size) = holds isDirectory name pageSize date
 
 -- entry i of the directory on page p

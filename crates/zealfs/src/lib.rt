@@ -10,10 +10,11 @@ use places::Place;
 use refusals::Refusal;
 ghost use mathlib.Core.Path.{_≡_};
 ghost use Prim.Native.Nat.{_+_, _*_, _-_, _<_, _≤_, max};
+ghost use mathlib.Core.Bool.{true, false};
 ghost use lib.ListN.{length, replicate};
 ghost use lib.Dec.{ltb};
 ghost use Rattle.model.specs.Layout.{pageSize, pagesFor, freeCount};
-ghost use Rattle.model.specs.Call.{format, verdict, find, list, read, makeFile, makeDirectory, write, removeFile, removeDirectory};
+ghost use Rattle.model.specs.Call.{format, verdict, find, list, read, makeFile, makeDirectory, write, removeFile, removeDirectory, setLock};
 ghost use Rattle.model.specs.Meaning.{answer, after, bufferAfter};
 ghost use Rattle.zealfs.specs.Makes.{makeAnswer, makeAfter};
 ghost use Rattle.zealfs.specs.Answers.{changeAnswer, verdictAnswer, FindSays, ListSays, entryListed, readAnswer};
@@ -57,9 +58,9 @@ pub fn verdict(image: &[u8]) -> VerdictAnswer
     }
 }
 
-// What a path leads to: a file with its size, or a directory, whose size is 256.
+// What a path leads to: a file with its size and whether it is locked, or a directory, whose size is 256.
 pub enum FindAnswer {
-    File(usize),
+    File(usize, bool),
     Directory,
     Refused(Refusal),
 }
@@ -77,7 +78,7 @@ fn undated(answer: FindAnswer) -> Found
     Found { answer, date }
 }
 
-// Kind, size and date of what a path leads to. The root has no entry; its date is zeros.
+// Kind, size, lock and date of what a path leads to. The root has no entry; its date is zeros.
 pub fn find(image: &[u8], path: &[u8]) -> Found
     ensures { λ r. ⌜ FindSays r (answer (find (now (path .entry))) (now (image .entry))) ⌝ }
 {
@@ -88,9 +89,10 @@ pub fn find(image: &[u8], path: &[u8]) -> Found
     match place {
         Place::Root => undated(FindAnswer::Directory),
         Place::File(target) => {
+            let locked = fields::is_locked(image, target.entry);
             let date = fields::date_of(image, target.entry);
             Found {
-                answer: FindAnswer::File(target.size),
+                answer: FindAnswer::File(target.size, locked),
                 date,
             }
         }
@@ -104,10 +106,10 @@ pub fn find(image: &[u8], path: &[u8]) -> Found
     }
 }
 
-// Entry i of a directory: empty, a file with its size, or a directory, whose size is 256.
+// Entry i of a directory: empty, a file with its size and whether it is locked, or a directory, whose size is 256.
 pub enum ListAnswer {
     Empty,
-    File(usize),
+    File(usize, bool),
     Directory,
     Refused(Refusal),
 }
@@ -142,10 +144,11 @@ fn list_entry(image: &[u8], directory: Page, i: usize) -> Listed
     match fields::entry_at(image, at) {
         Entry::Vacant => unnamed(ListAnswer::Empty),
         Entry::File(_, size) => {
+            let locked = fields::is_locked(image, at);
             let name = fields::name_of(image, at);
             let date = fields::date_of(image, at);
             Listed {
-                answer: ListAnswer::File(size),
+                answer: ListAnswer::File(size, locked),
                 name,
                 date,
             }
@@ -266,7 +269,7 @@ fn lacks_pages(image: &[u8], size: usize, position: Position, bytes: usize) -> b
     fields::free_count(image) < fields::pages_for(end) - held
 }
 
-// Puts bytes over a file's content from a position on. The file grows where they reach past its end.
+// Puts bytes over the content of a file that is not locked, from a position on. The file grows where they reach past its end.
 pub fn write(image: &mut [u8], path: &[u8], position: Position, bytes: &[u8]) -> ChangeAnswer
     ensures { λ r. ⌜ changeAnswer r ≡ answer (write (now (path .entry)) (position .0) (now (bytes .entry))) (now (image .entry)) ⌝ }
     ensures { λ _. ⌜ now (image .exit) ≡ after (write (now (path .entry)) (position .0) (now (bytes .entry))) (now (image .entry)) ⌝ }
@@ -278,6 +281,9 @@ pub fn write(image: &mut [u8], path: &[u8], position: Position, bytes: &[u8]) ->
     let Place::File(target) = place else {
         return ChangeAnswer::Refused(Refusal::IsADirectory);
     };
+    if fields::is_locked(image, target.entry) { // also a write of no bytes, past the end or too long
+        return ChangeAnswer::Refused(Refusal::Locked);
+    }
     if target.size < position.0 {
         return ChangeAnswer::Refused(Refusal::PastEnd);
     }
@@ -299,7 +305,7 @@ pub fn write(image: &mut [u8], path: &[u8], position: Position, bytes: &[u8]) ->
     ChangeAnswer::Done
 }
 
-// Removes a file. Its pages are free from then on, and keep their bytes.
+// Removes a file that is not locked. Its pages are free from then on, and keep their bytes.
 pub fn remove_file(image: &mut [u8], path: &[u8]) -> ChangeAnswer
     ensures { λ r. ⌜ changeAnswer r ≡ answer (removeFile (now (path .entry))) (now (image .entry)) ⌝ }
     ensures { λ _. ⌜ now (image .exit) ≡ after (removeFile (now (path .entry))) (now (image .entry)) ⌝ }
@@ -311,6 +317,9 @@ pub fn remove_file(image: &mut [u8], path: &[u8]) -> ChangeAnswer
     match place {
         Place::Root => ChangeAnswer::Refused(Refusal::IsRoot),
         Place::File(target) => {
+            if fields::is_locked(image, target.entry) {
+                return ChangeAnswer::Refused(Refusal::Locked);
+            }
             let pages = fields::pages_for(target.size);
             changes::remove_entry(image, target.entry, target.start, pages);
             ChangeAnswer::Done
@@ -339,4 +348,36 @@ pub fn remove_directory(image: &mut [u8], path: &[u8]) -> ChangeAnswer
             ChangeAnswer::Done
         }
     }
+}
+
+// Sets or clears a file's lock, bit 6 of its flags (02 §10). Where it is so already no byte changes.
+fn set_lock(image: &mut [u8], path: &[u8], locked: bool) -> ChangeAnswer
+    ensures { λ r. ⌜ changeAnswer r ≡ answer (setLock locked (now (path .entry))) (now (image .entry)) ⌝ }
+    ensures { λ _. ⌜ now (image .exit) ≡ after (setLock locked (now (path .entry))) (now (image .entry)) ⌝ }
+{
+    let arrival = places::arrive(image, path);
+    let Arrival::At(place) = arrival else {
+        return ChangeAnswer::Refused(places::refusal_of(arrival));
+    };
+    let Place::File(target) = place else {
+        return ChangeAnswer::Refused(Refusal::IsADirectory);
+    };
+    changes::lock_entry(image, target.entry, locked);
+    ChangeAnswer::Done
+}
+
+// Locks a file: it can be read, but neither written nor removed.
+pub fn lock(image: &mut [u8], path: &[u8]) -> ChangeAnswer
+    ensures { λ r. ⌜ changeAnswer r ≡ answer (setLock true (now (path .entry))) (now (image .entry)) ⌝ }
+    ensures { λ _. ⌜ now (image .exit) ≡ after (setLock true (now (path .entry))) (now (image .entry)) ⌝ }
+{
+    set_lock(image, path, true)
+}
+
+// Unlocks a file.
+pub fn unlock(image: &mut [u8], path: &[u8]) -> ChangeAnswer
+    ensures { λ r. ⌜ changeAnswer r ≡ answer (setLock false (now (path .entry))) (now (image .entry)) ⌝ }
+    ensures { λ _. ⌜ now (image .exit) ≡ after (setLock false (now (path .entry))) (now (image .entry)) ⌝ }
+{
+    set_lock(image, path, false)
 }

@@ -7,13 +7,13 @@ use types.Run.{OneOf, miss}
 use denote.Enum.Declared.{tagOf}
 use Rattle.refusals.specs.Told.{told}
 use Rattle.refusals.specs.declared.Refusal.{Refusal}
-use Rattle.refusals.specs.declared.Refusal.the-variants.{BadLength, BadHeader, Unsound, NoPath, BadDate, IsRoot, NoSuchName, NotADirectory, NameTaken, IsADirectory, PastEnd, DirectoryFull, NoFreePages, NotEmpty}
+use Rattle.refusals.specs.declared.Refusal.the-variants.{BadLength, BadHeader, Unsound, NoPath, BadDate, IsRoot, NoSuchName, NotADirectory, NameTaken, IsADirectory, Locked, PastEnd, DirectoryFull, NoFreePages, NotEmpty}
 use Rattle.refusals.proofs.Refusal.{the-type}
 use Rattle.zealfs_c.specs.Codes.{packed, Fits}
 
 -- the cases that a `match` on the three with a place leaves
 abbrev pub others : List ℕ
-others = 0 ∷ 1 ∷ 3 ∷ 4 ∷ 5 ∷ 8 ∷ 9 ∷ 10 ∷ 11 ∷ 12 ∷ 13 ∷ []
+others = 0 ∷ 1 ∷ 3 ∷ 4 ∷ 5 ∷ 8 ∷ 9 ∷ 10 ∷ 11 ∷ 12 ∷ 13 ∷ 14 ∷ []
 
 pub no-place : (r : Refusal) → OneOf others (tagOf the-type r) → 0 ≡ packed (told r .place)
 unfolding packed
@@ -27,6 +27,7 @@ no-place (NoSuchName byte) h = absurd (miss others 6 tt h)
 no-place (NotADirectory byte) h = absurd (miss others 7 tt h)
 no-place NameTaken h = refl
 no-place IsADirectory h = refl
+no-place Locked h = refl
 no-place PastEnd h = refl
 no-place DirectoryFull h = refl
 no-place NoFreePages h = refl

@@ -14,7 +14,7 @@ use Rattle.model.specs.Layout.{pageCount, validLength, validHeader}
 use Rattle.model.specs.Judge.{Fault, badEntry, badChain, ownedTwice, markedFree, lostPage, badCount, Judged, fault, clean, judge}
 use Rattle.model.specs.Path.{Path, pathOf, noPath, root, below, parents, names}
 use Rattle.model.specs.Image.{treeOf}
-use Rattle.model.specs.Call.{Call, format, verdict, find, list, read, makeFile, makeDirectory, write, removeFile, removeDirectory, Told, Refusal, refusal, Answer, refused, granted}
+use Rattle.model.specs.Call.{Call, format, verdict, find, list, read, makeFile, makeDirectory, write, removeFile, removeDirectory, setLock, Told, Refusal, refusal, Answer, refused, granted}
 use Rattle.model.specs.Refusal.{Line, stoppedAt, walked, walkedParent, walkedDirectory, makeLines, earlier, later, refusals, settle}
 use Rattle.model.specs.Meaning.{told, firstFault, soundLine, isFormat, lines, answer}
 use Rattle.judge.proofs.Image.{allowed}
@@ -104,6 +104,7 @@ own-in (makeDirectory path date) b n = rw (lt-ltb _ _ (parent-stops b n path)) t
 own-in (write path at v) b n = rw (lt-ltb _ _ (to-stops b n path)) tt
 own-in (removeFile path) b n = rw (lt-ltb _ _ (to-stops b n path)) tt
 own-in (removeDirectory path) b n = rw (lt-ltb _ _ (directory-stops b n path)) tt
+own-in (setLock locked path) b n = rw (lt-ltb _ _ (to-stops b n path)) tt
 
 -- the lines below the first, which judges the length
 abbrev further : Bool → Call → Bytes → List Line

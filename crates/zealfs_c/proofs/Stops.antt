@@ -25,14 +25,14 @@ use Rattle.model.specs.Refusal.{stoppedAt}
 unfoldable pub height : Row → ℕ
 height end = 0
 height (free r) = height r
-height (file n d v r) = height r
+height (file locked n d v r) = height r
 height (dir n d s r) = max (suc (height s)) (height r)
 
 height-entry : (k : ℕ) (b : Bytes) (g : ℕ → Row) → ((p : ℕ) → height (g p) ≤ k) → (x : Entry) (rest : Row) → height rest ≤ suc k
     → height (entryRow b g x rest) ≤ suc k
 unfolding height entryRow
 height-entry k b g h vacant rest r = r
-height-entry k b g h (aFile name date start size) rest r = r
+height-entry k b g h (aFile locked name date start size) rest r = r
 height-entry k b g h (aDirectory name date start size) rest r = omega (arith, h start)
 
 height-row : (k : ℕ) (b : Bytes) (g : ℕ → Row) → ((p : ℕ) → height (g p) ≤ k) → (ats : List ℕ) → height (rowOf b g ats) ≤ suc k
@@ -48,21 +48,21 @@ height-at (suc k) b p = height-row k b (rowAt k b) (λ q. height-at k b q) (entr
 -- a directory that a row holds has a level less
 abbrev Lower : Option Node → ℕ → Type 0
 Lower none k = Unit {0}
-Lower (some (fileNode d v)) k = Unit {0}
+Lower (some (fileNode locked d v)) k = Unit {0}
 Lower (some (directoryNode d r)) k = suc (height r) ≤ k
 
 lower-more : (o : Option Node) (k j : ℕ) → k ≤ j → Lower o k → Lower o j
 lower-more none k j h l = tt
-lower-more (some (fileNode d v)) k j h l = tt
+lower-more (some (fileNode locked d v)) k j h l = tt
 lower-more (some (directoryNode d r)) k j h l = omega arith
 
 lookup-lower : (n : Bytes) (r : Row) → Lower (lookup n r) (height r)
 unfolding lookup height
 lookup-lower n end = tt
 lookup-lower n (free r) = lookup-lower n r
-lookup-lower n (file m d v r) = go (same m n) (lookup n r) (lookup-lower n r)
+lookup-lower n (file locked m d v r) = go (same m n) (lookup n r) (lookup-lower n r)
   where
-    go : (c : Bool) (o : Option Node) → Lower o (height r) → Lower (if c then some (fileNode d v) else o) (height r)
+    go : (c : Bool) (o : Option Node) → Lower o (height r) → Lower (if c then some (fileNode locked d v) else o) (height r)
     go true o l = tt
     go false o l = l
 lookup-lower n (dir m d s r) = go (same m n) (lookup n r) (lookup-lower n r)
@@ -136,7 +136,7 @@ walk-stops k (n ∷ ns) r s = go (lookup (n .bytes) r) (lookup-lower (n .bytes) 
     go : (o : Option Node) → Lower o (height r) → ((q : Row) → stoppedAt (walk ns q) ≤ k + 17 + 17 * height q)
         → stoppedAt (enter n o (walk ns)) ≤ k + 17 * height r
     go none l next = omega (arith, s .0)
-    go (some (fileNode d v)) l next = omega (arith, s .0)
+    go (some (fileNode locked d v)) l next = omega (arith, s .0)
     go (some (directoryNode d q)) l next = omega (arith, next q)
 
 -- with the last name, which is looked up in the directory that the others lead to
@@ -154,7 +154,7 @@ below-stops k (m ∷ ns) n r s = go (lookup (m .bytes) r) (lookup-lower (m .byte
         → ((q : Row) → stoppedAt (inWalked (walk ns q) (λ s. nodeNamed n (lookup (n .bytes) s))) ≤ k + 17 + 17 * height q)
         → stoppedAt (inWalked (enter m o (walk ns)) (λ s. nodeNamed n (lookup (n .bytes) s))) ≤ k + 17 * height r
     go none l next = omega (arith, s .0)
-    go (some (fileNode d v)) l next = omega (arith, s .0)
+    go (some (fileNode locked d v)) l next = omega (arith, s .0)
     go (some (directoryNode d q)) l next = omega (arith, next q)
 
 pub walk-to-stops : (k : ℕ) (p : Path) (r : Row) → Spaced k (names p) → stoppedAt (walkTo p r) ≤ k + 17 * height r

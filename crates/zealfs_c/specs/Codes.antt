@@ -2,6 +2,7 @@
 use mathlib.Core.Path.{_≡_}
 use Prim.Native.Nat.{ℕ, _+_, _*_, _/_, _%_, _≤_, _<_}
 use mathlib.Core.List.{List, [], _∷_}
+use Rattle.volume.specs.Bytes.{if_then_else_}
 use Rattle.model.specs.Call.{Kind, isFile, isDirectory, Verdict, Found, Listed, empty, holds, Refusal, Answer, refused, granted}
 
 -- the three numbers of a place in 16 bits each
@@ -37,24 +38,29 @@ placeOf (refused m) = m .place
 placeOf (granted x) = (0, 0, 0)
 
 unfoldable pub kindNumber : Kind → ℕ
-kindNumber isFile = 0
+kindNumber (isFile locked) = 0
 kindNumber isDirectory = 1
+
+-- a directory is never locked
+unfoldable pub lockNumber : Kind → ℕ
+lockNumber (isFile locked) = if locked then 1 else 0
+lockNumber isDirectory = 0
 
 -- pages, free
 unfoldable pub verdictOut : Answer Verdict → List ℕ
 verdictOut (refused m) = 0 ∷ 0 ∷ []
 verdictOut (granted v) = v .pages ∷ v .free ∷ []
 
--- kind, size
+-- kind, size, locked
 unfoldable pub findOut : Answer Found → List ℕ
-findOut (refused m) = 0 ∷ 0 ∷ []
-findOut (granted found) = kindNumber (found .kind) ∷ found .size ∷ []
+findOut (refused m) = 0 ∷ 0 ∷ 0 ∷ []
+findOut (granted found) = kindNumber (found .kind) ∷ found .size ∷ lockNumber (found .kind) ∷ []
 
--- occupied, kind, size; an empty entry has none of them
+-- occupied, kind, size, locked; an empty entry has none of them
 unfoldable pub listOut : Answer Listed → List ℕ
-listOut (refused m) = 0 ∷ 0 ∷ 0 ∷ []
-listOut (granted empty) = 0 ∷ 0 ∷ 0 ∷ []
-listOut (granted (holds kind name size date)) = 1 ∷ kindNumber kind ∷ size ∷ []
+listOut (refused m) = 0 ∷ 0 ∷ 0 ∷ 0 ∷ []
+listOut (granted empty) = 0 ∷ 0 ∷ 0 ∷ 0 ∷ []
+listOut (granted (holds kind name size date)) = 1 ∷ kindNumber kind ∷ size ∷ lockNumber kind ∷ []
 
 -- the count of bytes copied
 unfoldable pub readOut : Answer ℕ → List ℕ

@@ -10,12 +10,13 @@ use zealfs::ListAnswer;
 use zealfs::ReadAnswer;
 use zealfs::VerdictAnswer;
 ghost use mathlib.Core.Path.{_≡_};
-ghost use Rattle.model.specs.Call.{format, verdict, find, list, read, makeFile, makeDirectory, write, removeFile, removeDirectory};
+ghost use mathlib.Core.Bool.{true, false};
+ghost use Rattle.model.specs.Call.{format, verdict, find, list, read, makeFile, makeDirectory, write, removeFile, removeDirectory, setLock, isFile};
 ghost use Rattle.model.specs.Meaning.{faultTold, answer, after, bufferAfter};
 ghost use Rattle.judge.specs.Answers.{faultOf};
 ghost use Rattle.refusals.specs.Told.{told};
 ghost use Rattle.zealfs.specs.Answers.{changeAnswer, findDate, listName, listDate};
-ghost use Rattle.zealfs_c.specs.Codes.{packed, refusalCode, codeOf, Fits, placeOf, verdictOut, findOut, listOut, readOut};
+ghost use Rattle.zealfs_c.specs.Codes.{packed, refusalCode, codeOf, Fits, placeOf, lockNumber, verdictOut, findOut, listOut, readOut};
 
 // The three numbers of a place as one.
 fn pack(a: usize, b: usize, c: usize) -> u64
@@ -73,6 +74,13 @@ fn change_code(a: ChangeAnswer) -> u64
     }
 }
 
+// A file's lock as a number.
+fn lock_number(locked: bool) -> u64
+    ensures { λ n. ⌜ n ≡ lockNumber (isFile locked) ⌝ }
+{
+    if locked { 1 } else { 0 }
+}
+
 // ---- the calls
 
 #[no_mangle]
@@ -101,12 +109,12 @@ pub extern "C" fn zealfs_verdict(image: &[u8], out: &mut [u64; 2]) -> u64
     }
 }
 
-// out: the kind (0 a file, 1 a directory), the size.
+// out: the kind (0 a file, 1 a directory), the size, 1 if it is locked.
 #[no_mangle]
 pub extern "C" fn zealfs_find(
     image: &[u8],
     path: &[u8],
-    out: &mut [u64; 2],
+    out: &mut [u64; 3],
     date: &mut [u8; 8],
 ) -> u64
     ensures { λ r. ⌜ r ≡ codeOf (answer (find (now (path .entry))) (now (image .entry))) ⌝ }
@@ -118,28 +126,28 @@ pub extern "C" fn zealfs_find(
     *date = found_date;
     let answer = found.answer;
     match answer {
-        FindAnswer::File(size) => {
-            *out = [0, size as u64];
+        FindAnswer::File(size, locked) => {
+            *out = [0, size as u64, lock_number(locked)];
             0
         }
         FindAnswer::Directory => {
-            *out = [1, 256];
+            *out = [1, 256, 0];
             0
         }
         FindAnswer::Refused(r) => {
-            *out = [0; 2];
+            *out = [0; 3];
             code(r)
         }
     }
 }
 
-// out: 1 if the entry is occupied, its kind (0 a file, 1 a directory), its size. All are 0 for an empty one.
+// out: 1 if the entry is occupied, its kind (0 a file, 1 a directory), its size, 1 if it is locked. All are 0 for an empty one.
 #[no_mangle]
 pub extern "C" fn zealfs_list(
     image: &[u8],
     path: &[u8],
     entry: u64,
-    out: &mut [u64; 3],
+    out: &mut [u64; 4],
     name: &mut [u8; 16],
     date: &mut [u8; 8],
 ) -> u64
@@ -156,19 +164,19 @@ pub extern "C" fn zealfs_list(
     let answer = listed.answer;
     match answer {
         ListAnswer::Empty => {
-            *out = [0; 3];
+            *out = [0; 4];
             0
         }
-        ListAnswer::File(size) => {
-            *out = [1, 0, size as u64];
+        ListAnswer::File(size, locked) => {
+            *out = [1, 0, size as u64, lock_number(locked)];
             0
         }
         ListAnswer::Directory => {
-            *out = [1, 1, 256];
+            *out = [1, 1, 256, 0];
             0
         }
         ListAnswer::Refused(r) => {
-            *out = [0; 3];
+            *out = [0; 4];
             code(r)
         }
     }
@@ -237,4 +245,20 @@ pub extern "C" fn zealfs_remove_directory(image: &mut [u8], path: &[u8]) -> u64
     ensures { λ _. ⌜ now (image .exit) ≡ after (removeDirectory (now (path .entry))) (now (image .entry)) ⌝ }
 {
     change_code(zealfs::remove_directory(image, path))
+}
+
+#[no_mangle]
+pub extern "C" fn zealfs_lock(image: &mut [u8], path: &[u8]) -> u64
+    ensures { λ r. ⌜ r ≡ codeOf (answer (setLock true (now (path .entry))) (now (image .entry))) ⌝ }
+    ensures { λ _. ⌜ now (image .exit) ≡ after (setLock true (now (path .entry))) (now (image .entry)) ⌝ }
+{
+    change_code(zealfs::lock(image, path))
+}
+
+#[no_mangle]
+pub extern "C" fn zealfs_unlock(image: &mut [u8], path: &[u8]) -> u64
+    ensures { λ r. ⌜ r ≡ codeOf (answer (setLock false (now (path .entry))) (now (image .entry))) ⌝ }
+    ensures { λ _. ⌜ now (image .exit) ≡ after (setLock false (now (path .entry))) (now (image .entry)) ⌝ }
+{
+    change_code(zealfs::unlock(image, path))
 }

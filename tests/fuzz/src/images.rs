@@ -137,6 +137,8 @@ fn calls_on_unsound() -> Vec<Call> {
         Call::Write(path(), 0, pattern(300)),
         Call::RemoveFile(path()),
         Call::RemoveDirectory(path()),
+        Call::Lock(path()),
+        Call::Unlock(path()),
         // What a call takes for no path it takes so only on a sound image.
         Call::Find(b"A".to_vec()),
         Call::Format,
@@ -180,8 +182,8 @@ fn look_at(calls: &mut Vec<Call>, path: &[u8], node: &Node) {
     calls.push(Call::Find(path.to_vec()));
     match node {
         Node::Directory(_) => look_into(calls, path),
-        Node::File(content) => {
-            let size = content.len();
+        Node::File(file) => {
+            let size = file.content.len();
             let last_page = size / CONTENT * CONTENT;
             for (position, room) in [(0, size + 1), (last_page, 2), (size, 1), (size + 1, 1)] {
                 let buffer = vec![0x55; room];
@@ -191,21 +193,33 @@ fn look_at(calls: &mut Vec<Call>, path: &[u8], node: &Node) {
     }
 }
 
-/// Makes something below it, writes to it and removes it; before a directory
-/// what was made in it. What does not suit is refused.
+/// Makes something below it, writes to it, also while it is locked, and removes
+/// it; before a directory what was made in it. What does not suit is refused.
 fn change(calls: &mut Vec<Call>, path: &[u8], node: &Node) {
     let below = [path, b"/new".as_slice()].concat();
     calls.push(Call::MakeFile(below.clone(), DATE.to_vec()));
     calls.push(Call::MakeDirectory(below.clone(), DATE.to_vec()));
     match node {
-        Node::File(content) => {
-            let size = content.len() as u64;
+        Node::File(file) => {
+            let size = file.content.len() as u64;
+            calls.push(Call::Write(path.to_vec(), size + 1, Vec::new()));
             calls.push(Call::Write(path.to_vec(), size, pattern(CONTENT)));
+            calls.push(Call::Unlock(path.to_vec()));
             calls.push(Call::Write(path.to_vec(), 0, pattern(1)));
+            calls.push(Call::Lock(path.to_vec()));
+            calls.push(Call::Lock(path.to_vec()));
+            calls.push(Call::Write(path.to_vec(), 0, pattern(1)));
+            calls.push(Call::Find(path.to_vec()));
+            calls.push(Call::RemoveFile(path.to_vec()));
+            calls.push(Call::Unlock(path.to_vec()));
         }
         Node::Directory(_) => {
             calls.push(Call::Write(path.to_vec(), 0, pattern(1)));
+            calls.push(Call::Lock(path.to_vec()));
+            calls.push(Call::Lock(below.clone()));
             calls.push(Call::RemoveDirectory(path.to_vec()));
+            calls.push(Call::RemoveFile(below.clone()));
+            calls.push(Call::Unlock(below.clone()));
             calls.push(Call::RemoveFile(below));
         }
     }

@@ -37,9 +37,11 @@ enum Kind {
     Write,
     RemoveFile,
     RemoveDirectory,
+    Lock,
+    Unlock,
 }
 
-const KINDS: [Kind; 16] = [
+const KINDS: [Kind; 18] = [
     Kind::MakeFile,
     Kind::MakeDirectory,
     Kind::Write,
@@ -56,6 +58,8 @@ const KINDS: [Kind; 16] = [
     Kind::Read,
     Kind::Write,
     Kind::List,
+    Kind::Lock,
+    Kind::Unlock,
 ];
 
 /// Names that are easily confused, and the limits of length and of bytes.
@@ -109,6 +113,8 @@ impl Decoder<'_> {
             Kind::MakeDirectory => Call::MakeDirectory(self.path(), self.date()),
             Kind::RemoveFile => Call::RemoveFile(self.path()),
             Kind::RemoveDirectory => Call::RemoveDirectory(self.path()),
+            Kind::Lock => Call::Lock(self.path()),
+            Kind::Unlock => Call::Unlock(self.path()),
             Kind::Read => {
                 let (path, position, bytes) = self.stretch();
                 Call::Read(path, position, bytes)

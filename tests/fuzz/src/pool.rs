@@ -48,15 +48,16 @@ pub fn image(number: usize) -> Vec<u8> {
     images()[number % COUNT].clone()
 }
 
-/// An image of 8 pages with a chain of two pages, one of one, empty files, a
-/// directory in a directory and a removed file.
+/// An image of 8 pages with a chain of two pages, one of one, empty files, one
+/// of them locked, a directory in a directory and a removed file.
 fn rich() -> Vec<u8> {
     let mut desk = Desk::fresh(&Plain, 2048);
     let directories = ["/D", "/D/E"].map(|path| desk.make_directory(path));
     let files = ["/gone", "/F", "/0042", "/D/42", "/D/E/H"].map(|path| desk.make_file(path));
     let gone = [desk.write("/gone", 0, 100), desk.remove_file("/gone")];
     let writes = [("/F", 256), ("/D/42", 255)].map(|(path, length)| desk.write(path, 0, length));
-    let numbers = [&directories[..], &files, &gone, &writes].concat();
+    let locked = [desk.lock("/0042")];
+    let numbers = [&directories[..], &files, &gone, &writes, &locked].concat();
     assert!(numbers.iter().all(|&number| number == 0));
     desk.image
 }

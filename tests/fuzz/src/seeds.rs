@@ -22,11 +22,11 @@ pub fn of_images() -> Vec<Vec<u8>> {
     seeds
 }
 
-/// On every starting image a list that makes, writes, reads, lists and
+/// On every starting image a list that makes, writes, reads, locks, lists and
 /// removes.
 pub fn of_lists() -> Vec<Vec<u8>> {
     let name = NAMES.len() as u8 - 6;
-    let calls: [&[u8]; 11] = [
+    let calls: [&[u8]; 18] = [
         // Make a directory, a file in it, a file in the root.
         &[1, 0, 0, name, 0],
         &[0, 0, 1, name + 1, 0],
@@ -36,6 +36,15 @@ pub fn of_lists() -> Vec<Vec<u8>> {
         &[2, 2, 255, 0, 10, 1],
         &[4, 2, 255, 0, 10, 0],
         &[2, 2, 255, 1, 5, 2],
+        // Lock the newest, write and remove it; read, find and list it; unlock
+        // it.
+        &[16, 2, 255],
+        &[2, 2, 255, 0, 0, 1],
+        &[3, 2, 255],
+        &[4, 2, 255, 0, 10, 0],
+        &[6, 2, 255],
+        &[16, 2, 255],
+        &[17, 2, 255],
         // List, find; remove the same as a file and as a directory, then the
         // first.
         &[5, 2, 0, 0],

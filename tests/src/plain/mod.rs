@@ -54,6 +54,13 @@ impl Plain {
         writer::remove(image, path);
         Ok(Answer::granted())
     }
+
+    fn set_lock(image: &mut [u8], path: &[u8], locked: bool) -> Result<Answer, Refusal> {
+        let mut tree = reader::judge(image)?;
+        tree.set_lock(path, locked)?;
+        writer::set_lock(image, path, locked);
+        Ok(Answer::granted())
+    }
 }
 
 impl Calls for Plain {
@@ -110,6 +117,14 @@ impl Calls for Plain {
     fn remove_directory(&self, image: &mut [u8], path: &[u8]) -> Answer {
         Plain::remove(image, path, Kind::Directory).into()
     }
+
+    fn lock(&self, image: &mut [u8], path: &[u8]) -> Answer {
+        Plain::set_lock(image, path, true).into()
+    }
+
+    fn unlock(&self, image: &mut [u8], path: &[u8]) -> Answer {
+        Plain::set_lock(image, path, false).into()
+    }
 }
 
 /// The replay of a list of calls on the tree alone: it sees the tree of the
@@ -156,6 +171,8 @@ impl Replay {
             Call::Write(path, position, bytes) => tree.write(path, *position, bytes),
             Call::RemoveFile(path) => tree.remove(path, Kind::File),
             Call::RemoveDirectory(path) => tree.remove(path, Kind::Directory),
+            Call::Lock(path) => tree.set_lock(path, true),
+            Call::Unlock(path) => tree.set_lock(path, false),
         };
         result.into()
     }

@@ -2,7 +2,7 @@
 //! order of document 02 §2.
 
 use super::path::is_legal_name;
-use super::tree::{Directory, Entry, Node, Tree};
+use super::tree::{Directory, Entry, File, Node, Tree};
 use super::{pages_of_file, pages_of_image};
 use super::{BITMAP_AT, CONTENT, DIRECTORY_ENTRIES, ENTRY, PAGE, ROOT_ENTRIES, ROOT_ENTRIES_AT};
 use crate::calls::{Refusal, NAME_BYTES};
@@ -105,7 +105,10 @@ impl Reader<'_> {
             self.own(start, place, 0)?;
             Node::Directory(self.directory(start)?)
         } else {
-            Node::File(self.content(start, size, place)?)
+            Node::File(File {
+                content: self.content(start, size, place)?,
+                locked: bytes[0] & 0x40 != 0,
+            })
         };
         Ok(Some(Entry { name, date, node }))
     }

@@ -28,8 +28,25 @@ pub struct Entry {
 
 #[derive(Clone, Debug, PartialEq, Eq)]
 pub enum Node {
-    File(Vec<u8>),
+    File(File),
     Directory(Directory),
+}
+
+/// A file. A locked one is neither written nor removed.
+#[derive(Clone, Debug, Default, PartialEq, Eq)]
+pub struct File {
+    pub content: Vec<u8>,
+    pub locked: bool,
+}
+
+impl File {
+    /// Refuses what would alter a locked file.
+    fn check_unlocked(&self) -> Result<(), Refusal> {
+        if self.locked {
+            return Err(Refusal::number(25));
+        }
+        Ok(())
+    }
 }
 
 impl Directory {
@@ -87,15 +104,20 @@ impl Node {
 
     pub fn size(&self) -> u64 {
         match self {
-            Node::File(content) => content.len() as u64,
+            Node::File(file) => file.content.len() as u64,
             Node::Directory(_) => DIRECTORY_SIZE,
         }
+    }
+
+    /// A directory has no lock.
+    pub fn is_locked(&self) -> bool {
+        matches!(self, Node::File(file) if file.locked)
     }
 
     /// The pages that the node and all below it need.
     fn pages(&self) -> usize {
         match self {
-            Node::File(content) => pages_of_file(content.len()),
+            Node::File(file) => pages_of_file(file.content.len()),
             Node::Directory(directory) => 1 + directory.pages_below(),
         }
     }
@@ -145,11 +167,21 @@ impl Tree {
         let names = parse(path)?;
         let Some((&last, parents)) = names.split_last() else {
             let no_date = [0; DATE_BYTES];
-            return Ok(Answer::found(Kind::Directory, DIRECTORY_SIZE, no_date));
+            return Ok(Answer::found(
+                Kind::Directory,
+                DIRECTORY_SIZE,
+                false,
+                no_date,
+            ));
         };
         let entry = self.directory(parents)?.entry(last)?;
         let node = &entry.node;
-        Ok(Answer::found(node.kind(), node.size(), entry.date))
+        Ok(Answer::found(
+            node.kind(),
+            node.size(),
+            node.is_locked(),
+            entry.date,
+        ))
     }
 
     pub fn list(&self, path: &[u8], entry: u64) -> Result<Answer, Refusal> {
@@ -164,34 +196,35 @@ impl Tree {
                 entry.node.kind(),
                 entry.padded_name(),
                 entry.node.size(),
+                entry.node.is_locked(),
                 entry.date,
             ),
         })
     }
 
-    /// The content of the file at the end of the walk.
-    fn content(&self, path: &[u8]) -> Result<&Vec<u8>, Refusal> {
+    /// The file at the end of the walk.
+    fn file(&self, path: &[u8]) -> Result<&File, Refusal> {
         let names = parse(path)?;
         let is_directory = Refusal::number(7);
         let (&last, parents) = names.split_last().ok_or(is_directory)?;
         match &self.directory(parents)?.entry(last)?.node {
-            Node::File(content) => Ok(content),
+            Node::File(file) => Ok(file),
             Node::Directory(_) => Err(is_directory),
         }
     }
 
-    fn content_mut(&mut self, path: &[u8]) -> Result<&mut Vec<u8>, Refusal> {
+    fn file_mut(&mut self, path: &[u8]) -> Result<&mut File, Refusal> {
         let names = parse(path)?;
         let is_directory = Refusal::number(7);
         let (&last, parents) = names.split_last().ok_or(is_directory)?;
         match &mut self.directory_mut(parents)?.entry_mut(last)?.node {
-            Node::File(content) => Ok(content),
+            Node::File(file) => Ok(file),
             Node::Directory(_) => Err(is_directory),
         }
     }
 
     pub fn read(&self, path: &[u8], position: u64, buffer: &mut [u8]) -> Result<Answer, Refusal> {
-        let content = self.content(path)?;
+        let content = &self.file(path)?.content;
         if position > content.len() as u64 {
             return Err(Refusal::number(12));
         }
@@ -214,7 +247,7 @@ impl Tree {
         let lowest_empty = parent.entries.iter().position(Option::is_none);
         let position = lowest_empty.ok_or(Refusal::number(9))?;
         let node = match kind {
-            Kind::File => Node::File(Vec::new()),
+            Kind::File => Node::File(File::default()),
             Kind::Directory => Node::Directory(Directory::empty(DIRECTORY_ENTRIES)),
         };
         if node.pages() > free {
@@ -229,7 +262,9 @@ impl Tree {
     }
 
     pub fn write(&mut self, path: &[u8], position: u64, bytes: &[u8]) -> Result<Answer, Refusal> {
-        let size = self.content(path)?.len();
+        let file = self.file(path)?;
+        file.check_unlocked()?;
+        let size = file.content.len();
         if position > size as u64 {
             return Err(Refusal::number(12));
         }
@@ -240,7 +275,7 @@ impl Tree {
         if pages_of_file(new_size) - pages_of_file(size) > self.free() {
             return Err(Refusal::number(10));
         }
-        let content = self.content_mut(path)?;
+        let content = &mut self.file_mut(path)?.content;
         content.resize(new_size, 0);
         content[position..end].copy_from_slice(bytes);
         Ok(Answer::granted())
@@ -252,7 +287,7 @@ impl Tree {
         let (&last, parents) = names.split_last().ok_or(Refusal::number(14))?;
         let parent = self.directory_mut(parents)?;
         match (&parent.entry(last)?.node, kind) {
-            (Node::File(_), Kind::File) => {}
+            (Node::File(file), Kind::File) => file.check_unlocked()?,
             (Node::File(_), Kind::Directory) => return Err(Refusal::at_name(6, last.begins)),
             (Node::Directory(_), Kind::File) => return Err(Refusal::number(7)),
             (Node::Directory(directory), Kind::Directory) => {
@@ -263,6 +298,12 @@ impl Tree {
         }
         let position = parent.position(last.bytes);
         parent.entries[position.expect("the entry was found")] = None;
+        Ok(Answer::granted())
+    }
+
+    /// Sets or clears the lock of a file.
+    pub fn set_lock(&mut self, path: &[u8], locked: bool) -> Result<Answer, Refusal> {
+        self.file_mut(path)?.locked = locked;
         Ok(Answer::granted())
     }
 

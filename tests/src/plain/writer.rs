@@ -45,8 +45,7 @@ pub fn write(image: &mut [u8], path: &[u8], position: usize, bytes: &[u8]) {
     if bytes.is_empty() {
         return;
     }
-    let names = parse(path).expect(GRANTED);
-    let at = entry_of(image, &names);
+    let at = entry_at(image, path);
     let size = size_of(image, at);
     let new_size = size.max(position + bytes.len());
     let mut chain = chain_of(image, at);
@@ -66,8 +65,7 @@ pub fn write(image: &mut [u8], path: &[u8], position: usize, bytes: &[u8]) {
 
 /// Empties the entry of a file or an empty directory and frees its pages.
 pub fn remove(image: &mut [u8], path: &[u8]) {
-    let names = parse(path).expect(GRANTED);
-    let at = entry_of(image, &names);
+    let at = entry_at(image, path);
     let freed = if is_directory(image, at) {
         vec![usize::from(image[at + 17])]
     } else {
@@ -78,6 +76,18 @@ pub fn remove(image: &mut [u8], path: &[u8]) {
         image[3] += 1;
     }
     image[at] = 0;
+}
+
+/// Where the entry of the path is, which is not the root's.
+pub fn entry_at(image: &[u8], path: &[u8]) -> usize {
+    entry_of(image, &parse(path).expect(GRANTED))
+}
+
+/// Sets or clears bit 6 of a file's flags.
+pub fn set_lock(image: &mut [u8], path: &[u8], locked: bool) {
+    let at = entry_at(image, path);
+    let others = image[at] & !0x40;
+    image[at] = others | if locked { 0x40 } else { 0 };
 }
 
 /// Takes the lowest free page and zeroes it.

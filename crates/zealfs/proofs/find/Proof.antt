@@ -9,22 +9,63 @@ use Rattle.zealfs.proofs.find.Statement.{statement}
 use Rattle.zealfs.proofs.find.Tie as tie
 
 returns : tie.Need-returns
-returns c = find-refused (c .before .before .before .before .before .before .before .args .image .now) (c .before .before .before .before .before .before .before .args .path .now) (c .undated .result) (c .undated .ensures) (stopped-refused (c .before .before .before .before .arrive .result) _ (c .before .before .enum-told .given .1) (c .before .refusal-of .ensures) (c .before .before .before .before .arrive .ensures))
+returns c =
+    let told = c .before .before in
+    let arrive = told .before .before in
+    let s = arrive .before .before .before in
+    find-refused (s .args .image .now) (s .args .path .now) (c .undated .result) (c .undated .ensures)
+    (stopped-refused (arrive .arrive .result) _ (told .enum-told .given .1) (c .before .refusal-of .ensures) (arrive .arrive .ensures))
+
+is-locked-requires : tie.Need-is-locked-requires
+is-locked-requires c κs =
+    let arrival = c .before .before .before .before in
+    let arrive = arrival .before .before in
+    let s = arrive .before .before .before in
+    let a = placed-arrived (s .args .image .now) (s .args .path .now) (theFile _ _ _ _) (rw (arrival .arrival .given .1, c .before .place .given .1) at (arrive .arrive .ensures)) in
+    entry-inside (s .args .image .now) (a .facts) (pathOf (s .args .path .now)) _ _ (a .at .0)
 
 date-of-requires : tie.Need-date-of-requires
-date-of-requires c κs = let s = placed-arrived (c .before .before .before .before .before .before .before .before .before .args .image .now) (c .before .before .before .before .before .before .before .before .before .args .path .now) (theFile _ _ _ _) (rw (c .before .before .before .before .arrival .given .1, c .before .place .given .1) at (c .before .before .before .before .before .before .arrive .ensures)) in entry-inside (c .before .before .before .before .before .before .before .before .before .args .image .now) (s .facts) (pathOf (c .before .before .before .before .before .before .before .before .before .args .path .now)) _ _ (s .at .0)
+date-of-requires c κs =
+    let place = c .before .before in
+    let arrival = place .before .before .before in
+    let arrive = arrival .before .before in
+    let s = arrive .before .before .before in
+    let a = placed-arrived (s .args .image .now) (s .args .path .now) (theFile _ _ _ _) (rw (arrival .arrival .given .1, place .place .given .1) at (arrive .arrive .ensures)) in
+    entry-inside (s .args .image .now) (a .facts) (pathOf (s .args .path .now)) _ _ (a .at .0)
 
 date-of-requires-2 : tie.Need-date-of-requires-2
-date-of-requires-2 c κs = let s = placed-arrived (c .before .before .before .before .before .before .before .before .before .args .image .now) (c .before .before .before .before .before .before .before .before .before .args .path .now) (theDirectory _ _ _ _) (rw (c .before .before .before .before .arrival .given .1, c .before .place2 .given .1) at (c .before .before .before .before .before .before .arrive .ensures)) in entry-inside (c .before .before .before .before .before .before .before .before .before .args .image .now) (s .facts) (pathOf (c .before .before .before .before .before .before .before .before .before .args .path .now)) _ _ (s .at .0)
+date-of-requires-2 c κs =
+    let arrival = c .before .before .before .before in
+    let arrive = arrival .before .before in
+    let s = arrive .before .before .before in
+    let a = placed-arrived (s .args .image .now) (s .args .path .now) (theDirectory _ _ _ _) (rw (arrival .arrival .given .1, c .before .place2 .given .1) at (arrive .arrive .ensures)) in
+    entry-inside (s .args .image .now) (a .facts) (pathOf (s .args .path .now)) _ _ (a .at .0)
 
 returns-2 : tie.Need-returns-2
-returns-2 c = find-root (c .before .before .before .before .before .before .before .before .before .args .image .now) (c .before .before .before .before .before .before .before .before .before .args .path .now) (c .undated2 .result) (c .undated2 .ensures) (rw (c .before .before .before .before .arrival .given .1, c .before .enum-told2 .given .1) at (c .before .before .before .before .before .before .arrive .ensures))
+returns-2 c =
+    let arrival = c .before .before .before .before in
+    let arrive = arrival .before .before in
+    let s = arrive .before .before .before in
+    find-root (s .args .image .now) (s .args .path .now) (c .undated2 .result) (c .undated2 .ensures)
+    (rw (arrival .arrival .given .1, c .before .enum-told2 .given .1) at (arrive .arrive .ensures))
 
 returns-3 : tie.Need-returns-3
-returns-3 c = find-file (c .before .before .before .before .before .before .before .before .before .before .args .image .now) (c .before .before .before .before .before .before .before .before .before .before .args .path .now) (c .date-of .ensures) (rw (c .before .before .before .before .before .arrival .given .1, c .before .before .place .given .1) at (c .before .before .before .before .before .before .before .arrive .ensures))
+returns-3 c =
+    let place = c .before .before .before in
+    let arrival = place .before .before .before in
+    let arrive = arrival .before .before in
+    let s = arrive .before .before .before in
+    find-file (s .args .image .now) (s .args .path .now) (c .date-of .ensures) (c .before .is-locked .ensures)
+    (rw (arrival .arrival .given .1, place .place .given .1) at (arrive .arrive .ensures))
 
 returns-4 : tie.Need-returns-4
-returns-4 c = find-directory (c .before .before .before .before .before .before .before .before .before .before .args .image .now) (c .before .before .before .before .before .before .before .before .before .before .args .path .now) (c .date-of2 .ensures) (rw (c .before .before .before .before .before .arrival .given .1, c .before .before .place2 .given .1) at (c .before .before .before .before .before .before .before .arrive .ensures))
+returns-4 c =
+    let place = c .before .before in
+    let arrival = place .before .before .before in
+    let arrive = arrival .before .before in
+    let s = arrive .before .before .before in
+    find-directory (s .args .image .now) (s .args .path .now) (c .date-of2 .ensures)
+    (rw (arrival .arrival .given .1, place .place2 .given .1) at (arrive .arrive .ensures))
 
 pub find-spec : {M : Type 1} → statement M
 find-spec =
@@ -39,6 +80,7 @@ find-spec =
     (λ c. search needs)
     (λ c κs. search needs)
     (λ c. search needs)
+    is-locked-requires
     date-of-requires
     (λ c. search needs)
     date-of-requires-2

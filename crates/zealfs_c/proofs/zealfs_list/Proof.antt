@@ -1,6 +1,6 @@
 -- Each arm knows its case, so what the call ensures is the model's answer in that case, and code and out array are read off it.
 use Rattle.model.specs.Call.{list}
-use Rattle.zealfs_c.specs.Codes.{codeOf, kindNumber, listOut}
+use Rattle.zealfs_c.specs.Codes.{codeOf, kindNumber, lockNumber, listOut}
 use Rattle.zealfs_c.proofs.Fits.{refused-fits}
 use mathlib.Core.Path.{ap, _∙_}
 use borrow.Author.Needs.{needs}
@@ -8,7 +8,7 @@ use Rattle.zealfs_c.proofs.zealfs_list.Statement.{statement}
 use Rattle.zealfs_c.proofs.zealfs_list.Tie as tie
 
 code-requires : tie.Need-code-requires
-code-requires c κs = refused-fits (list (c .before .before .before .before .before .before .before .before .before .args .path .now) (c .before .before .before .before .before .before .before .before .before .args .entry)) (c .before .before .before .before .before .before .before .before .before .args .image .now) (rw (c .before .before .answer2 .given .1) at (c .before .before .before .before .before .before .list .ensures .0))
+code-requires c κs = let s = c .before .before .before .before .before .before .before .before .before in refused-fits (list (s .args .path .now) (s .args .entry)) (s .args .image .now) (rw (c .before .before .answer2 .given .1) at (c .before .before .before .before .before .before .list .ensures .0))
 
 returns : tie.Need-returns
 unfolding codeOf listOut
@@ -16,10 +16,10 @@ returns c = let e = rw (c .before .enum-told .given .1) at (c .before .before .b
 
 returns-2 : tie.Need-returns-2
 unfolding codeOf listOut kindNumber
-returns-2 c = let e = rw (c .before .before .answer .given .1) at (c .before .before .before .before .before .before .list .ensures .0) in (ap codeOf e, (ap listOut e, (c .before .before .before .before .before .before .list .ensures .1, c .before .before .before .before .before .before .list .ensures .2)))
+returns-2 c = let e = rw (c .before .before .before .answer .given .1) at (c .before .before .before .before .before .before .before .list .ensures .0) in (ap codeOf e, (rw (c .before .lock-number .ensures) (ap listOut e), (c .before .before .before .before .before .before .before .list .ensures .1, c .before .before .before .before .before .before .before .list .ensures .2)))
 
 returns-3 : tie.Need-returns-3
-unfolding codeOf listOut kindNumber
+unfolding codeOf listOut kindNumber lockNumber
 returns-3 c = let e = rw (c .before .enum-told2 .given .1) at (c .before .before .before .before .before .list .ensures .0) in (ap codeOf e, (ap listOut e, (c .before .before .before .before .before .list .ensures .1, c .before .before .before .before .before .list .ensures .2)))
 
 returns-4 : tie.Need-returns-4
@@ -33,6 +33,7 @@ zealfs-list-spec =
     (λ c κs. search needs)
     (λ c. search needs)
     (λ c. search needs)
+    (λ c κs. search needs)
     (λ c. search needs)
     (λ c. search needs)
     code-requires

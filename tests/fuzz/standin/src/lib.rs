@@ -85,7 +85,7 @@ pub unsafe extern "C" fn zealfs_find(
     date: *mut u8,
 ) -> u64 {
     let answer = calls().find(lent(image, image_len), lent(path, path_len));
-    tell::<_, 2>(out, &answer.values);
+    tell::<_, 3>(out, &answer.values);
     tell::<_, 8>(date, &answer.date);
     code(&answer)
 }
@@ -105,7 +105,7 @@ pub unsafe extern "C" fn zealfs_list(
     date: *mut u8,
 ) -> u64 {
     let answer = calls().list(lent(image, image_len), lent(path, path_len), entry);
-    tell::<_, 3>(out, &answer.values);
+    tell::<_, 4>(out, &answer.values);
     tell::<_, 16>(name, &answer.name);
     tell::<_, 8>(date, &answer.date);
     code(&answer)
@@ -209,4 +209,30 @@ pub unsafe extern "C" fn zealfs_remove_directory(
     path_len: usize,
 ) -> u64 {
     code(&calls().remove_directory(lent_mut(image, image_len), lent(path, path_len)))
+}
+
+/// # Safety
+///
+/// As include/zealfs.h says.
+#[no_mangle]
+pub unsafe extern "C" fn zealfs_lock(
+    image: *mut u8,
+    image_len: usize,
+    path: *const u8,
+    path_len: usize,
+) -> u64 {
+    code(&calls().lock(lent_mut(image, image_len), lent(path, path_len)))
+}
+
+/// # Safety
+///
+/// As include/zealfs.h says.
+#[no_mangle]
+pub unsafe extern "C" fn zealfs_unlock(
+    image: *mut u8,
+    image_len: usize,
+    path: *const u8,
+    path_len: usize,
+) -> u64 {
+    code(&calls().unlock(lent_mut(image, image_len), lent(path, path_len)))
 }

@@ -24,16 +24,19 @@ pub enum Rare {
     /// A removed file of three pages or more keeps the bit of the last one if
     /// its number is below that of the first.
     KeptBit,
+    /// A locked file of two pages or more takes bytes at its end.
+    LockedAppend,
 }
 
 /// All rare faults.
-pub const RARE: [Rare; 6] = [
+pub const RARE: [Rare; 7] = [
     Rare::LastLink,
     Rare::LastNameByte,
     Rare::LastPages,
     Rare::NameTail,
     Rare::DeepMake,
     Rare::KeptBit,
+    Rare::LockedAppend,
 ];
 
 /// The plain implementation with one rare fault.
@@ -95,6 +98,24 @@ fn has_name_with_tail(image: &[u8], path: &[u8]) -> bool {
         && paths.any(|other| other.len() == path.len() && other.starts_with(without_last))
 }
 
+/// Lengthens a locked file of two pages or more, if the bytes are put at its end.
+fn append_to_locked(
+    image: &mut [u8],
+    path: &[u8],
+    position: u64,
+    bytes: &[u8],
+    refused: Answer,
+) -> Answer {
+    let size = Plain.find(image, path).values[1];
+    if position != size || size <= CONTENT as u64 || bytes.is_empty() {
+        return refused;
+    }
+    Plain.unlock(image, path);
+    let answer = Plain.write(image, path, position, bytes);
+    Plain.lock(image, path);
+    answer
+}
+
 impl Calls for Rarely {
     fn format(&self, image: &mut [u8]) -> Answer {
         Plain.format(image)
@@ -127,6 +148,9 @@ impl Calls for Rarely {
     fn write(&self, image: &mut [u8], path: &[u8], position: u64, bytes: &[u8]) -> Answer {
         let free = image.get(3).copied();
         let answer = Plain.write(image, path, position, bytes);
+        if self.0 == Rare::LockedAppend && answer.number == 25 {
+            return append_to_locked(image, path, position, bytes, answer);
+        }
         let was_roomy = free >= Some(2);
         if self.0 == Rare::LastPages && answer.is_granted() && was_roomy && image[3] == 0 {
             image[3] = 1;
@@ -154,5 +178,13 @@ impl Calls for Rarely {
 
     fn remove_directory(&self, image: &mut [u8], path: &[u8]) -> Answer {
         Plain.remove_directory(image, path)
+    }
+
+    fn lock(&self, image: &mut [u8], path: &[u8]) -> Answer {
+        Plain.lock(image, path)
+    }
+
+    fn unlock(&self, image: &mut [u8], path: &[u8]) -> Answer {
+        Plain.unlock(image, path)
     }
 }

@@ -1,0 +1,212 @@
+-- A granted lock or unlock: bit 6 of the file's flags is what is asked for, and every other bit and byte stays, so the tree's file has this mark and
+-- nothing else changes.
+use mathlib.Core.Path.{_≡_, refl, sym, ap, ap₂, _∙_, subst}
+use Prim.Native.Nat.{ℕ, _+_, _-_, _*_, _/_, _%_, _<_}
+use native.Mathlib.Omega.{arith}
+use mathlib.Core.Bool.{Bool, true, false, not}
+use mathlib.Core.List.{List, []}
+use lib.ListN.{length, set, length-set, take}
+use lib.Dec.{T, eqb}
+use lib.Seq.{getD-set-same, getD-set-other}
+use mathlib.Core.Logic.{_≢_}
+use Rattle.volume.specs.Bytes.{Bytes, byteAt, same, bit, if_then_else_}
+use Rattle.volume.specs.Chain.{chain}
+use Rattle.volume.specs.Geometry as On
+use Rattle.volume.proofs.Occ.{occ, Mem}
+use Rattle.volume.proofs.Tests.{if-yes, if-no}
+use Rattle.volume.proofs.Puts.{part-bytes}
+use Rattle.model.specs.Layout.{pageCount, pagesFor, pageBit, link}
+use Rattle.model.specs.Entry.{occupied, isDirectory, isLocked, nameAt, startAt, sizeAt, dateAt, Entry, vacant, aFile, aDirectory, entryAt}
+use Rattle.model.specs.Sound.{pagesOf, goodEntry, isNamed, sameName, inDirectory, goodDirectory, sound}
+use Rattle.model.specs.Tree.{Row, file, relock, Node}
+use Rattle.model.specs.Path.{Name, below}
+use Rattle.model.specs.Image.{contentOf, entryRow, rowAt, treeOf}
+use Rattle.model.specs.Walk.{arrived, walkTo, entryNamed, changeAt}
+use Rattle.model.specs.Effect.{withLock, relocked}
+use Rattle.model.specs.Refusal.{isMissing, isBlocked, isDirectoryNode}
+use Rattle.laws.proofs.Facts.{Facts}
+use Rattle.laws.proofs.Entries.{within-page}
+use Rattle.laws.proofs.Owns.{own}
+use Rattle.laws.proofs.Frame.{Kept, SamePages, kept-pages}
+use Rattle.laws.proofs.Focus.{named-found}
+use Rattle.laws.proofs.Change.{Works, changed}
+use Rattle.laws.proofs.Walks.{Target, target}
+use Rattle.laws.proofs.Slots.{size, Slot}
+use Rattle.laws.proofs.Write as W
+
+-- ---- the flags byte
+
+-- the byte without bit 6
+low-bits : (x : ℕ) → x - 64 * bit 6 x ≡ 128 * (x / 128) + x % 64
+low-bits x =
+    let h : x / 64 / 2 ≡ x / 128 = omega arith in
+    let l : x / 64 ≡ 2 * (x / 128) + x / 64 % 2 = omega (arith, h) in
+    omega (arith, l)
+
+-- bits 7 and 0 stay, and bit 6 is the mark
+pub lock-bits : (k : Bool) (x : ℕ) → (bit 7 (withLock k x) ≡ bit 7 x) × (bit 0 (withLock k x) ≡ bit 0 x) × (bit 6 (withLock k x) ≡ (if k then 1 else 0))
+unfolding withLock
+lock-bits true x =
+    let e : x - 64 * bit 6 x + 64 ≡ 128 * (x / 128) + (x % 64 + 64) = ap (λ (y : ℕ). y + 64) (low-bits x) ∙ omega arith in
+    let h : (128 * (x / 128) + (x % 64 + 64)) / 128 ≡ x / 128 = omega arith in
+    let m : (128 * (x / 128) + (x % 64 + 64)) / 64 ≡ 2 * (x / 128) + 1 = omega arith in
+    let l : (128 * (x / 128) + (x % 64 + 64)) / 1 % 2 ≡ x / 1 % 2 = omega arith in
+    (ap (λ (y : ℕ). y / 128 % 2) e ∙ ap (λ (y : ℕ). y % 2) h, ap (λ (y : ℕ). y / 1 % 2) e ∙ l, ap (λ (y : ℕ). y / 64 % 2) e ∙ ap (λ (y : ℕ). y % 2) m ∙ omega arith)
+lock-bits false x =
+    let e : x - 64 * bit 6 x + 0 ≡ 128 * (x / 128) + x % 64 = ap (λ (y : ℕ). y + 0) (low-bits x) ∙ omega arith in
+    let h : (128 * (x / 128) + x % 64) / 128 ≡ x / 128 = omega arith in
+    let m : (128 * (x / 128) + x % 64) / 64 ≡ 2 * (x / 128) = omega arith in
+    let l : (128 * (x / 128) + x % 64) / 1 % 2 ≡ x / 1 % 2 = omega arith in
+    (ap (λ (y : ℕ). y / 128 % 2) e ∙ ap (λ (y : ℕ). y % 2) h, ap (λ (y : ℕ). y / 1 % 2) e ∙ l, ap (λ (y : ℕ). y / 64 % 2) e ∙ ap (λ (y : ℕ). y % 2) m ∙ omega arith)
+
+pub lock-small : (k : Bool) (x : ℕ) → x < 256 → withLock k x < 256
+unfolding withLock
+lock-small true x h = omega (arith, h, low-bits x)
+lock-small false x h = omega (arith, h)
+
+lock-mark : (k : Bool) → eqb (if k then 1 else 0) 1 ≡ k
+lock-mark true = refl
+lock-mark false = refl
+
+-- a file's entry whose bits 7 and 0 and other fields stay
+entry-relocked : (b b′ : Bytes) (at : ℕ) (k : Bool) → T (W.isFileEntry (entryAt b at)) → occupied b′ at ≡ occupied b at → isDirectory b′ at ≡ isDirectory b at → isLocked b′ at ≡ k
+    → nameAt b′ at ≡ nameAt b at → dateAt b′ at ≡ dateAt b at → startAt b′ at ≡ startAt b at → sizeAt b′ at ≡ sizeAt b at
+    → entryAt b′ at ≡ aFile k (nameAt b at) (dateAt b at) (startAt b at) (sizeAt b at)
+unfolding entryAt W.isFileEntry
+entry-relocked b b′ at k h o d l n a s z = rw (o, d, l, n, a, s, z) (go (occupied b at) (isDirectory b at) h)
+  where
+    go : (o c : Bool) → T (W.isFileEntry (if o then (if c then aDirectory (nameAt b at) (dateAt b at) (startAt b at) (sizeAt b at) else aFile (isLocked b at) (nameAt b at) (dateAt b at) (startAt b at) (sizeAt b at)) else vacant))
+        → (if o then (if c then aDirectory (nameAt b at) (dateAt b at) (startAt b at) (sizeAt b at) else aFile k (nameAt b at) (dateAt b at) (startAt b at) (sizeAt b at)) else vacant)
+        ≡ aFile k (nameAt b at) (dateAt b at) (startAt b at) (sizeAt b at)
+    go true true h = absurd h
+    go true false h = refl
+    go false c h = absurd h
+
+-- ---- relock
+
+relock-skip : (b : Bytes) (g : ℕ → Row) (n : Bytes) (k : Bool) (x : Entry) → T (not (isNamed n x)) → (rest : Row) → relock n k (entryRow b g x rest) ≡ entryRow b g x (relock n k rest)
+unfolding relock entryRow isNamed pagesOf
+relock-skip b g n k vacant h rest = refl
+relock-skip b g n k (aFile locked name date start size) h rest =
+    if-no (same name n) (entryRow b g (aFile k name date start size) rest) (entryRow b g (aFile locked name date start size) (relock n k rest)) h
+relock-skip b g n k (aDirectory name date start size) h rest = refl
+
+relock-work : (b : Bytes) (g : ℕ → Row) (n : Bytes) (k locked : Bool) (name date : Bytes) (start size : ℕ) → T (isNamed n (aFile locked name date start size)) → (rest : Row)
+    → relock n k (entryRow b g (aFile locked name date start size) rest) ≡ entryRow b g (aFile k name date start size) rest
+unfolding relock entryRow isNamed pagesOf
+relock-work b g n k locked name date start size h rest =
+    if-yes (same name n) (entryRow b g (aFile k name date start size) rest) (entryRow b g (aFile locked name date start size) (relock n k rest)) h
+
+-- ---- a file that some names lead to
+
+module _ (b : Bytes) (f : Facts b) (ns : List Name) (n : Name) (tg : Target b ns n) (isFile : T (W.isFileEntry (entryAt b (tg .at)))) (k : Bool) where
+  abbrev at : ℕ
+  at = tg .at
+
+  abbrev t : ℕ
+  t = tg .above .t
+
+  abbrev e : ℕ
+  e = tg .above .e
+
+  abbrev b′ : Bytes
+  b′ = set b at (withLock k (byteAt b at))
+
+  abbrev s₀ : ℕ
+  s₀ = sizeAt b at
+
+  slot : Slot b t at
+  slot = W.file-slot b f ns n tg isFile
+
+  pub long : length b′ ≡ length b
+  long = length-set b at (withLock k (byteAt b at))
+
+  pub lock-rest : (i : ℕ) → i ≢ at → byteAt b′ i ≡ byteAt b i
+  lock-rest i ne = getD-set-other b at i (withLock k (byteAt b at)) 0 ne
+
+  pub lock-flags : byteAt b′ at ≡ withLock k (byteAt b at)
+  lock-flags = getD-set-same b at (withLock k (byteAt b at)) 0 (omega (arith, slot .inside))
+
+  -- the entry afterwards
+  is : entryAt b at ≡ aFile (isLocked b at) (nameAt b at) (dateAt b at) (startAt b at) s₀
+  is = W.is b f ns n tg isFile
+
+  pub is′ : entryAt b′ at ≡ aFile k (nameAt b at) (dateAt b at) (startAt b at) s₀
+  is′ =
+      let r = lock-bits k (byteAt b at) in
+      let other : (i : ℕ) → at < i → byteAt b′ i ≡ byteAt b i = λ i l. lock-rest i (λ q. omega (arith, q, l)) in
+      entry-relocked b b′ at k isFile
+      (ap (λ (x : ℕ). eqb (bit 7 x) 1) lock-flags ∙ ap (λ (x : ℕ). eqb x 1) (r .0))
+      (ap (λ (x : ℕ). eqb (bit 0 x) 1) lock-flags ∙ ap (λ (x : ℕ). eqb x 1) (r .1))
+      (ap (λ (x : ℕ). eqb (bit 6 x) 1) lock-flags ∙ ap (λ (x : ℕ). eqb x 1) (r .2) ∙ lock-mark k)
+      (part-bytes (at + 1) 16 b b′ long (λ i l u. other i (omega arith)))
+      (part-bytes (at + 20) 8 b b′ long (λ i l u. other i (omega arith)))
+      (other (at + 17) (omega arith))
+      (ap₂ (λ (x y : ℕ). x + 256 * y) (other (at + 18) (omega arith)) (other (at + 19) (omega arith)))
+
+  -- the file's pages are not the directory's, where its entry stands
+  pages-kept : Kept b b′ (chain (link b) (pagesFor s₀) (startAt b at))
+  pages-kept q m =
+      let c = W.file-chained b f ns n tg isFile in
+      let home : at / 256 ≡ t = within-page t at (slot .within) at (omega arith) (omega arith) in
+      (W.file-owned b f ns n tg isFile .inside q m .0, λ i l u. lock-rest i (λ w. omega (arith, m, c .apart, ap (λ (x : ℕ). occ x (chain (link b) (pagesFor s₀) (startAt b at))) (sym l ∙ ap (λ (x : ℕ). x / 256) w ∙ home))))
+
+  same-pages : SamePages b b′ (aFile k (nameAt b at) (dateAt b at) (startAt b at) s₀)
+  unfolding pagesOf
+  same-pages = kept-pages b b′ long (aFile k (nameAt b at) (dateAt b at) (startAt b at) s₀) pages-kept
+
+  works : Works b b′ e t at (relock (n .bytes) k) (isNamed (n .bytes))
+  unfolding entryNamed goodEntry sameName isNamed entryRow pagesOf contentOf
+  works = record {
+    skip = relock-skip b (rowAt e b) (n .bytes) k;
+    work = λ rest.
+        ap (λ (x : Entry). relock (n .bytes) k (entryRow b (rowAt e b) x rest)) is
+        ∙ relock-work b (rowAt e b) (n .bytes) k (isLocked b at) (nameAt b at) (dateAt b at) (startAt b at) s₀ (subst (λ (x : Entry). T (isNamed (n .bytes) x)) is (W.found b f ns n tg isFile .1)) rest
+        ∙ ap (λ (v : Bytes). file k (nameAt b at) (dateAt b at) (take s₀ v) rest) (sym (same-pages .content))
+        ∙ ap (λ (ps : List ℕ). file k (nameAt b at) (dateAt b at) (contentOf b′ s₀ ps) rest) (sym (same-pages .pages))
+        ∙ ap (λ (x : Entry). entryRow b′ (rowAt e b′) x rest) (sym is′);
+    found = tg .found;
+    good = subst (λ (x : Entry). T (goodEntry b′ x)) (sym is′)
+        (subst T (sym (same-pages .good)) (subst (λ (x : Entry). T (goodEntry b x)) is (W.good b f ns n tg isFile .each at (W.found b f ns n tg isFile .0))));
+    below = subst (λ (x : Entry). T (inDirectory true (goodDirectory e b′) x)) (sym is′) tt;
+    name = λ x m ne. subst (λ (y : Entry). T (not (sameName y (entryAt b x)))) (sym is′)
+        (subst (λ (y : Entry). T (not (sameName y (entryAt b x)))) is (W.good b f ns n tg isFile .apart at x (W.found b f ns n tg isFile .0) m (λ q. ne (sym q))));
+  }
+
+  pub locked-sound : T (sound b′) × (treeOf b′ ≡ record { pages = pageCount b; root = changeAt ns (relock (n .bytes) k) (rowAt (pageCount b) b 0) })
+  unfolding On.pageBit own pagesOf
+  locked-sound =
+      let far = slot .within .far in
+      let mine′ : own e b′ (entryAt b′ at) ≡ own e b (entryAt b at) = ap (own e b′) is′ ∙ same-pages .pages ∙ sym (W.mine b f ns n tg isFile) in
+      let low : (i : ℕ) → i < 36 → byteAt b′ i ≡ byteAt b i = λ i l. lock-rest i (λ q. omega (arith, q, far, l)) in
+      changed b b′ f ns e t at [] (tg .above .leads) (W.found b f ns n tg isFile .0)
+      (record { len = long; head = λ i l. lock-rest i (λ q. omega (arith, q, far)); rest = λ i l u z. lock-rest i (λ q. omega (arith, q, u (omega (arith, q)))) })
+      (λ q k. absurd (omega arith))
+      (relock (n .bytes) k) (isNamed (n .bytes)) (tg .above .good) works
+      (record {
+        bits = λ q l.
+            let s : pageBit b′ q ≡ pageBit b q = ap (λ (x : ℕ). bit (q % 8) x) (low (4 + q / 8) (omega (arith, l, size b f .high))) in
+            omega (arith, s, ap (occ q) mine′);
+        count = omega (arith, low 3 (omega arith), ap length mine′);
+        fresh-in = λ q m. let r = W.file-owned b f ns n tg isFile .inside q (subst (Mem q) (mine′ ∙ W.mine b f ns n tg isFile) m) in (r .0, r .1);
+      })
+
+-- ---- the call
+
+-- the entry of a path that leads to no directory is a file's
+pub target-file : (b : Bytes) → Facts b → (ns : List Name) (n : Name) (tg : Target b ns n)
+    → ((x : Node) → walkTo (below ns n) (rowAt (pageCount b) b 0) ≡ arrived x → T (not (isDirectoryNode x))) → T (W.isFileEntry (entryAt b (tg .at)))
+target-file b f ns n tg isFile =
+    W.node-file b (rowAt (tg .above .e) b) (n .bytes) (entryAt b (tg .at)) (named-found b (tg .above .t) (n .bytes) (tg .at) (tg .found) .1) (isFile _ (tg .node))
+
+pub locked-tree : (b : Bytes) → Facts b → (ns : List Name) (n : Name) (k : Bool)
+    → T (not (isMissing (walkTo (below ns n) (rowAt (pageCount b) b 0)))) → T (not (isBlocked (walkTo (below ns n) (rowAt (pageCount b) b 0))))
+    → ((x : Node) → walkTo (below ns n) (rowAt (pageCount b) b 0) ≡ arrived x → T (not (isDirectoryNode x)))
+    → T (sound (relocked (below ns n) k b)) × (treeOf (relocked (below ns n) k b) ≡ record { pages = pageCount b; root = changeAt ns (relock (n .bytes) k) (rowAt (pageCount b) b 0) })
+unfolding relocked
+locked-tree b f ns n k u v isFile =
+    let tg = target b f ns n u v in
+    let is = target-file b f ns n tg isFile in
+    subst (λ (at : ℕ). let b′ = set b at (withLock k (byteAt b at)) in
+    T (sound b′) × (treeOf b′ ≡ record { pages = pageCount b; root = changeAt ns (relock (n .bytes) k) (rowAt (pageCount b) b 0) }))
+    (sym (tg .position)) (locked-sound b f ns n tg is k)
