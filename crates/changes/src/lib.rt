@@ -180,6 +180,6 @@ pub fn write_entry(
     let sized = size_bytes(new_size);
     put(image, entry + 18, &sized);
     // Growth may have put it there: nothing here leans on a file having pages before.
-    let first = Page(fields::wide(image[entry + 17]));
+    let first = fields::start_of(image, entry);
     chains::write_chain(image, first, wanted, position, bytes);
 }

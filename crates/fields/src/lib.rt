@@ -4,7 +4,7 @@ ghost use mathlib.Core.Path.{_≡_};
 ghost use Prim.Native.Nat.{_+_, _*_, _/_, _^_, _≤_, _<_, min, max};
 ghost use lib.ListN.{length};
 ghost use Rattle.model.specs.Layout.{pageSize, pagesFor, validLength, validHeader, freeCount, link};
-ghost use Rattle.model.specs.Entry.{isLocked, entryCount, entriesStart, nameAt, dateAt, entryAt};
+ghost use Rattle.model.specs.Entry.{isLocked, entryCount, entriesStart, nameAt, startAt, dateAt, entryAt};
 ghost use Rattle.fields.specs.Read.{entryOf, Small};
 
 // The number of a page. It becomes a position in `first_byte`.
@@ -157,6 +157,14 @@ pub fn entry_at(image: &[u8], at: usize) -> Entry
     } else {
         Entry::File(start, size)
     }
+}
+
+// The start page, which a growing file gets in the midst of a write.
+pub fn start_of(image: &[u8], at: usize) -> Page
+    requires { ⌜ at + 32 ≤ length (now image) ⌝ }
+    ensures { λ r. ⌜ (r .0 ≡ startAt (now (image .entry)) at) × (r .0 < 256) ⌝ }
+{
+    Page(wide(image[at + 17]))
 }
 
 // A file is locked by bit 6 of its flags (02 §10).

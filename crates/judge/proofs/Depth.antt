@@ -12,11 +12,12 @@ use Rattle.model.specs.Layout.{pageCount}
 use Rattle.model.specs.Entry.{entries, Entry, vacant, aFile, aDirectory, entryAt}
 use Rattle.model.specs.Judge.{badEntry, badChain, Judged, fault, clean}
 use Rattle.model.specs.Judge.{thenJudge, judgePage, freshName, judgeEntry, judgeEntries, judgeDirectory, judgeRest, judge}
+use Rattle.model.proofs.Bounds.{entries-few}
 use Rattle.judge.specs.Walk.{unowned}
 use Rattle.judge.proofs.Marks.{page-made}
 use Rattle.judge.proofs.Walk.{Within, within-entry, within-directory}
 use Rattle.judge.proofs.Image.{unowned-all}
-use Rattle.judge.proofs.Placed.{Placed, placed-page, placed-entry, entries-few, placed-directory}
+use Rattle.judge.proofs.Placed.{Placed, placed-page, placed-entry, placed-directory}
 
 then-same : (j : Judged) (f g : List ℕ → Judged) → ((m : List ℕ) → clean m ≡ j → f m ≡ g m) → thenJudge j f ≡ thenJudge j g
 unfolding thenJudge
@@ -61,7 +62,7 @@ module _ (b : Bytes) where
   directory-same (suc f) (suc g) p m pn each uf ug =
       entries-same (judgeDirectory f b) (judgeDirectory g b) (unowned m) (placed-directory b f) (within-directory b f)
       (λ q l qn long less. directory-same f g q l qn long (omega arith) (omega arith))
-      p 0 [] (entries p) m pn (omega (arith, entries-few b p)) each (le-refl _)
+      p 0 [] (entries p) m pn (omega (arith, entries-few p)) each (le-refl _)
 
   -- the walk of any depth from N on is the one of depth N
   pub judge-depth : (depth : ℕ) → 1 ≤ pageCount b → pageCount b ≤ depth → thenJudge (judgeDirectory depth b 0 (replicate (pageCount b) 0)) (judgeRest b) ≡ judge b

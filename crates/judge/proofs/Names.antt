@@ -1,35 +1,14 @@
 -- A name is fresh if it is legal and the entries before it, looked at from the last to the first, have another.
-use mathlib.Core.Path.{_≡_, refl, sym, ap, _∙_}
-use mathlib.Core.Logic.{_⊎_, inl, inr}
+use mathlib.Core.Path.{_≡_, refl}
 use Prim.Native.Nat.{ℕ, zero, suc, _-_, _≤_, _<_}
 use native.Mathlib.Omega.{arith}
-use mathlib.Core.Bool.{Bool, true, false, not, _&&_}
-use denote.Enum.Declared.{tagOf}
-use Rattle.volume.specs.Bytes.{Bytes, same}
+use mathlib.Core.Bool.{Bool, true, not, _&&_}
+use Rattle.volume.specs.Bytes.{Bytes}
 use Rattle.volume.specs.Lists.{all}
-use Rattle.model.specs.Entry.{isLocked, nameAt, dateAt, entryAt}
+use Rattle.model.specs.Entry.{entryAt}
 use Rattle.model.specs.Sound.{isNamed}
-use Rattle.fields.proofs.Entry.{the-type}
 use Rattle.fields.specs.declared.Entry.{Entry}
-use Rattle.fields.specs.declared.Entry.the-variants.{Vacant, File, Directory}
-use Rattle.fields.specs.Read.{entryOf}
 use Rattle.judge.specs.Walk.{position, earlier}
-
--- ---- the name of one entry, which an occupied one has and a vacant one has not
-
-module _ (b : Bytes) (at other : ℕ) (r : Entry) (read : entryOf r (isLocked b at) (nameAt b at) (dateAt b at) ≡ entryAt b at) where
-  pub vacant-unnamed : r ≡ Vacant → false ≡ isNamed (nameAt b other) (entryAt b at)
-  unfolding isNamed
-  vacant-unnamed v = ap (isNamed (nameAt b other)) (ap (λ (s : Entry). entryOf s (isLocked b at) (nameAt b at) (dateAt b at)) (sym v) ∙ read)
-
-  pub occupied-named : (tagOf the-type r ≡ 1) ⊎ (tagOf the-type r ≡ 2) → same (nameAt b at) (nameAt b other) ≡ isNamed (nameAt b other) (entryAt b at)
-  unfolding isNamed
-  occupied-named o = named r o ∙ ap (isNamed (nameAt b other)) read
-    where
-      named : (s : Entry) → (tagOf the-type s ≡ 1) ⊎ (tagOf the-type s ≡ 2) → same (nameAt b at) (nameAt b other) ≡ isNamed (nameAt b other) (entryOf s (isLocked b at) (nameAt b at) (dateAt b at))
-      named Vacant k = elim k [ inl u ↦ absurd (omega arith) | inr u ↦ absurd (omega arith) ]
-      named (File start size) k = refl
-      named (Directory start size) k = refl
 
 -- ---- the entries before entry j
 

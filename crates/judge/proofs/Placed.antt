@@ -6,7 +6,7 @@ use mathlib.Core.Bool.{Bool, true, false, _&&_}
 use mathlib.Core.Option.{Option, none, some}
 use mathlib.Core.List.{List, [], _∷_}
 use lib.ListN.{length, getD, set, replicate, length-set, length-replicate}
-use lib.Dec.{eqb, leb, ltb, eqb·suc-zero}
+use lib.Dec.{eqb, leb, ltb}
 use borrow.Author.Tests.{ltb-true}
 use Rattle.volume.specs.Bytes.{Bytes, if_then_else_}
 use Rattle.volume.specs.Lists.{countFrom, first}
@@ -15,6 +15,7 @@ use Rattle.model.specs.Layout.{pageCount, pagesFor, freeCount, pageBit, zeroBit
 use Rattle.model.specs.Entry.{entries, Entry, vacant, aFile, aDirectory, entryAt}
 use Rattle.model.specs.Judge.{Fault, badEntry, badChain, ownedTwice, markedFree, lostPage, badCount, Judged, fault, clean}
 use Rattle.model.specs.Judge.{thenJudge, judgePage, judgeChain, freshName, judgeEntry, judgeEntries, judgeDirectory, lostOr, judgeRest, judge}
+use Rattle.model.proofs.Bounds.{entries-few}
 use Rattle.judge.specs.Walk.{zeros, unowned, isLost}
 use Rattle.judge.proofs.Marks.{page-made}
 
@@ -97,14 +98,9 @@ module _ (b : Bytes) where
         (placed-entry d i ear (entryAt b at) m dn (omega arith) each)
         (λ l e long. placed-entries d (suc i) (at ∷ ear) ats l dn (omega arith) long)
 
-  pub entries-few : (p : ℕ) → length (entries p) ≤ 8
-  unfolding entries countFrom
-  entries-few zero = omega arith
-  entries-few (suc p) = rw (eqb·suc-zero p) (omega arith)
-
   pub placed-directory : (f p : ℕ) (m : List ℕ) → p < pageCount b → length m ≡ pageCount b → Placed (pageCount b) (judgeDirectory f b p m)
   unfolding judgeDirectory
-  placed-directory zero p m pn each = tt
+  placed-directory zero p m pn each = (pn, omega arith)
   placed-directory (suc f) p m pn each = placed-entries (judgeDirectory f b) (placed-directory f) p 0 [] (entries p) m pn (omega (arith, entries-few p)) each
 
   -- ---- after it

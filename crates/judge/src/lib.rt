@@ -9,7 +9,6 @@ ghost use lib.ListN.{length, replicate};
 ghost use Rattle.volume.specs.Lists.{first, countFrom};
 ghost use Rattle.model.specs.Layout.{pageCount};
 ghost use Rattle.model.specs.Entry.{entryCount, nameAt, entryAt};
-ghost use Rattle.model.specs.Sound.{isNamed};
 ghost use Rattle.model.specs.Judge.{clean, judgePage, judgeChain, freshName, judgeEntry, judgeDirectory, lostOr, judgeRest, judge};
 ghost use Rattle.judge.specs.Answers.{faultOf, outcome, findingOf, judgedAs};
 ghost use Rattle.judge.specs.Walk.{Marked, unowned, isLost, position, earlier};
@@ -100,18 +99,6 @@ fn own_chain(
 
 // ---- names
 
-// The entry at position `at` has the name of the one at `other`. A vacant entry has none, whatever its bytes.
-fn has_name_of(image: &[u8], at: usize, other: usize) -> bool
-    requires { ⌜ (at + 32 ≤ length (now image)) × (other + 32 ≤ length (now image)) ⌝ }
-    ensures { λ r. ⌜ r ≡ isNamed (nameAt (now (image .entry)) other) (entryAt (now (image .entry)) at) ⌝ }
-{
-    let entry = fields::entry_at(image, at);
-    if let Entry::Vacant = entry {
-        return false;
-    }
-    names::same_name(image, at, other)
-}
-
 // The name of entry i is legal, and no earlier entry of the directory has it. The model has the earlier ones from the last
 // to the first, so the loop runs down.
 fn name_is_fresh(image: &[u8], directory: Page, i: usize) -> bool
@@ -125,7 +112,7 @@ fn name_is_fresh(image: &[u8], directory: Page, i: usize) -> bool
     let mut j = i;
     while 0 < j {
         j -= 1;
-        if has_name_of(image, fields::entry_position(directory, j), at) {
+        if names::has_name_of(image, fields::entry_position(directory, j), at) {
             return false;
         }
     }

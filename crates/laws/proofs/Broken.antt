@@ -2,7 +2,7 @@
 -- among the owned ones, which are in range. A path leads to an entry that is reached.
 use mathlib.Core.Path.{_≡_, refl, sym, ap, ap₂, _∙_, subst}
 use mathlib.Core.Logic.{inl, inr}
-use Prim.Native.Nat.{ℕ, zero, suc, _≤_}
+use Prim.Native.Nat.{ℕ, zero, suc}
 use native.Mathlib.Omega.{arith}
 use mathlib.Core.Bool.{Bool, true, false, not}
 use mathlib.Core.List.{List, [], _∷_}
@@ -10,13 +10,13 @@ use lib.Dec.{T, eqb, leb, ltb, eqb→eq, le→leb, lt→ltb}
 use Rattle.volume.specs.Bytes.{Bytes}
 use Rattle.volume.specs.Lists.{member}
 use Rattle.volume.specs.Chain.{chain, beyond}
-use Rattle.volume.proofs.Occ.{occ, Mem, mem-head, mem-tail, mem-cons}
+use Rattle.volume.proofs.Occ.{Mem, mem-head, mem-tail, mem-cons}
 use Rattle.volume.proofs.Flat.{occ-flatMap-le, mem-flatMap}
 use Rattle.volume.proofs.Tests.{and-both, both-and, member-occ, occ-member, occ-all}
 use Rattle.model.specs.Layout.{pageCount, pagesFor, link}
 use Rattle.model.specs.Name.{legalName}
 use Rattle.model.specs.Entry.{entries, Entry, vacant, aFile, aDirectory, entryAt}
-use Rattle.model.specs.Sound.{pagesOf, pagesAt, goodEntry, isNamed, inDirectory, goodDirectory, reachedBy, reached, reachedEntries, ownedPages, inRange, sound}
+use Rattle.model.specs.Sound.{pagesOf, pagesAt, goodEntry, isNamed, inDirectory, goodDirectory, reachedBy, reached, reachedEntries, inRange, sound}
 use Rattle.model.specs.Tree.{Row, Node, fileNode, directoryNode}
 use Rattle.model.specs.Path.{Name, Path, noPath, root, below, isRoot}
 use Rattle.model.specs.Image.{rowAt, treeOf}

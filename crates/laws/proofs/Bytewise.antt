@@ -3,8 +3,7 @@
 use mathlib.Core.Path.{_≡_, sym, ap, _∙_, subst}
 use Prim.Native.Nat.{ℕ, zero, suc, _+_, _-_, _*_, _/_, _%_, _≤_, _<_, max}
 use native.Mathlib.Omega.{arith}
-use mathlib.Core.Bool.{Bool, true, false, not, _&&_}
-use mathlib.Core.Option.{Option, Option·getD}
+use mathlib.Core.Bool.{Bool, true, false, _&&_}
 use mathlib.Core.List.{List, [], _∷_, _++_, foldl}
 use lib.ListN.{length, set, replicate}
 use lib.Dec.{T, eqb, leb, eqb→eq, leb→le}
@@ -23,27 +22,26 @@ use Rattle.model.specs.Name.{legalByte, legalRest, legalName}
 use Rattle.model.specs.Date.{isBcd, goodDate}
 use Rattle.model.specs.Entry.{entries, startAt, sizeAt, entryAt, newEntry}
 use Rattle.model.specs.Sound.{pagesAt, ownedPages, sound}
-use Rattle.model.specs.Tree.{Node}
-use Rattle.model.specs.Path.{Name, Path, below, pathOf}
-use Rattle.model.specs.Image.{rowAt, treeOf}
-use Rattle.model.specs.Walk.{Walked, arrivedOr, parentPage, entryPosition}
-use Rattle.model.specs.Effect.{formatted, lowestVacant, made, rewritten, written, removed, withLock, relocked}
+use Rattle.model.specs.Path.{Name, Path, pathOf}
+use Rattle.model.specs.Image.{treeOf}
+use Rattle.model.specs.Walk.{entryPosition}
+use Rattle.model.specs.Effect.{formatted, made, rewritten, written, removed, withLock, relocked}
 use Rattle.model.specs.Call.{Call, format, verdict, find, list, read, makeFile, makeDirectory, write, removeFile, removeDirectory, setLock, refusal}
-use Rattle.model.specs.Refusal.{isDirectoryNode, contentIn, node, wanted, earlier, later, refusals, size, Passes}
+use Rattle.model.specs.Refusal.{wanted, earlier, later, refusals, size, Passes}
 use Rattle.model.specs.Meaning.{isFormat, lines, effect, after}
 use Rattle.model.proofs.Version1.{home}
 use Rattle.laws.proofs.Facts.{Facts, sound-facts, valid-sized}
 use Rattle.laws.proofs.Owns.{own-le, pages-own}
 use Rattle.laws.proofs.Counting.{count-owned, fill-up}
 use Rattle.laws.proofs.Focus.{named-found, leads-owned}
-use Rattle.laws.proofs.Walks.{nodeOf, Target, target}
+use Rattle.laws.proofs.Walks.{Target, target}
 use Rattle.laws.proofs.Lock.{lock-small}
 use Rattle.laws.proofs.Slots.{lawful, header-marked, size as sized}
 use Rattle.laws.proofs.NewEntry.{new-length, new-start}
-use Rattle.laws.proofs.Make.{Place, place-of, place-held, madeAt}
-use Rattle.laws.proofs.Write.{isFileEntry, node-file, file-pages, file-chained, file-content, file-size, rewritten-is}
+use Rattle.laws.proofs.Make.{Place, place-held, madeAt}
+use Rattle.laws.proofs.Write.{isFileEntry, file-pages, file-chained, rewritten-is}
 use Rattle.laws.proofs.Lines.{passed, settle-both}
-use Rattle.laws.proofs.Passed.{Makes, Writes, Removes, sound-passed, make-passed, write-passed, remove-file-passed, remove-directory-passed}
+use Rattle.laws.proofs.Passed.{Makes, Writes, Removes, sound-passed, make-passed, write-passed, remove-file-passed, remove-directory-passed, make-place, make-image, write-target, write-position, write-file, write-size, write-begins, write-space}
 
 -- ---- bytes of a list
 
@@ -136,18 +134,14 @@ small-removed b f path r s =
 -- ---- write
 
 module _ (b : Bytes) (f : Facts b) (path : Bytes) (from : ℕ) (v : Bytes) (w : Writes b path from v) where
-  tg : Target b (w .ns) (w .n)
-  tg = target b f (w .ns) (w .n) (w .reached) (w .entered)
+  abbrev tg : Target b (w .ns) (w .n)
+  tg = write-target b f path from v w
 
-  here : node path (treeOf b) ≡ nodeOf b (rowAt (tg .above .e) b) (entryAt b (tg .at))
-  here = let l = w .leads in let r = tg .node in cc
-
-  isFile : T (isFileEntry (entryAt b (tg .at)))
-  isFile = node-file b (rowAt (tg .above .e) b) (w .n .bytes) (entryAt b (tg .at)) (named-found b (tg .above .t) (w .n .bytes) (tg .at) (tg .found) .1)
-      (subst (λ (x : Node). T (not (isDirectoryNode x))) here (w .isFile))
+  abbrev isFile : T (isFileEntry (entryAt b (tg .at)))
+  isFile = write-file b f path from v w
 
   same-size : size path (treeOf b) ≡ sizeAt b (tg .at)
-  same-size = ap (λ (x : Node). length (contentIn x)) here ∙ ap length (file-content b f (w .ns) (w .n) tg isFile) ∙ file-size b f (w .ns) (w .n) tg isFile
+  same-size = write-size b f path from v w
 
   -- the file's pages, those gained and the header are different pages of the image
   pages-fit : pagesFor (max (size path (treeOf b)) (from + length v)) < pageCount b
@@ -162,9 +156,8 @@ module _ (b : Bytes) (f : Facts b) (path : Bytes) (from : ℕ) (v : Bytes) (w : 
   small-rewritten : Small v → Small b → Small (rewritten (tg .at) from v b)
   small-rewritten hv hb =
       let s₀ : ℕ = sizeAt b (tg .at) in
-      let hf : from ≤ s₀ = omega (arith, w .begins, same-size) in
-      let space : pagesFor (max s₀ (from + length v)) - pagesFor s₀ ≤ zeroBits b (pageCount b) =
-      subst (λ (m : ℕ). pagesFor (max m (from + length v)) - pagesFor m ≤ zeroBits b (pageCount b)) same-size (w .space) in
+      let hf : from ≤ s₀ = write-begins b f path from v w in
+      let space : pagesFor (max s₀ (from + length v)) - pagesFor s₀ ≤ zeroBits b (pageCount b) = write-space b f path from v w in
       subst Small (sym (rewritten-is b f (w .ns) (w .n) tg isFile from v hf space))
       (small-written version1 home (pageCount b) (lawful b f) b (byte (tg .at + 17)) (tg .above .t) (pagesFor s₀) (pagesFor (max s₀ (from + length v)) - pagesFor s₀)
       (tg .at + 18) (le16 (max s₀ (from + length v))) from v (file-chained b f (w .ns) (w .n) tg isFile) space (numbers-fit b f (tg .at + 17)) (λ q. numbers-fit b f (256 * q))
@@ -176,8 +169,7 @@ module _ (b : Bytes) (f : Facts b) (path : Bytes) (from : ℕ) (v : Bytes) (w : 
     where
       go : (c : Bool) → Small (if c then b else rewritten (entryPosition b (pathOf path)) from v b)
       go true = hb
-      go false = subst (λ (p : Path). Small (rewritten (entryPosition b p) from v b)) (sym (w .is))
-          (subst (λ (at : ℕ). Small (rewritten at from v b)) (sym (tg .position)) (small-rewritten hv hb))
+      go false = subst (λ (at : ℕ). Small (rewritten at from v b)) (sym (write-position b f path from v w)) (small-rewritten hv hb)
 
 pub write-fits : (path : Bytes) (from : ℕ) (v b : Bytes) → T (sound b) → Passes (refusals (write path from v) (treeOf b))
     → (pagesFor (max (size path (treeOf b)) (from + length v)) < pageCount b) × (max (size path (treeOf b)) (from + length v) ≤ 65025)
@@ -189,12 +181,8 @@ write-fits path from v b h e =
 -- ---- make
 
 module _ (b : Bytes) (f : Facts b) (path date : Bytes) (fl z k : ℕ) (m : Makes b path date k) where
-  place : Place b (m .ns) (m .n .bytes) date k
-  place = place-of b f (m .ns) (m .n) date k (m .clear)
-
-  position : lowestVacant b (parentPage b (below (m .ns) (m .n))) ≡ place .at
-  unfolding lowestVacant arrivedOr
-  position = ap (λ (u : Walked ℕ). lowestVacant b (arrivedOr 0 u)) (place .above .page) ∙ ap (λ (o : Option ℕ). Option·getD o 0) (place .found)
+  abbrev place : Place b (m .ns) (m .n .bytes) date k
+  place = make-place b f path date k m
 
   small-entry : fl < 256 → z < 65536 → Small (newEntry fl (m .n .bytes) 0 z date)
   unfolding newEntry
@@ -217,10 +205,7 @@ module _ (b : Bytes) (f : Facts b) (path date : Bytes) (fl z k : ℕ) (m : Makes
       (numbers-fit b f (at + 17)) (λ q. numbers-fit b f (256 * q)) (small-put at w b (small-entry hf hz) hb)
 
   small-made : fl < 256 → z < 65536 → Small b → Small (made fl z k (pathOf path) date b)
-  unfolding made
-  small-made hf hz hb =
-      subst (λ (p : Path). Small (made fl z k p date b)) (sym (m .is))
-      (subst (λ (at : ℕ). Small (madeAt fl z k (m .n .bytes) date at b)) (sym position) (small-at hf hz hb))
+  small-made hf hz hb = subst Small (sym (make-image b f path date k m fl z)) (small-at hf hz hb)
 
 -- ---- every call
 

@@ -12,7 +12,7 @@ use lib.ListN.{length}
 use lib.Dec.{T}
 use Rattle.volume.specs.Bytes.{Bytes, byteAt}
 use Rattle.volume.specs.Lists.{first}
-use Rattle.volume.proofs.Occ.{occ, Mem, hit, hit-refl, hit-ne, hit-cases, under-of-mem, not-mem, mem-or-not}
+use Rattle.volume.proofs.Occ.{occ, Mem, hit, hit-refl, hit-ne, under-of-mem, not-mem, mem-or-not}
 use Rattle.volume.proofs.Marks.{zero-balance}
 use Rattle.model.specs.Layout.{version1, pageCount, freeCount, validLength, validHeader, pageBit, zeroBits}
 use Rattle.model.specs.Entry.{entries, Entry, entryAt}
@@ -21,7 +21,7 @@ use Rattle.model.specs.Tree.{Row, Tree}
 use Rattle.model.specs.Path.{Name}
 use Rattle.model.specs.Image.{entryRow, rowAt, treeOf}
 use Rattle.model.specs.Walk.{changeAt}
-use Rattle.laws.proofs.Facts.{FactsTo, Facts, facts-sound, once, valid-sized}
+use Rattle.laws.proofs.Facts.{FactsTo, Facts, facts-sound, root-once, valid-sized}
 use Rattle.laws.proofs.Entries.{entry-within, within-page, entries-apart, entry-same}
 use Rattle.laws.proofs.Owns.{own, own-le, own-two}
 use Rattle.laws.proofs.Frame.{SamePage, SameEntry, entry-frame}
@@ -95,17 +95,6 @@ pub record Works (b b′ : Bytes) (e t at : ℕ) (op : Row → Row) (test : Entr
 module _ (b b′ : Bytes) (f : Facts b) (names : List Name) (e t at : ℕ) (touched : List ℕ)
     (leads : Leads b (pageCount b) 0 names (suc e) t) (entry : Mem at (entries t)) (c : Change b b′ at touched)
     (mine : (q : ℕ) → Mem q touched → (1 ≤ q) × (Mem q (ownedPages b) → Mem q (own e b (entryAt b at)))) where
-  -- the root and the owned pages, each once
-  root-once : (q : ℕ) → occ q (0 ∷ ownedPages b) ≤ 1
-  root-once q =
-      let one = once (pageCount b) b f q in
-      elim (hit-cases q 0) [
-        | inl w ↦
-            let z : occ 0 (ownedPages b) ≡ 0 = not-mem 0 (ownedPages b) (λ k. omega (arith, f .inside 0 k .0)) in
-            omega (arith, w .1, z, ap (λ (x : ℕ). occ x (ownedPages b)) (w .0))
-        | inr w ↦ omega (arith, w .1, one)
-      ]
-
   sub : (q : ℕ) → occ q (t ∷ owned (suc e) b t) ≤ occ q (0 ∷ ownedPages b)
   sub q = leads-sub b names (pageCount b) 0 (suc e) t q leads
 
@@ -118,7 +107,7 @@ module _ (b b′ : Bytes) (f : Facts b) (names : List Name) (e t at : ℕ) (touc
       let w = mine t k in
       let p1 = w .0 in
       let s = sub t in
-      let one = root-once t in
+      let one = root-once b f t in
       let h = hit-refl t in
       let z = hit-ne t 0 (λ u. omega (arith, p1, u)) in
       let o = w .1 (omega (arith, s, h, z)) in
@@ -141,7 +130,7 @@ module _ (b b′ : Bytes) (f : Facts b) (names : List Name) (e t at : ℕ) (touc
       (λ q k.
       let two = own-two e b t x at q ne m entry in
       let s = sub q in
-      let one = root-once q in
+      let one = root-once b f q in
       let own1 : occ q (owned (suc e) b t) ≡ 1 = omega (arith, two, k, s, one) in
       let nt : q ≢ t = λ w. omega (arith, own1, s, one, hit-refl q, ap (hit q) w) in
       let oq : Mem q (ownedPages b) = omega (arith, own1, leads-owned b names (pageCount b) 0 (suc e) t q leads) in
@@ -163,7 +152,7 @@ module _ (b b′ : Bytes) (f : Facts b) (names : List Name) (e t at : ℕ) (touc
   changed op test good w bal =
       let row = level-row e b b′ t at others op test (w .skip) (w .work) (w .found) in
       let good′ = level-good e b b′ t at others good (w .good) (w .below) (w .name) in
-      let whole = focus b b′ (c .len) op (suc e) t row good′ names (pageCount b) 0 (f .formed) root-once (λ q k. f .inside q k .0) leads frame in
+      let whole = focus b b′ (c .len) op (suc e) t row good′ names (pageCount b) 0 (f .formed) (root-once b f) (λ q k. f .inside q k .0) leads frame in
       let pages : pageCount b′ ≡ pageCount b = ap (λ (m : ℕ). m / 256) (c .len) in (
         sound-after b b′ (own e b (entryAt b at)) (own e b′ (entryAt b′ at)) f (c .len) (c .head) (whole .isGood)
             (λ q. omega (arith, whole .owns q, level-owned e b b′ t at others entry q))

@@ -10,7 +10,7 @@ use lib.ListN.{length}
 use lib.Dec.{T, eqb, leb, ltb, eqb→eq, leb→le, le→leb, ltb→lt, lt→ltb}
 use Rattle.volume.specs.Bytes.{Bytes}
 use Rattle.volume.specs.Lists.{all, member, distinct, countFrom}
-use Rattle.volume.proofs.Occ.{occ, Mem, Nodup, mem-or-not}
+use Rattle.volume.proofs.Occ.{hit-cases, occ, Mem, Nodup, mem-or-not, not-mem}
 use Rattle.volume.proofs.Tests.{and-both, both-and, no-conditions, conditions-cons, cons-conditions, member-occ, occ-member, distinct-occ, occ-distinct, all-occ, occ-all, occ-countFrom, countFrom-occ, eq-eqb}
 use Rattle.volume.proofs.Marks.{bit-low}
 use Rattle.model.specs.Layout.{version1, pageCount, validLength, validHeader, freeCount, pageBit, zeroBits}
@@ -22,6 +22,7 @@ pub record Sized (b : Bytes) : Type 0 where
   pub low : 8 ≤ pageCount b
   pub high : pageCount b ≤ 256
   pub whole : length b ≡ 256 * pageCount b
+  pub eights : pageCount b % 8 ≡ 0
 
 pub valid-sized : (b : Bytes) → T (validLength (length b)) → Sized b
 unfolding validLength
@@ -33,7 +34,7 @@ valid-sized b h =
     let e : n % 2048 ≡ 0 = eqb→eq (n % 2048) 0 (x .0) in
     let l : 2048 ≤ n = leb→le 2048 n (y .0) in
     let u : n ≤ 65536 = leb→le n 65536 (z .0) in
-    record { low = omega arith; high = omega arith; whole = omega arith }
+    record { low = omega arith; high = omega arith; whole = omega arith; eights = omega arith }
 
 -- ---- the facts
 
@@ -90,6 +91,13 @@ pub once : (d : ℕ) (b : Bytes) → FactsTo d b → (q : ℕ) → occ q (owned 
 once d b f q = elim (mem-or-not q (owned d b 0)) [
   | inl m ↦ let r = f .inside q m in omega (arith, f .exact q (r .0) (r .1), bit-low version1 b q)
   | inr z ↦ omega arith
+]
+
+-- the root's page and the owned ones
+pub root-once : (b : Bytes) → Facts b → (q : ℕ) → occ q (0 ∷ owned (pageCount b) b 0) ≤ 1
+root-once b f q = elim (hit-cases q 0) [
+  | inl w ↦ omega (arith, w .1, not-mem q (owned (pageCount b) b 0) (λ k. omega (arith, w .0, f .inside q k .0)))
+  | inr w ↦ omega (arith, w .1, once (pageCount b) b f q)
 ]
 
 module _ (depth : ℕ) (b : Bytes) where

@@ -40,12 +40,12 @@ pub named-found : (b : Bytes) (p : ℕ) (n : Bytes) (at : ℕ) → entryNamed b 
 unfolding entryNamed
 named-found b p n at e = first-found (λ x. isNamed n (entryAt b x)) (entries p) at e
 
-own-directory : (d : ℕ) (b : Bytes) (at s : ℕ) → DirectoryAt b at s → own d b (entryAt b at) ≡ s ∷ owned d b s
+pub own-directory : (d : ℕ) (b : Bytes) (at s : ℕ) → DirectoryAt b at s → own d b (entryAt b at) ≡ s ∷ owned d b s
 unfolding own
 own-directory d b at s h = ap (own d b) (h .is)
 
 -- a directory's pages are among those of the directory that holds it
-directory-le : (d : ℕ) (b : Bytes) (p at s q : ℕ) → Mem at (entries p) → DirectoryAt b at s → occ q (s ∷ owned d b s) ≤ occ q (owned (suc d) b p)
+pub directory-le : (d : ℕ) (b : Bytes) (p at s q : ℕ) → Mem at (entries p) → DirectoryAt b at s → occ q (s ∷ owned d b s) ≤ occ q (owned (suc d) b p)
 directory-le d b p at s q m h = subst (λ (l : List ℕ). occ q l ≤ occ q (owned (suc d) b p)) (own-directory d b at s h) (own-le d b p at q m)
 
 pub leads-sub : (b : Bytes) (names : List Name) (d p e t q : ℕ) → Leads b d p names e t → occ q (t ∷ owned e b t) ≤ occ q (p ∷ owned d b p)

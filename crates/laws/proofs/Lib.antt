@@ -24,7 +24,8 @@ pub mod Steps
 pub mod Lists
 pub mod Passed
 pub mod Twice
+pub mod Exact
+pub mod Stays
 pub mod Headline
 pub mod Bytewise
-pub mod Stays
 pub mod Listings

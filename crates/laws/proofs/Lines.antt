@@ -1,14 +1,14 @@
 -- Lists of refusal lines: the first that holds is given, so what stands above a line decides whether it is reached.
-use mathlib.Core.Path.{_≡_, refl, ap, subst}
+use mathlib.Core.Path.{_≡_, refl, sym, ap, subst, _∙_}
 use mathlib.Core.Logic.{_↔_}
 use Prim.Native.Nat.{ℕ, suc}
-use mathlib.Core.Bool.{Bool, true, false, not, true≢false}
+use mathlib.Core.Bool.{Bool, true, false, not, _||_, true≢false}
 use mathlib.Core.Option.{none, some, Option·some-ne-none}
 use mathlib.Core.List.{List, [], _∷_, _++_, map}
-use lib.Dec.{T, eqb, leb}
+use lib.Dec.{T, eqb, ltb, eqb→eq}
 use Rattle.volume.specs.Bytes.{if_then_else_}
-use Rattle.volume.specs.Lists.{all, member}
-use Rattle.volume.proofs.Tests.{and-both}
+use Rattle.volume.specs.Lists.{all, keep, member}
+use Rattle.volume.proofs.Tests.{and-both, both-and}
 use Rattle.model.specs.Call.{Refusal, refusal, Answer, refused, granted}
 use Rattle.model.specs.Refusal.{Line, settle, Passes, tableOrder}
 
@@ -51,14 +51,25 @@ settle-both R (l ∷ ls) f x g y h k = go (l .0) (l .1) (λ w. settle-both R ls 
     go true r next w = h r
     go false r next w = next w
 
--- ---- which refusal
-
 pub not-granted : {A : Type 0} {x : A} {r : Refusal} → _≡_ {A = Answer A} (granted x) (refused r) → ⊥
 not-granted {A} {x} {r} e = let bad : _≡_ {A = Bool} true false = ap isGranted e in true≢false bad
   where
     isGranted : Answer A → Bool
     isGranted (refused s) = false
     isGranted (granted y) = true
+
+-- what is granted has passed
+pub granted-passed : {A : Type 0} (ls : List Line) (x y : A) → settle ls refused (granted x) ≡ granted y → Passes ls
+unfolding settle
+granted-passed [] x y e = refl
+granted-passed {A} (l ∷ ls) x y e = go (l .0) (l .1) e (granted-passed ls x y)
+  where
+    go : (c : Bool) (s : Refusal) → (if c then refused s else settle ls refused (granted x)) ≡ granted y → (settle ls refused (granted x) ≡ granted y → Passes ls)
+        → (if c then some s else settle ls some none) ≡ none
+    go true s u next = absurd (not-granted (sym u))
+    go false s u next = next u
+
+-- ---- which refusal
 
 -- a refused call gives what another way to settle gives for that refusal
 pub settle-refused : {A B : Type 0} (ls : List Line) (x : A) (r : Refusal) (g : Refusal → B) (y : B)
@@ -72,33 +83,41 @@ settle-refused {A} (l ∷ ls) x r g y e = go (l .0) (l .1) e (settle-refused ls 
     go true s u next = ap g (cc u)
     go false s u next = next u
 
--- every line's number is one of the table
-abbrev pub Numbered : List Line → Type 0
-Numbered ls = T (all (λ (l : Line). member (l .1 .number) tableOrder) ls)
+-- each line that holds has one of these numbers
+abbrev pub Numbered : List ℕ → List Line → Type 0
+Numbered ns ls = T (all (λ (l : Line). member (l .1 .number) ns || not (l .0)) ls)
 
-pub refused-numbered : {A : Type 0} (ls : List Line) (x : A) (r : Refusal) → Numbered ls → settle ls refused (granted x) ≡ refused r → T (member (r .number) tableOrder)
+pub refused-numbered : {A : Type 0} (ns : List ℕ) (ls : List Line) (x : A) (r : Refusal) → Numbered ns ls → settle ls refused (granted x) ≡ refused r → T (member (r .number) ns)
 unfolding settle all
-refused-numbered [] x r h e = absurd (not-granted e)
-refused-numbered {A} (l ∷ ls) x r h e =
-    let two = and-both (member (l .1 .number) tableOrder) (all (λ (m : Line). member (m .1 .number) tableOrder) ls) h in
-    go (l .0) (l .1) (two .0) e (refused-numbered ls x r (two .1))
+refused-numbered ns [] x r h e = absurd (not-granted e)
+refused-numbered {A} ns (l ∷ ls) x r h e =
+    let two = and-both (member (l .1 .number) ns || not (l .0)) (all (λ (m : Line). member (m .1 .number) ns || not (m .0)) ls) h in
+    go (l .0) (l .1) (two .0) e (refused-numbered ns ls x r (two .1))
   where
-    go : (c : Bool) (s : Refusal) → T (member (s .number) tableOrder) → (if c then refused s else settle ls refused (granted x)) ≡ refused r
-        → (settle ls refused (granted x) ≡ refused r → T (member (r .number) tableOrder)) → T (member (r .number) tableOrder)
-    go true s t u next = let e : s ≡ r = cc u in subst (λ (y : Refusal). T (member (y .number) tableOrder)) e t
+    first-of : (a : Bool) → T (a || false) → T a
+    first-of true h = tt
+    first-of false h = h
+
+    go : (c : Bool) (s : Refusal) → T (member (s .number) ns || not c) → (if c then refused s else settle ls refused (granted x)) ≡ refused r
+        → (settle ls refused (granted x) ≡ refused r → T (member (r .number) ns)) → T (member (r .number) ns)
+    go true s t u next = let e : s ≡ r = cc u in subst (λ (y : Refusal). T (member (y .number) ns)) e (first-of (member (s .number) ns) t)
     go false s t u next = next u
 
 -- ---- number 10 among the lines
 
+-- the numbers of lines, in order
+abbrev pub lineNumbers : List Line → List ℕ
+lineNumbers ls = map (λ (l : Line). l .1 .number) ls
+
 -- no line gives number 10
 abbrev pub NoTen : List Line → Type 0
-NoTen ls = T (all (λ (l : Line). not (eqb (l .1 .number) 10)) ls)
+NoTen ls = T (all (λ n. not (eqb n 10)) (lineNumbers ls))
 
 not-ten : {A : Type 0} (ls : List Line) (x : A) → NoTen ls → settle ls refused (granted x) ≡ refused (refusal 10) → ⊥
 unfolding settle all
 not-ten [] x h e = not-granted e
 not-ten {A} (l ∷ ls) x h e =
-    let two = and-both (not (eqb (l .1 .number) 10)) (all (λ (m : Line). not (eqb (m .1 .number) 10)) ls) h in
+    let two = and-both (not (eqb (l .1 .number) 10)) (all (λ n. not (eqb n 10)) (lineNumbers ls)) h in
     go (l .0) (l .1) (two .0) e (not-ten ls x (two .1))
   where
     go : (c : Bool) (s : Refusal) → T (not (eqb (s .number) 10)) → (if c then refused s else settle ls refused (granted x)) ≡ refused (refusal 10)
@@ -113,7 +132,7 @@ unfolding settle all
 ten-given [] true rest x h k = (λ e. (refl, tt), λ p. refl)
 ten-given [] false rest x h k = (λ e. absurd (not-ten rest x k e), λ p. absurd (p .1))
 ten-given {A} (l ∷ ls) c rest x h k =
-    let two = and-both (not (eqb (l .1 .number) 10)) (all (λ (m : Line). not (eqb (m .1 .number) 10)) ls) h in
+    let two = and-both (not (eqb (l .1 .number) 10)) (all (λ n. not (eqb n 10)) (lineNumbers ls)) h in
     go (l .0) (l .1) (two .0) (ten-given ls c rest x (two .1) k)
   where
     go : (d : Bool) (s : Refusal) → T (not (eqb (s .number) 10))
@@ -125,18 +144,48 @@ ten-given {A} (l ∷ ls) c rest x h k =
 
 -- ---- the order of the table
 
+-- how many numbers stand above this one
 unfoldable pub rankIn : List ℕ → ℕ → ℕ
 rankIn [] n = 0
 rankIn (m ∷ ms) n = let rest = rankIn ms n in if eqb m n then 0 else suc rest
 
+abbrev pub rank : ℕ → ℕ
+rank n = rankIn tableOrder n
+
 unfoldable pub rising : List ℕ → Bool
 rising [] = true
 rising (x ∷ []) = true
-rising (x ∷ y ∷ ys) = let rest = rising (y ∷ ys) in if leb x y then rest else false
+rising (x ∷ y ∷ ys) = let rest = rising (y ∷ ys) in if ltb x y then rest else false
 
-abbrev pub ranks : List Line → List ℕ
-ranks = map (λ (l : Line). rankIn tableOrder (l .1 .number))
+-- the numbers stand in the paper's order, none twice
+abbrev pub InOrder : List ℕ → Type 0
+InOrder ns = T (rising (map rank ns))
 
--- the lines stand in the paper's order
-abbrev pub InOrder : List Line → Type 0
-InOrder ls = T (rising (ranks ls))
+-- those above number 10 in the table, and those below it
+abbrev pub aboveTen : List ℕ → List ℕ
+aboveTen ns = keep (λ n. ltb (rank n) (rank 10)) ns
+
+abbrev pub belowTen : List ℕ → List ℕ
+belowTen ns = keep (λ n. ltb (rank 10) (rank n)) ns
+
+-- a test that 10 fails keeps no 10
+without-ten : (f : ℕ → Bool) → f 10 ≡ false → (ns : List ℕ) → T (all (λ n. not (eqb n 10)) (keep f ns))
+unfolding all keep
+without-ten f fails [] = tt
+without-ten f fails (n ∷ ns) = go (f n) refl (without-ten f fails ns)
+  where
+    apart : (c : Bool) → eqb n 10 ≡ c → f n ≡ true → T (not c)
+    apart false e h = tt
+    apart true e h = absurd (true≢false (sym h ∙ ap f (eqb→eq n 10 (subst T (sym e) tt)) ∙ fails))
+
+    go : (c : Bool) → f n ≡ c → T (all (λ m. not (eqb m 10)) (keep f ns)) → T (all (λ m. not (eqb m 10)) (if c then n ∷ keep f ns else keep f ns))
+    go true e h = both-and (not (eqb n 10)) (all (λ m. not (eqb m 10)) (keep f ns)) (apart (eqb n 10) refl e) h
+    go false e h = h
+
+pub above-ten : (ls : List Line) (ns : List ℕ) → lineNumbers ls ≡ aboveTen ns → NoTen ls
+unfolding rankIn tableOrder
+above-ten ls ns e = subst (λ (ms : List ℕ). T (all (λ n. not (eqb n 10)) ms)) (sym e) (without-ten (λ n. ltb (rank n) (rank 10)) refl ns)
+
+pub below-ten : (ls : List Line) (ns : List ℕ) → lineNumbers ls ≡ belowTen ns → NoTen ls
+unfolding rankIn tableOrder
+below-ten ls ns e = subst (λ (ms : List ℕ). T (all (λ n. not (eqb n 10)) ms)) (sym e) (without-ten (λ n. ltb (rank 10) (rank n)) refl ns)

@@ -8,9 +8,9 @@ use mathlib.Core.Bool.{false, true, not}
 use mathlib.Core.Option.{Option, none, some, Option·getD, Option·map}
 use mathlib.Core.List.{List, [], _∷_}
 use lib.ListN.{length}
-use lib.Dec.{T, eqb, eqb·suc-zero, T-not}
+use lib.Dec.{T, eqb, T-not}
 use Rattle.volume.specs.Bytes.{Bytes, byteAt, put, if_then_else_}
-use Rattle.volume.specs.Lists.{first, countFrom}
+use Rattle.volume.specs.Lists.{first}
 use Rattle.volume.specs.Chain.{chain, beyond}
 use Rattle.volume.specs.Field.{byte}
 use Rattle.volume.specs.Geometry as On
@@ -19,6 +19,8 @@ use Rattle.volume.proofs.Tests.{both-and, first-found, first-none, eq-eqb}
 use Rattle.volume.proofs.Puts.{put-in}
 use Rattle.volume.proofs.Grow.{Gained, gained-is, Held}
 use Rattle.volume.proofs.Entries.{Made, made-is}
+use Rattle.volume.proofs.Stays as Stays
+use Rattle.volume.proofs.Stays.{Elsewhere}
 use Rattle.model.specs.Layout.{version1, pageCount, pagesFor, zeroBits, link}
 use Rattle.model.specs.Name.{legalName}
 use Rattle.model.specs.Entry.{entries, startAt, Entry, vacant, aFile, aDirectory, entryAt, newEntry}
@@ -30,6 +32,7 @@ use Rattle.model.specs.Walk.{Walked, arrived, walk, entryNamed, arrivedOr, chan
 use Rattle.model.specs.Effect.{isVacant, lowestVacant, made, fileMade, directoryMade}
 use Rattle.model.specs.Refusal.{isMissing, isBlocked, isThere}
 use Rattle.model.proofs.Version1.{home}
+use Rattle.model.proofs.Bounds.{eight-entries}
 use Rattle.laws.proofs.Facts.{Facts}
 use Rattle.laws.proofs.Entries.{entry-within}
 use Rattle.laws.proofs.Owns.{own, own-length}
@@ -133,6 +136,16 @@ module _ (b : Bytes) (f : Facts b) (ns : List Name) (name date : Bytes) (fl z k 
       (put-in (w .at) (newEntry fl name 0 z date) b (place-held .inside) 17 (omega arith) ∙ new-start fl name z date (w .long) (w .dated))
       (w .space)
 
+  -- every byte but the entry's, and those that hold or count the pages gained
+  pub made-stays : (i : ℕ) → (w .at ≤ i → w .at + 32 ≤ i) → ((p : ℕ) → Mem p (On.gained version1 (pageCount b) k b) → Elsewhere version1 p i)
+      → byteAt (madeAt fl z k name date (w .at) b) i ≡ byteAt b i
+  made-stays i o e =
+      let l = new-length fl name z date (w .long) (w .dated) in
+      Stays.made-stays version1 home (pageCount b) (lawful b f) b (w .at) (w .above .t) (newEntry fl name 0 z date) (byte (w .at + 17)) k (size b f .whole) (header-marked b f)
+      (omega (arith, size b f .low)) place-held (omega arith) (omega arith)
+      (put-in (w .at) (newEntry fl name 0 z date) b (place-held .inside) 17 (omega arith) ∙ new-start fl name z date (w .long) (w .dated))
+      (w .space) i (λ u. omega (arith, l, o u)) e
+
   pub made-gained : Gained version1 (pageCount b) k b
   made-gained = gained-is version1 home (pageCount b) (lawful b f) k b (size b f .whole) (header-marked b f) (w .space)
 
@@ -207,11 +220,6 @@ leads-many b (n ∷ ns) (suc d) p e t l =
     let m = named-found b p (n .bytes) (l .0) (l .2) .0 in
     let o : length (own d b (entryAt b (l .0))) ≡ suc (length (owned d b (l .1))) = ap (λ (x : Entry). length (own d b x)) (l .3 .is) in
     omega (arith, leads-many b ns d (l .1) e t (l .4), own-length d b p (l .0) m, o)
-
-eight-entries : (p : ℕ) → 1 ≤ p → length (entries p) ≡ 8
-unfolding entries countFrom
-eight-entries zero h = absurd (omega arith)
-eight-entries (suc p) h = rw (eqb·suc-zero p)
 
 module _ (b : Bytes) (f : Facts b) (ns : List Name) (name date : Bytes) (w : Place b ns name date 1) where
   directory-sound : let b′ = madeAt 0x81 0x0100 1 name date (w .at) b in

@@ -16,12 +16,12 @@ use Rattle.model.specs.Path.{Name, Path, noPath, root, below, texts, namesFrom,
 
 -- ---- texts as names
 
-record LegalText (v : Bytes) : Type 0 where
-  some-byte : 1 ≤ length v
-  short : length v ≤ 16
-  legal : T (all legalByte v)
+pub record LegalText (v : Bytes) : Type 0 where
+  pub some-byte : 1 ≤ length v
+  pub short : length v ≤ 16
+  pub legal : T (all legalByte v)
 
-text-facts : (v : Bytes) → T (legalText v) → LegalText v
+pub text-facts : (v : Bytes) → T (legalText v) → LegalText v
 unfolding legalText
 text-facts v h =
     let x = conditions-cons (leb 1 (length v)) _ h in

@@ -1,9 +1,10 @@
 -- What a granted call has passed: none of its lines holds, so its path leads where the call works, a new name is legal and not there, and there are
 -- pages enough.
-use mathlib.Core.Path.{_≡_, refl, sym, _∙_, subst}
+use mathlib.Core.Path.{_≡_, refl, sym, ap, _∙_, subst}
 use Prim.Native.Nat.{ℕ, _+_, _-_, _≤_, max}
 use native.Mathlib.Omega.{arith}
 use mathlib.Core.Bool.{Bool, true, false, not, _||_}
+use mathlib.Core.Option.{Option, Option·getD}
 use mathlib.Core.List.{List, [], _∷_, _++_}
 use lib.ListN.{length}
 use lib.Dec.{T, eqb, ltb, nltb→le}
@@ -11,18 +12,22 @@ use Rattle.volume.specs.Bytes.{Bytes}
 use Rattle.volume.proofs.Tests.{not-not, if-no}
 use Rattle.model.specs.Layout.{pageCount, pagesFor, validLength, validHeader, zeroBits}
 use Rattle.model.specs.Date.{goodDate}
+use Rattle.model.specs.Entry.{sizeAt, entryAt}
 use Rattle.model.specs.Sound.{sound}
 use Rattle.model.specs.Tree.{Row, end, width, held, freeNumber, Node, fileNode, directoryNode, lookup}
 use Rattle.model.specs.Path.{Name, Path, noPath, root, below, pathOf, isNoPath, isRoot, parents, names, lastName}
 use Rattle.model.specs.Image.{rowAt, treeOf}
-use Rattle.model.specs.Walk.{Walked, arrived, missing, blocked, walk, walkTo, arrivedOr}
+use Rattle.model.specs.Walk.{Walked, arrived, missing, blocked, walk, walkTo, arrivedOr, parentPage, entryPosition}
+use Rattle.model.specs.Effect.{lowestVacant, made}
 use Rattle.model.specs.Call.{Call, write, removeFile, removeDirectory, setLock, Refusal, refusal}
-use Rattle.model.specs.Refusal.{Line, isMissing, isBlocked, isThere, isDirectoryNode, rowIn, node, size, wanted, makeLines, earlier, later, refusals, Passes}
+use Rattle.model.specs.Refusal.{Line, isMissing, isBlocked, isThere, isDirectoryNode, contentIn, rowIn, node, size, wanted, makeLines, earlier, later, refusals, Passes}
 use Rattle.model.specs.Meaning.{soundLine, imageLines, isFormat, lines}
 use Rattle.laws.proofs.Facts.{Facts}
 use Rattle.laws.proofs.Counting.{free-number}
-use Rattle.laws.proofs.Walks.{last-entered}
-use Rattle.laws.proofs.Make.{Clear}
+use Rattle.laws.proofs.Focus.{named-found}
+use Rattle.laws.proofs.Walks.{nodeOf, Target, target, last-entered}
+use Rattle.laws.proofs.Make.{Place, Clear, place-of, madeAt}
+use Rattle.laws.proofs.Write.{isFileEntry, node-file, file-content, file-size}
 use Rattle.laws.proofs.Lines.{passed}
 use Rattle.laws.proofs.Names.{last-legal, date-length}
 
@@ -233,3 +238,47 @@ module _ (b : Bytes) (f : Facts b) where
         isFile = λ x a. subst (λ (y : Walked Node). T (not (isDirectoryNode (arrivedOr (directoryNode [] end) y)))) a
             (subst (λ (p : Path). T (not (isDirectoryNode (arrivedOr (directoryNode [] end) (walkTo p top))))) (w .2) (p4 .0));
       }
+
+-- ---- where make and write work
+
+module _ (b : Bytes) (f : Facts b) (path date : Bytes) (k : ℕ) (m : Makes b path date k) where
+  pub make-place : Place b (m .ns) (m .n .bytes) date k
+  make-place = place-of b f (m .ns) (m .n) date k (m .clear)
+
+  pub make-position : lowestVacant b (parentPage b (pathOf path)) ≡ make-place .at
+  unfolding lowestVacant arrivedOr
+  make-position =
+      ap (λ (p : Path). lowestVacant b (parentPage b p)) (m .is)
+      ∙ ap (λ (u : Walked ℕ). lowestVacant b (arrivedOr 0 u)) (make-place .above .page) ∙ ap (λ (o : Option ℕ). Option·getD o 0) (make-place .found)
+
+  pub make-image : (fl z : ℕ) → made fl z k (pathOf path) date b ≡ madeAt fl z k (m .n .bytes) date (make-place .at) b
+  unfolding made
+  make-image fl z =
+      ap (λ (p : Path). madeAt fl z k (lastName p) date (lowestVacant b (parentPage b (pathOf path))) b) (m .is)
+      ∙ ap (λ (at : ℕ). madeAt fl z k (m .n .bytes) date at b) make-position
+
+module _ (b : Bytes) (f : Facts b) (path : Bytes) (from : ℕ) (v : Bytes) (w : Writes b path from v) where
+  pub write-target : Target b (w .ns) (w .n)
+  write-target = target b f (w .ns) (w .n) (w .reached) (w .entered)
+
+  abbrev at : ℕ
+  at = write-target .at
+
+  pub write-position : entryPosition b (pathOf path) ≡ at
+  write-position = ap (entryPosition b) (w .is) ∙ write-target .position
+
+  node-here : node path (treeOf b) ≡ nodeOf b (rowAt (write-target .above .e) b) (entryAt b at)
+  node-here = let l = w .leads in let r = write-target .node in cc
+
+  pub write-file : T (isFileEntry (entryAt b at))
+  write-file = node-file b (rowAt (write-target .above .e) b) (w .n .bytes) (entryAt b at) (named-found b (write-target .above .t) (w .n .bytes) at (write-target .found) .1)
+      (subst (λ (x : Node). T (not (isDirectoryNode x))) node-here (w .isFile))
+
+  pub write-size : size path (treeOf b) ≡ sizeAt b at
+  write-size = ap (λ (x : Node). length (contentIn x)) node-here ∙ ap length (file-content b f (w .ns) (w .n) write-target write-file) ∙ file-size b f (w .ns) (w .n) write-target write-file
+
+  pub write-begins : from ≤ sizeAt b at
+  write-begins = subst (λ (m : ℕ). from ≤ m) write-size (w .begins)
+
+  pub write-space : pagesFor (max (sizeAt b at) (from + length v)) - pagesFor (sizeAt b at) ≤ zeroBits b (pageCount b)
+  write-space = subst (λ (m : ℕ). pagesFor (max m (from + length v)) - pagesFor m ≤ zeroBits b (pageCount b)) write-size (w .space)

@@ -1,184 +1,332 @@
--- Every byte that a call does not name stays: format names page 0, make the count, the bitmap, the new entry and the pages gained, write the count,
--- the bitmap, the start page and size of the file and its pages, and remove the count, the bitmap and the flags byte.
+-- A call changes only the bytes that it may: format writes page 0, and what make, write and remove do to pages, links, count and bitmap is what
+-- `volume` says of pages taken, written over and given back.
 use mathlib.Core.Path.{_≡_, refl, sym, ap, _∙_, subst}
-use Prim.Native.Nat.{ℕ, _+_, _-_, _/_, _≤_, max}
+use mathlib.Core.Logic.{_≢_, _⊎_, inl, inr}
+use Prim.Native.Nat.{ℕ, _+_, _-_, _*_, _/_, _%_, _≤_, _<_, max}
 use native.Mathlib.Omega.{arith}
-use native.Mathlib.Decide.{decLt}
 use mathlib.Core.Bool.{Bool, true, false, not}
-use mathlib.Core.Option.{Option, Option·getD}
-use mathlib.Core.List.{List, [], _++_, foldl}
+use mathlib.Core.List.{List, [], _∷_, _++_, map, foldl}
 use lib.ListN.{length, set}
-use lib.Dec.{T, eqb}
+use lib.Dec.{T, eqb, T-not}
 use lib.Seq.{getD-set-other}
-use Rattle.volume.specs.Bytes.{Bytes, byteAt, if_then_else_}
-use Rattle.volume.specs.Chain.{chain}
+use Rattle.volume.specs.Bytes.{Bytes, byteAt, bit, if_then_else_}
+use Rattle.volume.specs.Lists.{member, countFrom, lastOr}
+use Rattle.volume.specs.Chain.{chain, along}
+use Rattle.volume.specs.Field.{Field, byte}
 use Rattle.volume.specs.Geometry as On
-use Rattle.volume.proofs.Occ.{occ}
+use Rattle.volume.proofs.Occ.{occ, Mem, hit, hit-refl, occ-append, mem-head, mem-tail, mem-cons, not-mem}
+use Rattle.volume.proofs.Tests.{not-not, occ-member, occ-countFrom}
+use Rattle.volume.proofs.Flat.{occ-flatMap-le}
+use Rattle.volume.proofs.Puts.{not-inside}
+use Rattle.volume.proofs.Fields.{Off}
 use Rattle.volume.proofs.Lawful.{Kept}
-use Rattle.volume.proofs.Tests.{not-not}
 use Rattle.volume.proofs.Chains.{chain-length}
-use Rattle.model.specs.Layout.{version1, pageCount, pagesFor, validLength, zeroBits, link}
+use Rattle.volume.proofs.Stays.{Unmarked, Elsewhere, released-stays}
+use Rattle.model.specs.Layout.{version1, pageCount, pagesFor, validLength, pageBit, zeroBits, link}
 use Rattle.model.specs.Entry.{startAt, sizeAt, entryAt}
 use Rattle.model.specs.Sound.{pagesAt}
-use Rattle.model.specs.Tree.{Node}
-use Rattle.model.specs.Path.{Path, below, pathOf}
-use Rattle.model.specs.Image.{rowAt, treeOf}
-use Rattle.model.specs.Walk.{Walked, arrivedOr, parentPage, entryPosition}
+use Rattle.model.specs.Path.{pathOf}
+use Rattle.model.specs.Image.{treeOf}
+use Rattle.model.specs.Walk.{parentPage, entryPosition}
 use Rattle.model.specs.Effect.{lowestVacant, made, rewritten, written, removed, withLock, relocked}
 use Rattle.model.specs.Call.{Call, format, verdict, find, list, read, makeFile, makeDirectory, write, removeFile, removeDirectory, setLock, refusal}
-use Rattle.model.specs.Refusal.{isDirectoryNode, contentIn, node, size, wanted, earlier, later, refusals, Passes}
+use Rattle.model.specs.Refusal.{node, size, wanted, earlier, later, refusals, Passes}
 use Rattle.model.specs.Meaning.{isFormat, lines, effect, after}
+use Rattle.model.specs.Touched.{moved, account, bytesOn, lastLink, byMake, byWrite, byRemoval, touched}
+use Rattle.model.specs.Demands.{OnlyTouched}
 use Rattle.laws.proofs.Facts.{Facts, sound-facts}
 use Rattle.laws.proofs.Focus.{named-found}
-use Rattle.laws.proofs.Walks.{nodeOf, Target, target}
-use Rattle.laws.proofs.Slots.{head-kept, rest-kept}
+use Rattle.laws.proofs.Entries.{entry-within}
+use Rattle.laws.proofs.Walks.{Target, target}
+use Rattle.laws.proofs.Slots.{size as sized}
 use Rattle.laws.proofs.Format.{formatted-rest}
-use Rattle.laws.proofs.NewEntry.{new-length}
-use Rattle.laws.proofs.Make.{Place, place-of, madeAt, made-bytes, made-position}
-use Rattle.laws.proofs.Write.{isFileEntry, node-file, file-pages, file-content, file-size, rewritten-is, write-bytes}
+use Rattle.laws.proofs.Make.{Place, madeAt, made-bytes, made-gained, made-stays, place-slot}
+use Rattle.laws.proofs.Write.{isFileEntry, file-pages, file-slot, rewritten-is, write-bytes, write-gained, write-inside, write-stays}
 use Rattle.laws.proofs.Remove.{removed-bytes}
 use Rattle.laws.proofs.Lines.{passed, settle-both}
-use Rattle.laws.proofs.Passed.{Makes, Writes, Removes, sound-passed, make-passed, write-passed, remove-file-passed, remove-directory-passed}
+use Rattle.laws.proofs.Lists.{length-kept}
+use Rattle.laws.proofs.Passed.{Makes, Writes, Removes, Locks, sound-passed, make-passed, write-passed, remove-file-passed, remove-directory-passed, lock-passed, make-place, make-position, make-image, write-target, write-position, write-file, write-size, write-begins, write-space}
 
--- byte i is none of the header's bytes 3 to 35, none of the n bytes from position `at` on, and none of these pages'
-pub record Outside (at n : ℕ) (pages : List ℕ) (i : ℕ) : Type 0 where
-  pub header : 3 ≤ i → 36 ≤ i
-  pub entry : at ≤ i → at + n ≤ i
-  pub page : occ (i / 256) pages ≡ 0
+-- what a call that is no format leaves of an image, when it may change these positions and moves these pages
+record Stayed (b b′ : Bytes) (positions pages : List ℕ) : Type 0 where
+  bytes : (i : ℕ) → occ i positions ≡ 0 → byteAt b′ i ≡ byteAt b i
+  bits : (p : ℕ) → p < pageCount b → occ p pages ≡ 0 → pageBit b′ p ≡ pageBit b p
+  header : (i : ℕ) → i < 64 → i ≢ 3 → (4 ≤ i → 4 + pageCount b / 8 ≤ i) → byteAt b′ i ≡ byteAt b i
 
--- byte i is none that the call names
-abbrev pub Unnamed : Call → Bytes → ℕ → Type 0
-Unnamed format b i = 256 ≤ i
-Unnamed verdict b i = Unit {0}
-Unnamed (find path) b i = Unit {0}
-Unnamed (list path entry) b i = Unit {0}
-Unnamed (read path position room) b i = Unit {0}
-Unnamed (makeFile path date) b i = Outside (lowestVacant b (parentPage b (pathOf path))) 32 (On.gained version1 (pageCount b) (pagesFor 0) b) i
-Unnamed (makeDirectory path date) b i = Outside (lowestVacant b (parentPage b (pathOf path))) 32 (On.gained version1 (pageCount b) 1 b) i
-Unnamed (write path from v) b i =
-    let at = entryPosition b (pathOf path) in
-    let more = pagesFor (max (sizeAt b at) (from + length v)) - length (pagesAt b at) in
-    Outside (at + 17) 3 (pagesAt b at ++ On.gained version1 (pageCount b) more b) i
-Unnamed (removeFile path) b i = Outside (entryPosition b (pathOf path)) 1 [] i
-Unnamed (removeDirectory path) b i = Outside (entryPosition b (pathOf path)) 1 [] i
-Unnamed (setLock locked path) b i = Outside (entryPosition b (pathOf path)) 1 [] i
+unchanged : (b : Bytes) (positions pages : List ℕ) → Stayed b b positions pages
+unchanged b positions pages = record { bytes = λ i z. refl; bits = λ p l z. refl; header = λ i l n o. refl }
 
-kept : (b : Bytes) → Facts b → (i : ℕ) → (3 ≤ i → 36 ≤ i) → Kept version1 (pageCount b) i
-kept b f i h = elim (decLt i 3) [ yes l ↦ head-kept b f i l | no l ↦ rest-kept b f i (h (omega (arith, l))) ]
+-- ---- positions that stand in no list
+
+not-member : (i : ℕ) (xs : List ℕ) → T (not (member i xs)) → occ i xs ≡ 0
+not-member i xs h = not-mem i xs (λ m. T-not (member i xs) h (occ-member i xs m))
+
+off-count : (i s n : ℕ) → occ i (countFrom s n) ≡ 0 → s ≤ i → s + n ≤ i
+off-count i s n z = not-inside s n i (λ l u. omega (arith, occ-countFrom s n i l u))
+
+off-map : (f : ℕ → ℕ) (xs : List ℕ) (i : ℕ) → occ i (map f xs) ≡ 0 → (x : ℕ) → Mem x xs → i ≢ f x
+off-map f xs i z x m e = omega (arith, go xs m, ap (λ (y : ℕ). occ y (map f xs)) e)
+  where
+    go : (ys : List ℕ) → Mem x ys → Mem (f x) (map f ys)
+    go [] k = k
+    go (y ∷ ys) k = elim (mem-cons x y ys k) [
+      | inl u ↦ subst (λ (w : ℕ). Mem (f x) (f w ∷ map f ys)) u (mem-head (f x) (map f ys))
+      | inr u ↦ mem-tail (f x) (f y) (map f ys) (go ys u)
+    ]
+
+unmarked : (ps : List ℕ) (i : ℕ) → occ i (account ps) ≡ 0 → (p : ℕ) → Mem p ps → Unmarked version1 p i
+unfolding account
+unmarked ps i z p m =
+    let q : ℕ = On.bitmapByte version1 p in
+    let le = occ-flatMap-le (λ p. 3 ∷ On.bitmapByte version1 p ∷ []) ps p i m in
+    let count : i ≢ 3 = λ e. omega (arith, le, z, ap (λ (x : ℕ). hit x 3) e, hit-refl 3) in
+    record { count = λ l. omega (arith, count, l); map = λ e. omega (arith, le, z, ap (λ (x : ℕ). hit x q) e, hit-refl q) }
+
+elsewhere : (ps : List ℕ) (i : ℕ) → occ i (account ps) ≡ 0 → occ i (bytesOn ps) ≡ 0 → (p : ℕ) → Mem p ps → Elsewhere version1 p i
+unfolding bytesOn
+elsewhere ps i z w p m =
+    let page : 256 * p ≤ i → 256 * p + 256 ≤ i =
+    off-count i (256 * p) 256 (omega (arith, w, occ-flatMap-le (λ p. countFrom (256 * p) 256) ps p i m)) in
+    record { marks = unmarked ps i z p m; link = λ l. omega (arith, page l); page = page }
+
+-- byte i of the header is neither the count nor in the first N/8 of the bitmap
+kept : (b : Bytes) → Facts b → (i : ℕ) → i ≢ 3 → (4 ≤ i → 4 + pageCount b / 8 ≤ i) → Kept version1 (pageCount b) i
+kept b f i n o = record { count = λ l. omega (arith, n); map = λ q k u. omega (arith, o (omega (arith, u)), u, k, sized b f .eights) }
 
 -- ---- make
 
-made-stays : (b : Bytes) → Facts b → (path date : Bytes) (fl z k : ℕ) → Makes b path date k → (i : ℕ)
-    → Outside (lowestVacant b (parentPage b (pathOf path))) 32 (On.gained version1 (pageCount b) k b) i → byteAt (made fl z k (pathOf path) date b) i ≡ byteAt b i
-unfolding lowestVacant arrivedOr
-made-stays b f path date fl z k m i =
-    subst (λ (p : Path). Outside (lowestVacant b (parentPage b p)) 32 (On.gained version1 (pageCount b) k b) i → byteAt (made fl z k p date b) i ≡ byteAt b i) (sym (m .is)) (λ o.
-    let w : Place b (m .ns) (m .n .bytes) date k = place-of b f (m .ns) (m .n) date k (m .clear) in
-    let l = new-length fl (m .n .bytes) z date (w .long) (w .dated) in
-    let at : lowestVacant b (parentPage b (below (m .ns) (m .n))) ≡ w .at =
-    ap (λ (u : Walked ℕ). lowestVacant b (arrivedOr 0 u)) (w .above .page) ∙ ap (λ (o : Option ℕ). Option·getD o 0) (w .found) in
-    let o′ = subst (λ (x : ℕ). Outside x 32 (On.gained version1 (pageCount b) k b) i) at o in
-    ap (λ (x : Bytes). byteAt x i) (made-position b (m .ns) (m .n) date fl z k (w .above) ∙ ap (λ (o : Option ℕ). madeAt fl z k (m .n .bytes) date (Option·getD o 0) b) (w .found))
-    ∙ made-bytes b f (m .ns) (m .n .bytes) date fl z k w .rest i (kept b f i (o′ .header)) (λ u. omega (arith, o′ .entry u)) (o′ .page))
+made-stayed : (b : Bytes) → Facts b → (path date : Bytes) (fl z k : ℕ) → Makes b path date k
+    → Stayed b (made fl z k (pathOf path) date b) (byMake (lowestVacant b (parentPage b (pathOf path))) (On.gained version1 (pageCount b) k b)) (On.gained version1 (pageCount b) k b)
+unfolding byMake
+made-stayed b f path date fl z k m =
+    subst (λ (b′ : Bytes). Stayed b b′ (byMake (lowestVacant b (parentPage b (pathOf path))) qs) qs) (sym (make-image b f path date k m fl z))
+    (subst (λ (x : ℕ). Stayed b (madeAt fl z k (m .n .bytes) date (w .at) b) (byMake x qs) qs) (sym (make-position b f path date k m)) stayed)
+  where
+    qs : List ℕ
+    qs = On.gained version1 (pageCount b) k b
+
+    w : Place b (m .ns) (m .n .bytes) date k
+    w = make-place b f path date k m
+
+    zero-out : (i : ℕ) → i < 64 → occ (i / 256) qs ≡ 0
+    zero-out i l = not-mem (i / 256) qs (λ c. omega (arith, l, made-gained b f (m .ns) (m .n .bytes) date fl z k w .new (i / 256) c .0))
+
+    stayed : Stayed b (madeAt fl z k (m .n .bytes) date (w .at) b) (byMake (w .at) qs) qs
+    stayed =
+        let r = made-bytes b f (m .ns) (m .n .bytes) date fl z k w in
+        let far = place-slot b f (m .ns) (m .n .bytes) date fl z k w .within .far in
+        record {
+          bytes = λ i o.
+              let x = occ-append i (countFrom (w .at) 32 ++ account qs) (bytesOn qs) in
+              let y = occ-append i (countFrom (w .at) 32) (account qs) in
+              made-stays b f (m .ns) (m .n .bytes) date fl z k w i (off-count i (w .at) 32 (omega (arith, o, x, y))) (elsewhere qs i (omega (arith, o, x, y)) (omega (arith, o, x, y)));
+          bits = λ p l o. omega (arith, r .bits p l, o);
+          header = λ i l n o. r .rest i (kept b f i n o) (λ u. omega (arith, far, l, u)) (zero-out i l);
+        }
 
 -- ---- write
 
-written-stays : (b : Bytes) → Facts b → (path : Bytes) (from : ℕ) (v : Bytes) → Writes b path from v → (i : ℕ) → Unnamed (write path from v) b i → byteAt (written (pathOf path) from v b) i ≡ byteAt b i
-unfolding written
-written-stays b f path from v w i o = go (eqb (length v) 0)
-  where
-    tg : Target b (w .ns) (w .n)
-    tg = target b f (w .ns) (w .n) (w .reached) (w .entered)
+-- the joint of a chain that has a page and gains some
+joint-off : (entry : Field) (ps qs : List ℕ) (i : ℕ) → 1 ≤ length ps → 1 ≤ length qs → occ i (lastLink ps qs) ≡ 0 → Off (On.jointOf version1 entry ps) i
+unfolding On.jointOf lastLink lastOr
+joint-off entry [] qs i hp hq z = absurd (omega arith)
+joint-off entry (p ∷ ps) [] i hp hq z = absurd (omega arith)
+joint-off entry (p ∷ ps) (q ∷ qs) i hp hq z =
+    let x : ℕ = 256 * lastOr p ps in
+    let ne : i ≢ x = λ e. omega (arith, z, ap (λ (y : ℕ). hit y x) e, hit-refl x) in
+    λ l. omega (arith, ne, l)
 
-    at : entryPosition b (pathOf path) ≡ tg .at
-    at = ap (entryPosition b) (w .is) ∙ tg .position
+some-page : (s : ℕ) → 1 ≤ pagesFor s
+unfolding pagesFor
+some-page s = omega arith
 
-    here : node path (treeOf b) ≡ nodeOf b (rowAt (tg .above .e) b) (entryAt b (tg .at))
-    here = let l = w .leads in let r = tg .node in cc
+module _ (b : Bytes) (f : Facts b) (path : Bytes) (from : ℕ) (v : Bytes) (w : Writes b path from v) where
+  abbrev tg : Target b (w .ns) (w .n)
+  tg = write-target b f path from v w
 
-    isFile : T (isFileEntry (entryAt b (tg .at)))
-    isFile = node-file b (rowAt (tg .above .e) b) (w .n .bytes) (entryAt b (tg .at)) (named-found b (tg .above .t) (w .n .bytes) (tg .at) (tg .found) .1)
-        (subst (λ (x : Node). T (not (isDirectoryNode x))) here (w .isFile))
+  abbrev isFile : T (isFileEntry (entryAt b (tg .at)))
+  isFile = write-file b f path from v w
 
-    same-size : size path (treeOf b) ≡ sizeAt b (tg .at)
-    same-size = ap (λ (x : Node). length (contentIn x)) here ∙ ap length (file-content b f (w .ns) (w .n) tg isFile) ∙ file-size b f (w .ns) (w .n) tg isFile
+  abbrev s₀ : ℕ
+  s₀ = sizeAt b (tg .at)
 
-    s : ℕ
-    s = max (sizeAt b (tg .at)) (from + length v)
+  abbrev ps : List ℕ
+  ps = chain (link b) (pagesFor s₀) (startAt b (tg .at))
 
-    pages : pagesAt b (tg .at) ≡ chain (link b) (pagesFor (sizeAt b (tg .at))) (startAt b (tg .at))
-    pages = file-pages b f (w .ns) (w .n) tg isFile
+  abbrev qs : List ℕ
+  qs = On.gained version1 (pageCount b) (pagesFor (max s₀ (from + length v)) - pagesFor s₀) b
 
-    many : length (pagesAt b (tg .at)) ≡ pagesFor (sizeAt b (tg .at))
-    many = ap length pages ∙ chain-length (link b) (pagesFor (sizeAt b (tg .at))) (startAt b (tg .at))
+  abbrev begins : from ≤ s₀
+  begins = write-begins b f path from v w
 
-    hf : from ≤ sizeAt b (tg .at)
-    hf = subst (λ (m : ℕ). from ≤ m) same-size (w .begins)
+  abbrev space : pagesFor (max s₀ (from + length v)) - pagesFor s₀ ≤ zeroBits b (pageCount b)
+  space = write-space b f path from v w
 
-    space : pagesFor (max (sizeAt b (tg .at)) (from + length v)) - pagesFor (sizeAt b (tg .at)) ≤ zeroBits b (pageCount b)
-    space = subst (λ (m : ℕ). pagesFor (max m (from + length v)) - pagesFor m ≤ zeroBits b (pageCount b)) same-size (w .space)
+  rewritten-stayed : Stayed b (rewritten (tg .at) from v b) (byWrite (tg .at) from (length v) ps qs) qs
+  unfolding byWrite
+  rewritten-stayed =
+      let r = write-bytes b f (w .ns) (w .n) tg isFile from v begins space in
+      let gained = write-gained b f (w .ns) (w .n) tg isFile from v begins space in
+      let far = file-slot b f (w .ns) (w .n) tg isFile .within .far in
+      subst (λ (b′ : Bytes). Stayed b b′ (byWrite (tg .at) from (length v) ps qs) qs) (sym (rewritten-is b f (w .ns) (w .n) tg isFile from v begins space))
+      (record {
+        bytes = λ i o.
+            let place : ℕ → ℕ = along (On.content version1) 255 (ps ++ qs) in
+            let a : List ℕ = countFrom (tg .at + 18) 2 in
+            let x = occ-append i (a ++ account qs ++ bytesOn qs ++ lastLink ps qs) (map place (countFrom from (length v))) in
+            let y = occ-append i (a ++ account qs ++ bytesOn qs) (lastLink ps qs) in
+            let z = occ-append i (a ++ account qs) (bytesOn qs) in
+            let u = occ-append i a (account qs) in
+            write-stays b f (w .ns) (w .n) tg isFile from v begins space i
+            (λ l. joint-off (byte (tg .at + 17)) ps qs i (omega (arith, chain-length (link b) (pagesFor s₀) (startAt b (tg .at)), some-page s₀)) (omega (arith, l, gained .many)) (omega (arith, o, x, y)))
+            (off-count i (tg .at + 18) 2 (omega (arith, o, x, y, z, u)))
+            (elsewhere qs i (omega (arith, o, x, y, z, u)) (omega (arith, o, x, y, z)))
+            (λ n l h. off-map place (countFrom from (length v)) i (omega (arith, o, x)) n (occ-countFrom from (length v) n l h));
+        bits = λ p l o. omega (arith, r .bits p l, o);
+        header = λ i l n o. r .rest i (kept b f i n o) (λ u. omega (arith, far, l, u)) (λ u. omega (arith, far, l, u)) (zero-out i l);
+      })
+    where
+      zero-out : (i : ℕ) → i < 64 → occ (i / 256) (ps ++ qs) ≡ 0
+      zero-out i l = not-mem (i / 256) (ps ++ qs) (λ c. omega (arith, l, write-inside b f (w .ns) (w .n) tg isFile from v begins space (i / 256) c .0))
 
-    out : Outside (tg .at + 17) 3
-        (chain (link b) (pagesFor (sizeAt b (tg .at))) (startAt b (tg .at)) ++ On.gained version1 (pageCount b) (pagesFor (max (sizeAt b (tg .at)) (from + length v)) - pagesFor (sizeAt b (tg .at))) b) i
-    out =
-        let o₁ = subst (λ (x : ℕ). Outside (x + 17) 3 (pagesAt b x ++ On.gained version1 (pageCount b) (pagesFor (max (sizeAt b x) (from + length v)) - length (pagesAt b x)) b) i) at o in
-        let o₂ = subst (λ (m : ℕ). Outside (tg .at + 17) 3 (pagesAt b (tg .at) ++ On.gained version1 (pageCount b) (pagesFor (max (sizeAt b (tg .at)) (from + length v)) - m) b) i) many o₁ in
-        subst (λ (ps : List ℕ). Outside (tg .at + 17) 3 (ps ++ On.gained version1 (pageCount b) (pagesFor (max (sizeAt b (tg .at)) (from + length v)) - pagesFor (sizeAt b (tg .at))) b) i) pages o₂
-
-    go : (c : Bool) → byteAt (if c then b else rewritten (entryPosition b (pathOf path)) from v b) i ≡ byteAt b i
-    go true = refl
-    go false =
-        ap (λ (x : ℕ). byteAt (rewritten x from v b) i) at
-        ∙ ap (λ (x : Bytes). byteAt x i) (rewritten-is b f (w .ns) (w .n) tg isFile from v hf space)
-        ∙ write-bytes b f (w .ns) (w .n) tg isFile from v hf space .rest i (kept b f i (out .header)) (λ u. omega (arith, out .entry u)) (λ u. omega (arith, out .entry (omega arith))) (out .page)
+  written-stayed : Stayed b (written (pathOf path) from v b)
+      (byWrite (entryPosition b (pathOf path)) from (length v) (pagesAt b (entryPosition b (pathOf path))) (On.gained version1 (pageCount b) (wanted (write path from v) (treeOf b)) b))
+      (On.gained version1 (pageCount b) (wanted (write path from v) (treeOf b)) b)
+  unfolding written wanted
+  written-stayed = go (eqb (length v) 0)
+    where
+      go : (c : Bool) → Stayed b (if c then b else rewritten (entryPosition b (pathOf path)) from v b)
+          (byWrite (entryPosition b (pathOf path)) from (length v) (pagesAt b (entryPosition b (pathOf path)))
+          (On.gained version1 (pageCount b) (pagesFor (max (size path (treeOf b)) (from + length v)) - pagesFor (size path (treeOf b))) b))
+          (On.gained version1 (pageCount b) (pagesFor (max (size path (treeOf b)) (from + length v)) - pagesFor (size path (treeOf b))) b)
+      go true = unchanged b _ _
+      go false =
+          let taken : ℕ → List ℕ = λ m. On.gained version1 (pageCount b) (pagesFor (max m (from + length v)) - pagesFor m) b in
+          subst (λ (m : ℕ). Stayed b (rewritten (entryPosition b (pathOf path)) from v b)
+          (byWrite (entryPosition b (pathOf path)) from (length v) (pagesAt b (entryPosition b (pathOf path))) (taken m)) (taken m)) (sym (write-size b f path from v w))
+          (subst (λ (x : ℕ). Stayed b (rewritten x from v b) (byWrite x from (length v) (pagesAt b x) qs) qs) (sym (write-position b f path from v w))
+          (subst (λ (l : List ℕ). Stayed b (rewritten (tg .at) from v b) (byWrite (tg .at) from (length v) l qs) qs) (sym (file-pages b f (w .ns) (w .n) tg isFile)) rewritten-stayed))
 
 -- ---- remove
 
-removed-stays : (b : Bytes) → Facts b → (path : Bytes) → Removes b path → (i : ℕ) → Outside (entryPosition b (pathOf path)) 1 [] i → byteAt (removed (pathOf path) b) i ≡ byteAt b i
-unfolding removed
-removed-stays b f path r i o =
+removed-stayed : (b : Bytes) → Facts b → (path : Bytes) → Removes b path
+    → Stayed b (removed (pathOf path) b) (byRemoval (entryPosition b (pathOf path)) (pagesAt b (entryPosition b (pathOf path)))) (pagesAt b (entryPosition b (pathOf path)))
+unfolding removed byRemoval
+removed-stayed b f path r =
     let tg : Target b (r .ns) (r .n) = target b f (r .ns) (r .n) (r .reached) (r .entered) in
-    let at : entryPosition b (pathOf path) ≡ tg .at = ap (entryPosition b) (r .is) ∙ tg .position in
-    let o′ = subst (λ (x : ℕ). Outside x 1 [] i) at o in
-    ap (λ (x : ℕ). byteAt (set (foldl (On.released version1) b (pagesAt b x)) x 0) i) at
-    ∙ removed-bytes b f (r .ns) (r .n) tg (r .empty _ (tg .node)) .rest i (kept b f i (o′ .header)) (λ u. omega (arith, o′ .entry (omega arith)))
+    let position : entryPosition b (pathOf path) ≡ tg .at = ap (entryPosition b) (r .is) ∙ tg .position in
+    let at : ℕ = tg .at in
+    let ps : List ℕ = pagesAt b at in
+    let b₁ : Bytes = foldl (On.released version1) b ps in
+    let x = removed-bytes b f (r .ns) (r .n) tg (r .empty _ (tg .node)) in
+    let far = entry-within (tg .above .t) at (named-found b (tg .above .t) (r .n .bytes) at (tg .found) .0) .far in
+    subst (λ (y : ℕ). Stayed b (set (foldl (On.released version1) b (pagesAt b y)) y 0) (countFrom y 1 ++ account (pagesAt b y)) (pagesAt b y)) (sym position)
+    (record {
+      bytes = λ i o.
+          let both = occ-append i (countFrom at 1) (account ps) in
+          let off = off-count i at 1 (omega (arith, o, both)) in
+          getD-set-other b₁ at i 0 0 (λ e. omega (arith, e, off (omega (arith, e)))) ∙ released-stays version1 ps b i (unmarked ps i (omega (arith, o, both)));
+      bits = λ p l o. omega (arith, x .bits p l, o);
+      header = λ i l n o. x .rest i (kept b f i n o) (λ e. omega (arith, e, far, l));
+    })
+
+-- ---- lock
+
+locked-stayed : (b : Bytes) → Facts b → (path : Bytes) (locked : Bool) → Locks b path → Stayed b (relocked (pathOf path) locked b) (countFrom (entryPosition b (pathOf path)) 1) []
+unfolding relocked On.pageBit
+locked-stayed b f path locked r =
+    let tg : Target b (r .ns) (r .n) = target b f (r .ns) (r .n) (r .reached) (r .entered) in
+    let position : entryPosition b (pathOf path) ≡ tg .at = ap (entryPosition b) (r .is) ∙ tg .position in
+    let at : ℕ = entryPosition b (pathOf path) in
+    let far : 64 ≤ at = omega (arith, position, entry-within (tg .above .t) (tg .at) (named-found b (tg .above .t) (r .n .bytes) (tg .at) (tg .found) .0) .far) in
+    let other : (i : ℕ) → i ≢ at → byteAt (set b at (withLock locked (byteAt b at))) i ≡ byteAt b i = λ i ne. getD-set-other b at i (withLock locked (byteAt b at)) 0 ne in
+    record {
+      bytes = λ i o. let off = off-count i at 1 o in other i (λ e. omega (arith, e, off (omega (arith, e))));
+      bits = λ p l o. ap (bit (p % 8)) (other (4 + p / 8) (λ e. omega (arith, e, far, l, sized b f .high)));
+      header = λ i l n o. other i (λ e. omega (arith, e, far, l));
+    }
 
 -- ---- every call, on any image
 
-effect-stays : (c : Call) (b : Bytes) (i : ℕ) → Unnamed c b i → Passes (lines c b) → byteAt (effect c b) i ≡ byteAt b i
-unfolding effect lines isFormat refusals earlier later wanted relocked
-effect-stays format b i u e = formatted-rest b (not-not (validLength (length b)) (passed _ _ e .0)) i u
-effect-stays verdict b i u e = refl
-effect-stays (find path) b i u e = refl
-effect-stays (list path entry) b i u e = refl
-effect-stays (read path position room) b i u e = refl
-effect-stays (makeFile path date) b i u e =
+effect-stayed : (c : Call) (b : Bytes) → T (not (isFormat c)) → Passes (lines c b) → Stayed b (effect c b) (touched c b) (moved c b)
+unfolding effect isFormat refusals earlier later wanted touched moved written
+effect-stayed format b n e = absurd n
+effect-stayed verdict b n e = unchanged b [] []
+effect-stayed (find path) b n e = unchanged b [] []
+effect-stayed (list path entry) b n e = unchanged b [] []
+effect-stayed (read path position room) b n e = unchanged b [] []
+effect-stayed (makeFile path date) b n e =
     let g = sound-passed (makeFile path date) b tt e in
     let f = sound-facts b (g .0) in
-    made-stays b f path date 0x80 0 (pagesFor 0) (make-passed b f path date (pagesFor 0) (refusal 10) (g .1)) i u
-effect-stays (makeDirectory path date) b i u e =
+    made-stayed b f path date 0x80 0 (pagesFor 0) (make-passed b f path date (pagesFor 0) (refusal 10) (g .1))
+effect-stayed (makeDirectory path date) b n e =
     let g = sound-passed (makeDirectory path date) b tt e in
     let f = sound-facts b (g .0) in
-    made-stays b f path date 0x81 0x0100 1 (make-passed b f path date 1 (refusal 10) (g .1)) i u
-effect-stays (write path from v) b i u e =
-    let g = sound-passed (write path from v) b tt e in
+    made-stayed b f path date 0x81 0x0100 1 (make-passed b f path date 1 (refusal 10) (g .1))
+effect-stayed (write path from []) b n e = unchanged b _ _
+effect-stayed (write path from (x ∷ v)) b n e =
+    let g = sound-passed (write path from (x ∷ v)) b tt e in
     let f = sound-facts b (g .0) in
-    written-stays b f path from v (write-passed b f path from v (g .1)) i u
-effect-stays (removeFile path) b i u e =
+    written-stayed b f path from (x ∷ v) (write-passed b f path from (x ∷ v) (g .1))
+effect-stayed (removeFile path) b n e =
     let g = sound-passed (removeFile path) b tt e in
     let f = sound-facts b (g .0) in
-    removed-stays b f path (remove-file-passed b f path (g .1)) i u
-effect-stays (removeDirectory path) b i u e =
+    removed-stayed b f path (remove-file-passed b f path (g .1))
+effect-stayed (removeDirectory path) b n e =
     let g = sound-passed (removeDirectory path) b tt e in
     let f = sound-facts b (g .0) in
-    removed-stays b f path (remove-directory-passed b f path (g .1)) i u
-effect-stays (setLock locked path) b i u e =
-    let at = entryPosition b (pathOf path) in
-    getD-set-other b at i (withLock locked (byteAt b at)) 0 (λ q. omega (arith, q, u .entry (omega (arith, q))))
+    removed-stayed b f path (remove-directory-passed b f path (g .1))
+effect-stayed (setLock locked path) b n e =
+    let g = sound-passed (setLock locked path) b tt e in
+    let f = sound-facts b (g .0) in
+    locked-stayed b f path locked (lock-passed b f locked path (g .1))
 
-pub stays : (c : Call) (b : Bytes) (i : ℕ) → Unnamed c b i → byteAt (after c b) i ≡ byteAt b i
+stayed : (c : Call) (b : Bytes) → T (not (isFormat c)) → Stayed b (after c b) (touched c b) (moved c b)
 unfolding after
-stays c b i u = settle-both (λ (x y : Bytes). byteAt x i ≡ byteAt b i) (lines c b) (λ r. b) (effect c b) (λ r. b) b (λ r. refl) (effect-stays c b i u)
+stayed c b n = settle-both (λ (x y : Bytes). Stayed b x (touched c b) (moved c b)) (lines c b) (λ r. b) (effect c b) (λ r. b) b (λ r. unchanged b _ _) (effect-stayed c b n)
+
+-- format writes page 0
+format-bytes : (b : Bytes) (i : ℕ) → occ i (touched format b) ≡ 0 → byteAt (after format b) i ≡ byteAt b i
+unfolding after lines isFormat effect touched bytesOn
+format-bytes b i z =
+    let far : 256 ≤ i = omega (arith, off-count i 0 256 (omega (arith, z, occ-flatMap-le (λ p. countFrom (256 * p) 256) (0 ∷ []) 0 i (mem-head 0 []))) (omega arith)) in
+    settle-both (λ (x y : Bytes). byteAt x i ≡ byteAt b i) (lines format b) (λ r. b) (effect format b) (λ r. b) b (λ r. refl)
+    (λ e. formatted-rest b (not-not (validLength (length b)) (passed _ _ e .0)) i far)
+
+format-bits : (b : Bytes) (p : ℕ) → p < pageCount b → occ p (moved format b) ≡ 0 → ⊥
+unfolding moved
+format-bits b p l z = omega (arith, z, occ-countFrom 0 (pageCount b) p (omega arith) (omega (arith, l)))
+
+-- a call is format or is not
+format-or : (c : Call) → (c ≡ format) ⊎ T (not (isFormat c))
+unfolding isFormat
+format-or format = inl refl
+format-or verdict = inr tt
+format-or (find path) = inr tt
+format-or (list path entry) = inr tt
+format-or (read path position room) = inr tt
+format-or (makeFile path date) = inr tt
+format-or (makeDirectory path date) = inr tt
+format-or (write path from v) = inr tt
+format-or (removeFile path) = inr tt
+format-or (removeDirectory path) = inr tt
+format-or (setLock locked path) = inr tt
+
+pub only-touched : (c : Call) (b : Bytes) → OnlyTouched c b
+only-touched c b = elim (format-or c) [
+  | inl e ↦ subst (λ (d : Call). OnlyTouched d b) (sym e) (record {
+    long = length-kept format b;
+    bytes = λ i h. format-bytes b i (not-member i (touched format b) h);
+    bits = λ p l h. absurd (format-bits b p l (not-member p (moved format b) h));
+    header = λ n. absurd (unfold isFormat in n);
+  })
+  | inr n ↦ record {
+    long = length-kept c b;
+    bytes = λ i h. stayed c b n .bytes i (not-member i (touched c b) h);
+    bits = λ p l h. stayed c b n .bits p l (not-member p (moved c b) h);
+    header = λ m. stayed c b n .header;
+  }
+]
 
 -- a write of no bytes changes nothing
 pub nothing-written : (path b : Bytes) (from : ℕ) → after (write path from []) b ≡ b

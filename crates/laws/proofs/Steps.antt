@@ -1,31 +1,29 @@
 -- One call: on a sound image it answers as the plain tree says, and does to the tree what it does to the bytes; on any image a refusal has a
--- number of the table and changes nothing.
+-- number of that call and changes nothing.
 use mathlib.Core.Path.{_≡_, refl, sym, ap, _∙_, subst}
 use mathlib.Core.Logic.{_↔_, _≢_}
-use Prim.Native.Nat.{ℕ, _≤_, _<_}
-use native.Mathlib.Omega.{arith}
+use Prim.Native.Nat.{ℕ, _<_}
 use mathlib.Core.Bool.{Bool, true, false, not, true≢false}
 use mathlib.Core.List.{List, [], _∷_, _++_}
 use lib.ListN.{length}
-use lib.Dec.{T, leb, ltb, leb·suc-zero, leb→le, ltb→lt, lt→ltb}
-use borrow.Author.Tests.{le-leb}
+use lib.Dec.{T, ltb, leb·suc-zero, ltb→lt, lt→ltb}
 use Rattle.volume.specs.Bytes.{Bytes, same, if_then_else_}
-use Rattle.volume.specs.Lists.{all, any, member}
+use Rattle.volume.specs.Lists.{all, any, keep, member}
 use Rattle.volume.proofs.Tests.{not-not-of, same-true}
 use Rattle.model.specs.Layout.{pageCount, validLength, validHeader}
 use Rattle.model.specs.Sound.{sound}
 use Rattle.model.specs.Judge.{badEntry, badChain, ownedTwice, markedFree, lostPage, badCount, Judged, fault, clean, judge, isClean}
 use Rattle.model.specs.Tree.{Tree, freeNumber}
 use Rattle.model.specs.Image.{treeOf}
-use Rattle.model.specs.Call.{Call, format, verdict, find, list, read, makeFile, makeDirectory, write, removeFile, removeDirectory, setLock, bufferBefore, Refusal, refusal, refused, granted}
-use Rattle.model.specs.Refusal.{Line, wanted, makeLines, earlier, later, refusals, settle, Passes, tableOrder}
-use Rattle.model.specs.Meaning.{freshTree, told, filled, changed, treeAnswer, treeBuffer, treeAfter, firstFault, soundLine, imageLines, isFormat, lines, effect, answer, after, bufferAfter}
+use Rattle.model.specs.Call.{Call, format, verdict, find, list, read, makeFile, makeDirectory, write, removeFile, removeDirectory, setLock, bufferBefore, Refusal, refusal, Answer, refused, granted}
+use Rattle.model.specs.Refusal.{Line, wanted, makeLines, earlier, later, refusals, settle, Passes, tableOrder, ownNumbers}
+use Rattle.model.specs.Meaning.{freshTree, told, filled, changed, treeAnswer, treeBuffer, treeAfter, firstFault, soundLine, imageLines, isFormat, lines, effect, answer, after, bufferAfter, numbers}
 use Rattle.model.specs.Demands.{Untouched, Unsound, byLength, byHeader, byFault, AsTree}
 use Rattle.laws.proofs.Facts.{sound-facts}
 use Rattle.laws.proofs.Judged.{judge-sound}
 use Rattle.laws.proofs.Format.{fresh}
 use Rattle.laws.proofs.Grants.{granted-law}
-use Rattle.laws.proofs.Lines.{settle-skip, settle-both, settle-refused, Numbered, refused-numbered, NoTen, ten-given, rankIn, ranks, rising, InOrder}
+use Rattle.laws.proofs.Lines.{settle-skip, settle-both, settle-refused, Numbered, refused-numbered, lineNumbers, NoTen, ten-given, rankIn, rising, InOrder, aboveTen, belowTen, above-ten, below-ten}
 
 -- ---- on a sound image only the plain tree's lines count
 
@@ -70,75 +68,50 @@ as-tree c b h =
       means = ap treeOf e ∙ r .1;
     }
 
+-- ---- the numbers of a call
+
+-- What `numbers` says of a call: its lines have these numbers in this order (but for 10, which stands among them also where no page can be
+-- wanted), a line that holds has one of them, and they rise in the table.
+pub record OwnNumbers (c : Call) : Type 0 where
+  pub above : (t : Tree) → lineNumbers (earlier c t) ≡ aboveTen (ownNumbers c)
+  pub below : (t : Tree) → lineNumbers (later c t) ≡ belowTen (ownNumbers c)
+  pub given : (b : Bytes) → Numbered (numbers c) (lines c b)
+  pub ordered : InOrder (numbers c)
+
+fault-numbered : (ns : List ℕ) (j : Judged) → member (firstFault j .number) (1 ∷ 2 ∷ 16 ∷ 17 ∷ 18 ∷ 20 ∷ 19 ∷ 3 ∷ ns) ≡ true
+unfolding any
+fault-numbered ns (fault (badEntry d i)) = refl
+fault-numbered ns (fault (badChain d i passed)) = refl
+fault-numbered ns (fault (ownedTwice p)) = refl
+fault-numbered ns (fault (markedFree p)) = refl
+fault-numbered ns (fault (lostPage p)) = refl
+fault-numbered ns (fault badCount) = refl
+fault-numbered ns (clean marks) = refl
+
+pub own-numbers : (c : Call) → OwnNumbers c
+unfolding all any keep lines isFormat refusals earlier later wanted makeLines tableOrder rankIn rising ownNumbers numbers
+own-numbers format = record { above = λ t. refl; below = λ t. refl; given = λ b. tt; ordered = tt }
+own-numbers verdict = record { above = λ t. refl; below = λ t. refl; given = λ b. rw (fault-numbered (ownNumbers verdict) (judge b), leb·suc-zero (freeNumber (treeOf b))) tt; ordered = tt }
+own-numbers (find path) = record { above = λ t. refl; below = λ t. refl; given = λ b. rw (fault-numbered (ownNumbers (find path)) (judge b), leb·suc-zero (freeNumber (treeOf b))) tt; ordered = tt }
+own-numbers (list path i) = record { above = λ t. refl; below = λ t. refl; given = λ b. rw (fault-numbered (ownNumbers (list path i)) (judge b), leb·suc-zero (freeNumber (treeOf b))) tt; ordered = tt }
+own-numbers (read path at room) = record { above = λ t. refl; below = λ t. refl; given = λ b. rw (fault-numbered (ownNumbers (read path at room)) (judge b), leb·suc-zero (freeNumber (treeOf b))) tt; ordered = tt }
+own-numbers (makeFile path date) = record { above = λ t. refl; below = λ t. refl; given = λ b. rw (fault-numbered (ownNumbers (makeFile path date)) (judge b)) tt; ordered = tt }
+own-numbers (makeDirectory path date) = record { above = λ t. refl; below = λ t. refl; given = λ b. rw (fault-numbered (ownNumbers (makeDirectory path date)) (judge b)) tt; ordered = tt }
+own-numbers (write path at v) = record { above = λ t. refl; below = λ t. refl; given = λ b. rw (fault-numbered (ownNumbers (write path at v)) (judge b)) tt; ordered = tt }
+own-numbers (removeFile path) = record { above = λ t. refl; below = λ t. refl; given = λ b. rw (fault-numbered (ownNumbers (removeFile path)) (judge b), leb·suc-zero (freeNumber (treeOf b))) tt; ordered = tt }
+own-numbers (removeDirectory path) = record { above = λ t. refl; below = λ t. refl; given = λ b. rw (fault-numbered (ownNumbers (removeDirectory path)) (judge b), leb·suc-zero (freeNumber (treeOf b))) tt; ordered = tt }
+own-numbers (setLock locked path) = record { above = λ t. refl; below = λ t. refl; given = λ b. rw (fault-numbered (ownNumbers (setLock locked path)) (judge b), leb·suc-zero (freeNumber (treeOf b))) tt; ordered = tt }
+
+-- each call's numbers stand in the order of the table
+pub in-order : (c : Call) → InOrder (numbers c)
+in-order c = own-numbers c .ordered
+
 -- ---- a call on any image
-
-fault-numbered : (j : Judged) → member (firstFault j .number) tableOrder ≡ true
-unfolding any tableOrder
-fault-numbered (fault (badEntry d i)) = refl
-fault-numbered (fault (badChain d i passed)) = refl
-fault-numbered (fault (ownedTwice p)) = refl
-fault-numbered (fault (markedFree p)) = refl
-fault-numbered (fault (lostPage p)) = refl
-fault-numbered (fault badCount) = refl
-fault-numbered (clean marks) = refl
-
-numbered : (c : Call) (b : Bytes) → Numbered (lines c b)
-unfolding all any lines isFormat refusals earlier later makeLines tableOrder
-numbered format b = tt
-numbered verdict b = rw (fault-numbered (judge b)) tt
-numbered (find path) b = rw (fault-numbered (judge b)) tt
-numbered (list path i) b = rw (fault-numbered (judge b)) tt
-numbered (read path at room) b = rw (fault-numbered (judge b)) tt
-numbered (makeFile path date) b = rw (fault-numbered (judge b)) tt
-numbered (makeDirectory path date) b = rw (fault-numbered (judge b)) tt
-numbered (write path at v) b = rw (fault-numbered (judge b)) tt
-numbered (removeFile path) b = rw (fault-numbered (judge b)) tt
-numbered (removeDirectory path) b = rw (fault-numbered (judge b)) tt
-numbered (setLock locked path) b = rw (fault-numbered (judge b)) tt
-
--- what rises from a number rises from a lower one
-rising-from : (k m : ℕ) → k ≤ m → (r : List ℕ) → T (rising (m ∷ r)) → T (rising (k ∷ r))
-unfolding rising
-rising-from k m l [] h = tt
-rising-from k m l (x ∷ r) h = go (leb m x) refl h
-  where
-    go : (c : Bool) → leb m x ≡ c → T (if c then rising (x ∷ r) else false) → T (if leb k x then rising (x ∷ r) else false)
-    go true e h = rw (le-leb k x (omega (arith, l, leb→le m x (subst T (sym e) tt)))) h
-    go false e h = absurd h
-
--- the faults stand where 3 does or above it, and below 2
-fault-rising : (b : Bytes) (ls : List Line) → T (rising (7 ∷ ranks ls)) → InOrder (imageLines b ++ ls)
-unfolding rising rankIn tableOrder
-fault-rising b ls h = go (judge b)
-  where
-    go : (j : Judged) → T (rising (0 ∷ 1 ∷ rankIn tableOrder (firstFault j .number) ∷ ranks ls))
-    go (fault (badEntry d i)) = rising-from 2 7 (omega arith) (ranks ls) h
-    go (fault (badChain d i passed)) = rising-from 3 7 (omega arith) (ranks ls) h
-    go (fault (ownedTwice p)) = rising-from 4 7 (omega arith) (ranks ls) h
-    go (fault (markedFree p)) = rising-from 5 7 (omega arith) (ranks ls) h
-    go (fault (lostPage p)) = rising-from 6 7 (omega arith) (ranks ls) h
-    go (fault badCount) = h
-    go (clean marks) = h
-
--- each call's lines stand in the order of the table
-pub in-order : (c : Call) (b : Bytes) → InOrder (lines c b)
-unfolding lines isFormat refusals earlier later makeLines tableOrder rankIn rising
-in-order format b = tt
-in-order verdict b = fault-rising b (refusals verdict (treeOf b)) (tt {0})
-in-order (find path) b = fault-rising b (refusals (find path) (treeOf b)) (tt {0})
-in-order (list path i) b = fault-rising b (refusals (list path i) (treeOf b)) (tt {0})
-in-order (read path at room) b = fault-rising b (refusals (read path at room) (treeOf b)) (tt {0})
-in-order (makeFile path date) b = fault-rising b (refusals (makeFile path date) (treeOf b)) (tt {0})
-in-order (makeDirectory path date) b = fault-rising b (refusals (makeDirectory path date) (treeOf b)) (tt {0})
-in-order (write path at v) b = fault-rising b (refusals (write path at v) (treeOf b)) (tt {0})
-in-order (removeFile path) b = fault-rising b (refusals (removeFile path) (treeOf b)) (tt {0})
-in-order (removeDirectory path) b = fault-rising b (refusals (removeDirectory path) (treeOf b)) (tt {0})
-in-order (setLock locked path) b = fault-rising b (refusals (setLock locked path) (treeOf b)) (tt {0})
 
 pub untouched : (c : Call) (b : Bytes) (f : Refusal) → answer c b ≡ refused f → Untouched c b f
 unfolding answer after bufferAfter
 untouched c b f e = record {
-  numbered = refused-numbered (lines c b) (told c (treeOf b)) f (numbered c b) e;
+  numbered = refused-numbered (numbers c) (lines c b) (told c (treeOf b)) f (own-numbers c .given b) e;
   image = settle-refused (lines c b) (told c (treeOf b)) f (λ r. b) (effect c b) e;
   lent = settle-refused (lines c b) (told c (treeOf b)) f (λ r. bufferBefore c) (filled c (treeOf b)) e;
 }
@@ -170,32 +143,10 @@ unsound c b n u = go (isFormat c) (validLength (length b)) (validHeader b) (soun
 -- ---- refused for want of pages
 
 no-ten-earlier : (c : Call) (t : Tree) → NoTen (earlier c t)
-unfolding earlier makeLines all
-no-ten-earlier format t = tt
-no-ten-earlier verdict t = tt
-no-ten-earlier (find path) t = tt
-no-ten-earlier (list path i) t = tt
-no-ten-earlier (read path at room) t = tt
-no-ten-earlier (makeFile path date) t = tt
-no-ten-earlier (makeDirectory path date) t = tt
-no-ten-earlier (write path at v) t = tt
-no-ten-earlier (removeFile path) t = tt
-no-ten-earlier (removeDirectory path) t = tt
-no-ten-earlier (setLock locked path) t = tt
+no-ten-earlier c t = above-ten (earlier c t) (ownNumbers c) (own-numbers c .above t)
 
 no-ten-later : (c : Call) (t : Tree) → NoTen (later c t)
-unfolding later all
-no-ten-later format t = tt
-no-ten-later verdict t = tt
-no-ten-later (find path) t = tt
-no-ten-later (list path i) t = tt
-no-ten-later (read path at room) t = tt
-no-ten-later (makeFile path date) t = tt
-no-ten-later (makeDirectory path date) t = tt
-no-ten-later (write path at v) t = tt
-no-ten-later (removeFile path) t = tt
-no-ten-later (removeDirectory path) t = tt
-no-ten-later (setLock locked path) t = tt
+no-ten-later c t = below-ten (later c t) (ownNumbers c) (own-numbers c .below t)
 
 pub want-of-pages : (c : Call) (t : Tree) → (treeAnswer c t ≡ refused (refusal 10)) ↔ (Passes (earlier c t) × (freeNumber t < wanted c t))
 unfolding treeAnswer refusals
@@ -204,6 +155,14 @@ want-of-pages c t =
     (λ h. (e .0 h .0, ltb→lt (freeNumber t) (wanted c t) (e .0 h .1)), λ p. e .1 (p .0, lt→ltb (freeNumber t) (wanted c t) (p .1)))
 
 -- ---- format, and names
+
+pub format-answers : (b : Bytes) → answer format b ≡ (if validLength (length b) then granted tt else refused (refusal 1))
+unfolding answer lines isFormat settle told
+format-answers b = go (validLength (length b))
+  where
+    go : (c : Bool) → _≡_ {A = Answer (Unit {0})} (if not c then refused (refusal 1) else granted tt) (if c then granted tt else refused (refusal 1))
+    go true = refl
+    go false = refl
 
 -- the call format on an image of an allowed length
 pub after-format : (b : Bytes) → T (validLength (length b)) → T (sound (after format b)) × (treeOf (after format b) ≡ freshTree (pageCount b))

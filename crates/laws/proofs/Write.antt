@@ -1,7 +1,7 @@
 -- A granted write: the file keeps its pages and gains those wanted, nobody else's change, and the content along them is the old with the new
 -- bytes put at their place; so the tree's file has these bytes and nothing else changes.
 use mathlib.Core.Path.{_≡_, refl, sym, ap, ap₂, _∙_, subst}
-use mathlib.Core.Logic.{inl, inr}
+use mathlib.Core.Logic.{_≢_, inl, inr}
 use Prim.Native.Nat.{ℕ, suc, _+_, _-_, _*_, _/_, _%_, _≤_, _<_, max}
 use native.Mathlib.Omega.{arith}
 use mathlib.Core.Bool.{Bool, true, false, not}
@@ -9,7 +9,7 @@ use mathlib.Core.List.{List, [], _∷_, _++_, flatMap}
 use lib.ListN.{length, length-append, take}
 use lib.Dec.{T, eqb, eqb→eq}
 use Rattle.volume.specs.Bytes.{Bytes, byteAt, put, le16, same, if_then_else_}
-use Rattle.volume.specs.Chain.{chain, beyond}
+use Rattle.volume.specs.Chain.{chain, beyond, along}
 use Rattle.volume.specs.Field.{byte}
 use Rattle.volume.specs.Geometry as On
 use Rattle.volume.proofs.Occ.{occ, Mem, occ-append, mem-or-not, not-mem}
@@ -17,9 +17,11 @@ use Rattle.volume.proofs.Tests.{and-both, both-and, if-yes, if-no, eq-eqb}
 use Rattle.volume.proofs.Splice.{splice-nil}
 use Rattle.volume.proofs.Puts.{part-bytes}
 use Rattle.volume.proofs.Chains.{chain-length}
+use Rattle.volume.proofs.Fields.{Off}
 use Rattle.volume.proofs.Grow.{Gained, gained-is}
 use Rattle.volume.proofs.Longer.{Chained}
 use Rattle.volume.proofs.Writes.{Beside, Written, written-is}
+use Rattle.volume.proofs.Stays.{Elsewhere, written-stays}
 use Rattle.model.specs.Layout.{version1, pageCount, pagesFor, zeroBits, link}
 use Rattle.model.specs.Name.{legalName}
 use Rattle.model.specs.Entry.{entries, occupied, isDirectory, isLocked, nameAt, startAt, sizeAt, dateAt, Entry, vacant, aFile, aDirectory, entryAt}
@@ -214,6 +216,11 @@ module _ (b : Bytes) (f : Facts b) (ns : List Name) (n : Name) (tg : Target b ns
     write-bytes = written-is version1 home (pageCount b) (lawful b f) b (byte (at + 17)) t (pagesFor s₀) k (at + 18) (le16 s) from v s₀ s
         file-chained file-beside hf (fill-up s₀) refl (subst (λ (m : ℕ). s ≤ 255 * m) (sym whole) (fill-up s)) space
 
+    -- every byte but the size's, those that hold or count the pages gained, the link to them, and those of the content where v goes
+    pub write-stays : (i : ℕ) → (1 ≤ k → Off (On.jointOf version1 (byte (at + 17)) ps) i) → (at + 18 ≤ i → at + 18 + 2 ≤ i) → ((p : ℕ) → Mem p qs → Elsewhere version1 p i)
+        → ((m : ℕ) → from ≤ m → m < from + length v → i ≢ along (On.content version1) 255 (ps ++ qs) m) → byteAt b′ i ≡ byteAt b i
+    write-stays = written-stays version1 home (pageCount b) (lawful b f) b (byte (at + 17)) t (pagesFor s₀) k (at + 18) (le16 s) from v file-chained file-beside space
+
     many : length (ps ++ qs) ≡ pagesFor s
     many = length-append ps qs ∙ ap₂ (λ (x y : ℕ). x + y) (chain-length (link b) (pagesFor s₀) (startAt b at)) (write-gained .many) ∙ whole
 
@@ -245,14 +252,14 @@ module _ (b : Bytes) (f : Facts b) (ns : List Name) (n : Name) (tg : Target b ns
     unfolding own pagesOf
     mine′ = ap (own e b′) is′ ∙ pages′
 
-    inside′ : (q : ℕ) → Mem q (ps ++ qs) → (1 ≤ q) × (q < pageCount b)
-    inside′ q m = elim (mem-or-not q ps) [
+    pub write-inside : (q : ℕ) → Mem q (ps ++ qs) → (1 ≤ q) × (q < pageCount b)
+    write-inside q m = elim (mem-or-not q ps) [
       | inl h ↦ let r = file-owned .inside q h in (r .0, r .1)
       | inr z ↦ let r = write-gained .new q (omega (arith, occ-append q ps qs)) in (r .0, r .1)
     ]
 
     zero-out : occ 0 (ps ++ qs) ≡ 0
-    zero-out = not-mem 0 (ps ++ qs) (λ c. omega (arith, inside′ 0 c .0))
+    zero-out = not-mem 0 (ps ++ qs) (λ c. omega (arith, write-inside 0 c .0))
 
     pub rewritten-sound : T (sound b′) × (treeOf b′ ≡ record { pages = pageCount b; root = changeAt ns (rewrite (n .bytes) (put from v content)) (rowAt (pageCount b) b 0) })
     unfolding contentOf
@@ -266,7 +273,7 @@ module _ (b : Bytes) (f : Facts b) (ns : List Name) (n : Name) (tg : Target b ns
           rest = λ i l u c. w .rest i (rest-kept b f i l) (λ y. omega (arith, u (omega arith))) (λ y. omega (arith, u (omega arith))) c;
         })
         (λ q m. (
-          inside′ q m .0,
+          write-inside q m .0,
           λ o. elim (mem-or-not q ps) [
             | inl h ↦ subst (Mem q) (sym mine) h
             | inr z ↦ let r = write-gained .new q (omega (arith, occ-append q ps qs)) in absurd (omega (arith, r .2, f .exact q (r .0) (r .1)))
@@ -279,7 +286,7 @@ module _ (b : Bytes) (f : Facts b) (ns : List Name) (n : Name) (tg : Target b ns
         (record {
           bits = λ q l. omega (arith, ap (occ q) mine, ap (occ q) mine′, occ-append q ps qs, w .bits q l);
           count = omega (arith, ap length mine, ap length mine′, length-append ps qs, w .count, write-gained .many, f .counted, space);
-          fresh-in = λ q m. inside′ q (subst (Mem q) mine′ m);
+          fresh-in = λ q m. write-inside q (subst (Mem q) mine′ m);
         })
 
     pub rewritten-is : rewritten at from v b ≡ b′

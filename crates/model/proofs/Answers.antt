@@ -4,11 +4,41 @@ use mathlib.Core.Bool.{true, false}
 use mathlib.Core.List.{List, [], _∷_, _++_}
 use lib.ListN.{replicate, set, drop}
 use Rattle.volume.specs.Bytes.{part, put}
-use Rattle.model.specs.Call.{format, verdict, find, list, read, makeFile, makeDirectory, write, removeFile, removeDirectory, setLock, isFile, isDirectory, empty, Refusal, refusal as number, refusalAt as numberAt, refused, granted}
+use Rattle.volume.specs.Lists.{keep, upTo}
+use Rattle.model.specs.Name.{legalByte}
+use Rattle.model.specs.Refusal.{tableOrder, ownNumbers}
+use Rattle.model.specs.Call.{format, verdict, find, list, read, makeFile, makeDirectory, write, removeFile, removeDirectory, setLock, isFile, isDirectory, empty, holds, Refusal, refused, granted}
+use Rattle.model.specs.Image.{treeOf}
+use Rattle.model.specs.Meaning.{told as tells, numbers}
 use Rattle.model.specs.Text.{text}
-use Rattle.model.proofs.Run.{computing, Step, Case, _gives_, reads, done, sized, answered, shown, Hold, computed, stated, hold}
+use Rattle.model.proofs.Run.{computing, Step, Case, _gives_, reads, numbered, refusal, refusalAt, done, sized, answered, shown, Hold, computed, stated, hold}
 use Rattle.model.proofs.Table.{blank}
-use Rattle.model.proofs.Desk.{day1, day2, day3, content, refusal, refusalAt, found, entry, whole, header, fresh, desk, full, shelf}
+use Rattle.model.proofs.Desk.{day1, day2, day3, content, found, entry, whole, header, fresh, one, desk, full, shelf, far, long}
+
+-- ---- the table of numbers
+
+-- from the top down; paper 02 §2 put the faults where 3 stood, §9 took 15 away, §10 put 25 after 7 and before 12
+pub ordered : List Case
+ordered =
+    shown [] [] (λ b. tableOrder) (1 ∷ 2 ∷ 16 ∷ 17 ∷ 18 ∷ 20 ∷ 19 ∷ 3 ∷ 4 ∷ 11 ∷ 14 ∷ 5 ∷ 6 ∷ 8 ∷ 7 ∷ 25 ∷ 12 ∷ 9 ∷ 10 ∷ 13 ∷ [])
+    -- the numbers that each call can give
+    ∷ shown [] [] (λ b. numbers format) (1 ∷ [])
+    ∷ shown [] [] (λ b. numbers verdict) (1 ∷ 2 ∷ 16 ∷ 17 ∷ 18 ∷ 20 ∷ 19 ∷ 3 ∷ [])
+    ∷ shown [] [] (λ b. ownNumbers (find [])) (4 ∷ 5 ∷ 6 ∷ [])
+    ∷ shown [] [] (λ b. ownNumbers (list [] 0)) (4 ∷ 5 ∷ 6 ∷ 12 ∷ [])
+    ∷ shown [] [] (λ b. ownNumbers (read [] 0 [])) (4 ∷ 5 ∷ 6 ∷ 7 ∷ 12 ∷ [])
+    ∷ shown [] [] (λ b. ownNumbers (makeFile [] [])) (4 ∷ 11 ∷ 5 ∷ 6 ∷ 8 ∷ 9 ∷ 10 ∷ [])
+    ∷ shown [] [] (λ b. ownNumbers (makeDirectory [] [])) (4 ∷ 11 ∷ 5 ∷ 6 ∷ 8 ∷ 9 ∷ 10 ∷ [])
+    ∷ shown [] [] (λ b. ownNumbers (write [] 0 [])) (4 ∷ 5 ∷ 6 ∷ 7 ∷ 25 ∷ 12 ∷ 10 ∷ [])
+    ∷ shown [] [] (λ b. ownNumbers (removeFile [])) (4 ∷ 14 ∷ 5 ∷ 6 ∷ 7 ∷ 25 ∷ [])
+    ∷ shown [] [] (λ b. ownNumbers (removeDirectory [])) (4 ∷ 14 ∷ 5 ∷ 6 ∷ 13 ∷ [])
+    ∷ shown [] [] (λ b. ownNumbers (setLock true [])) (4 ∷ 5 ∷ 6 ∷ 7 ∷ [])
+    ∷ shown [] [] (λ b. numbers (write [] 0 [])) (1 ∷ 2 ∷ 16 ∷ 17 ∷ 18 ∷ 20 ∷ 19 ∷ 3 ∷ 4 ∷ 5 ∷ 6 ∷ 7 ∷ 25 ∷ 12 ∷ 10 ∷ [])
+    ∷ []
+
+pub ordered-hold : Hold ordered
+unfolding computing computed stated ordered tableOrder ownNumbers numbers
+ordered-hold = hold ordered refl
 
 -- ---- lengths, and what every call judges first
 
@@ -27,6 +57,8 @@ formats =
     ∷ shown (replicate 2047 0xE5) (format gives refusal 1 ∷ verdict gives refusal 1 ∷ []) whole (replicate 2047 0xE5)
     ∷ shown (replicate 2049 0xE5) (format gives refusal 1 ∷ verdict gives refusal 1 ∷ []) whole (replicate 2049 0xE5)
     ∷ answered (replicate 2304 0xE5) (format gives refusal 1 ∷ verdict gives refusal 1 ∷ [])
+    ∷ answered (replicate 2560 0xE5) (format gives refusal 1 ∷ verdict gives refusal 1 ∷ [])
+    ∷ answered (replicate 3072 0xE5) (format gives refusal 1 ∷ verdict gives refusal 1 ∷ [])
     ∷ answered (replicate 67584 0xE5) (format gives refusal 1 ∷ verdict gives refusal 1 ∷ [])
     ∷ []
 
@@ -54,26 +86,32 @@ pub judgedFirst : List Case
 unfolding everyCall
 judgedFirst =
     -- a byte too many behind a sound image, and bytes that are wrong in all ways
-    shown (fresh ++ 0 ∷ []) (everyCall (number 1)) whole (fresh ++ 0 ∷ [])
-    ∷ answered (replicate 2049 0xE5) (everyCall (number 1))
+    shown (fresh ++ 0 ∷ []) (everyCall (numbered 1 0 0 0)) whole (fresh ++ 0 ∷ [])
+    ∷ answered (replicate 2049 0xE5) (everyCall (numbered 1 0 0 0))
     -- byte 0, 1 or 2 wrong, also where the image is not sound
-    ∷ shown (set fresh 0 0x5B) (everyCall (number 2)) whole (set fresh 0 0x5B)
-    ∷ answered (set fresh 1 2) (everyCall (number 2))
-    ∷ answered (set fresh 2 2) (everyCall (number 2))
-    ∷ answered blank (everyCall (number 2))
+    ∷ shown (set fresh 0 0x5B) (everyCall (numbered 2 0 0 0)) whole (set fresh 0 0x5B)
+    ∷ answered (set fresh 1 2) (everyCall (numbered 2 0 0 0))
+    ∷ answered (set fresh 2 2) (everyCall (numbered 2 0 0 0))
+    ∷ answered blank (everyCall (numbered 2 0 0 0))
+    -- a byte lower than it should be is as wrong as a higher one
+    ∷ answered (set fresh 0 0x59) (verdict gives refusal 2 ∷ [])
+    ∷ answered (set fresh 1 0) (verdict gives refusal 2 ∷ [])
+    ∷ answered (set fresh 2 0) (verdict gives refusal 2 ∷ [])
+    ∷ answered (set far 2 1) (verdict gives refusal 2 ∷ [])
+    ∷ answered (set far 2 0) (verdict gives refusal 2 ∷ [])
     -- not sound: the first fault, by number and place (paper 02 §2)
-    ∷ shown (set desk 545 0x7F) (everyCall (record { number = 16; place = (2, 1, 0) })) whole (set desk 545 0x7F)
-    ∷ shown (set desk 1280 6) (everyCall (record { number = 17; place = (0, 0, 2) })) whole (set desk 1280 6)
-    ∷ shown (set desk 561 3) (everyCall (numberAt 18 3)) whole (set desk 561 3)
-    ∷ answered (put 3 (3 ∷ 0b110111 ∷ []) desk) (everyCall (numberAt 20 3))
-    ∷ answered (put 3 (1 ∷ 0b1111111 ∷ []) desk) (everyCall (numberAt 19 6))
-    ∷ shown (set fresh 3 6) (everyCall (number 3)) whole (set fresh 3 6)
+    ∷ shown (set desk 545 0x7F) (everyCall (numbered 16 2 1 0)) whole (set desk 545 0x7F)
+    ∷ shown (set desk 1280 6) (everyCall (numbered 17 0 0 2)) whole (set desk 1280 6)
+    ∷ shown (set desk 561 3) (everyCall (numbered 18 3 0 0)) whole (set desk 561 3)
+    ∷ answered (put 3 (3 ∷ 0b110111 ∷ []) desk) (everyCall (numbered 20 3 0 0))
+    ∷ answered (put 3 (1 ∷ 0b1111111 ∷ []) desk) (everyCall (numbered 19 6 0 0))
+    ∷ shown (set fresh 3 6) (everyCall (numbered 3 0 0 0)) whole (set fresh 3 6)
     -- sound: only then the path is looked at
-    ∷ shown fresh (verdict gives sized 8 7 ∷ drop 1 (everyCall (number 4))) whole fresh
+    ∷ shown fresh (verdict gives sized 8 7 ∷ drop 1 (everyCall (numbered 4 0 0 0))) whole fresh
     ∷ []
 
 pub judgedFirst-hold : Hold judgedFirst
-unfolding computing computed stated judgedFirst everyCall fresh desk
+unfolding computing computed stated judgedFirst everyCall fresh desk far
 judgedFirst-hold = hold judgedFirst refl
 
 -- ---- paths and walks, on the desk
@@ -85,6 +123,7 @@ paths =
     -- bytes that are no path
     find [] gives refusal 4
     ∷ find (text "x") gives refusal 4
+    ∷ find (text "xA") gives refusal 4
     ∷ find (text "A/7") gives refusal 4
     ∷ find (text "//") gives refusal 4
     ∷ find (text "//A") gives refusal 4
@@ -102,6 +141,8 @@ paths =
     ∷ find (0x2F ∷ 0x80 ∷ []) gives refusal 4
     ∷ find (0x2F ∷ 0x41 ∷ 0x00 ∷ []) gives refusal 4
     ∷ find (0x2F ∷ 0x41 ∷ 0x1F ∷ 0x41 ∷ []) gives refusal 4
+    -- names with all the legal bytes in turn
+    ∷ find (text "/ !\"#$%&'()*+,-./0123456789:;<=>?/@ABCDEFGHIJKLMNO/PQRSTUVWXYZ[\\]^_/`abcdefghijklmno/pqrstuvwxyz{|}~") gives refusalAt 5 1
     -- a name that isn't there: the last, or one on the way
     ∷ find (text "/42") gives refusalAt 5 1
     ∷ find (text "/00042") gives refusalAt 5 1
@@ -118,6 +159,9 @@ paths =
     ∷ find (text "/A/7/x") gives refusalAt 6 3
     ∷ find (text "/A/x/7/y") gives refusalAt 5 3
     ∷ [])
+    -- of all 256 bytes, those that a name may have
+    ∷ shown [] [] (λ b. keep legalByte (upTo 256))
+    (text " !\"#$%&'()*+,-.0123456789:;<=>?@ABCDEFGHIJKLMNOPQRSTUVWXYZ[\\]^_`abcdefghijklmnopqrstuvwxyz{|}~")
     ∷ []
 
 pub paths-hold : Hold paths
@@ -165,10 +209,14 @@ told =
     ∷ list (text "/0042/x") 9 gives refusalAt 6 1
     ∷ [])
     whole desk
+    -- the size's two bytes are one number, up to the longest file's
+    ∷ shown (long 0x00 0x80) [] (λ b. tells (find (text "/A")) (treeOf b)) (record { kind = isFile false; size = 32768; date = day1 })
+    ∷ shown (long 0x01 0xFE) [] (λ b. tells (find (text "/A")) (treeOf b)) (record { kind = isFile false; size = 65025; date = day1 })
+    ∷ shown (long 0x01 0xFE) [] (λ b. tells (list (text "/") 0) (treeOf b)) (holds (isFile false) (text "A" ++ replicate 15 0) 65025 day1)
     ∷ []
 
 pub told-hold : Hold told
-unfolding computing computed stated told desk
+unfolding computing computed stated told desk long one
 told-hold = hold told refl
 
 -- ---- make

@@ -5,9 +5,10 @@ use mathlib.Core.List.{List, [], _∷_, _++_}
 use lib.ListN.{replicate, set}
 use Rattle.volume.specs.Bytes.{Bytes, part, put}
 use Rattle.model.specs.Call.{format, verdict, find, makeFile, makeDirectory, list, write, removeFile, removeDirectory, setLock, isFile, isDirectory}
+use Rattle.model.specs.Meaning.{effect}
 use Rattle.model.specs.Text.{text}
-use Rattle.model.proofs.Run.{computing, Case, _gives_, reads, done, sized, answered, shown, Hold, computed, stated, hold}
-use Rattle.model.proofs.Desk.{day1, day2, day3, content, refusal, refusalAt, found, entry, whole, stored, fresh, two, desk, full, shelf, far}
+use Rattle.model.proofs.Run.{computing, Case, _gives_, reads, done, sized, answered, shown, Hold, computed, stated, hold, refusal, refusalAt}
+use Rattle.model.proofs.Desk.{day1, day2, day3, content, found, entry, whole, stored, fresh, two, desk, full, shelf, far, one, long}
 
 -- ---- write
 
@@ -75,10 +76,14 @@ writes =
     ∷ answered (replicate 65536 0xE5) (
     format gives done ∷ makeFile (text "/A") day1 gives done
     ∷ write (text "/A") 0 (replicate 65026 1) gives refusal 10 ∷ write (text "/A") 0 (replicate 65025 1) gives done ∷ [])
+    -- from 128 pages to 129 and 32,840 bytes, and to 65,025 bytes; one page stands for those that there are
+    ∷ shown (long 0x80 0x7F) [] (λ b. let after = effect (write (text "/A") 32640 (content 200)) b in part 3 2 after ++ part 82 2 after ++ part 256 1 after ++ part 512 201 after)
+    (5 ∷ 0b111 ∷ 0x48 ∷ 0x80 ∷ 2 ∷ 0 ∷ content 200)
+    ∷ shown (long 0x00 0xFE) [] (λ b. part 82 2 (effect (write (text "/A") 65024 (0xA0 ∷ [])) b)) (0x01 ∷ 0xFE ∷ [])
     ∷ []
 
 pub writes-hold : Hold writes
-unfolding computing computed stated writes shelf two far
+unfolding computing computed stated writes shelf two far long one
 writes-hold = hold writes refl
 
 -- ---- remove

@@ -1,10 +1,10 @@
 -- What the rows of `Values` have in common: arguments, images and literal bytes.
 use Prim.Native.Nat.{ℕ, _%_}
 use mathlib.Core.List.{[], _∷_, _++_, map}
-use lib.ListN.{replicate}
-use Rattle.volume.specs.Bytes.{Bytes, part}
+use lib.ListN.{replicate, set}
+use Rattle.volume.specs.Bytes.{Bytes, part, put}
 use Rattle.volume.specs.Lists.{upTo}
-use Rattle.model.specs.Call.{Kind, Found, Listed, holds, refusal as number, refusalAt as numberAt, Answer, refused, granted}
+use Rattle.model.specs.Call.{Kind, Found, Listed, holds, Answer, granted}
 use Rattle.model.specs.Text.{text}
 use Rattle.model.proofs.Table.{date}
 
@@ -24,12 +24,6 @@ abbrev pub content : ℕ → Bytes
 content n = map (λ i. i % 251) (upTo n)
 
 -- ---- answers
-
-abbrev pub refusal : {A : Type 0} → ℕ → Answer A
-refusal n = refused (number n)
-
-abbrev pub refusalAt : {A : Type 0} → (number byte : ℕ) → Answer A
-refusalAt n i = refused (numberAt n i)
 
 abbrev pub found : Kind → ℕ → Bytes → Answer Found
 found kind size date = granted (record { kind = kind; size = size; date = date })
@@ -108,3 +102,8 @@ far = 0x5A ∷ 0x01 ∷ 0x02 ∷ 14 ∷ 0b1 ∷ 0b10 ∷ replicate 58 0 ++ store
     ++ replicate 2048 0xE5
     ++ 0 ∷ content 255
     ++ replicate 1536 0xE5
+
+-- /A with a size of these two bytes, low first. Its chain returns to itself, and so page 1 stands for all of its pages: no call would take the image
+-- for sound, but a sound one with such a file is dear to compute.
+unfoldable pub long : (low high : ℕ) → Bytes
+long low high = put 82 (low ∷ high ∷ []) (set one 256 1)

@@ -1,9 +1,11 @@
 -- What an image means as a whole: its tree, the tree that the calls replay to, and the listing.
 use mathlib.Core.Path.{refl}
+use Prim.Native.Nat.{ℕ, suc}
 use mathlib.Core.Bool.{false}
 use mathlib.Core.List.{List, [], _∷_, _++_}
 use lib.ListN.{replicate, set}
-use Rattle.model.specs.Tree.{end, free, file, dir, Tree, fill, rewrite, vacate, inside}
+use Rattle.volume.specs.Bytes.{Bytes}
+use Rattle.model.specs.Tree.{Row, end, free, file, dir, Tree, fill, rewrite, vacate, inside}
 use Rattle.model.specs.Image.{treeOf}
 use Rattle.model.specs.Walk.{changeAt}
 use Rattle.model.specs.Call.{format, verdict, find, makeFile, makeDirectory, write, removeFile, removeDirectory}
@@ -11,9 +13,9 @@ use Rattle.model.specs.Meaning.{inParent, changed, treeAnswer, treeBuffe
 use Rattle.model.specs.Demands.{replay, replayResults}
 use Rattle.model.specs.Text.{text}
 use Rattle.model.specs.Listing.{digits, line, rowLines, treeLines, listingOf, listing}
-use Rattle.model.proofs.Run.{computing, Step, calls, given, Case, _gives_, reads, done, sized, shown, Hold, computed, stated, hold}
+use Rattle.model.proofs.Run.{computing, Step, calls, given, Case, _gives_, reads, refusal, refusalAt, done, sized, shown, Hold, computed, stated, hold}
 use Rattle.model.proofs.Table.{blank, newFile, newDirectory}
-use Rattle.model.proofs.Desk.{day1, day2, day3, content, refusal, refusalAt, fresh, desk, full}
+use Rattle.model.proofs.Desk.{day1, day2, day3, content, fresh, desk, full}
 
 unfoldable pub replaying : Unit {0}
 unfolding fill rewrite vacate inside changeAt inParent changed treeAnswer treeBuffer treeAfter replay replayResults
@@ -73,6 +75,15 @@ trees-hold = hold trees refl
 
 -- ---- listings
 
+-- files of these sizes, named by one letter each from this one on
+files : (letter : ℕ) → List ℕ → Row
+files c [] = end
+files c (n ∷ ns) = file false (c ∷ replicate 15 0) day1 (replicate n 0) (files (suc c) ns)
+
+-- the listing of a tree of so many pages with files of these sizes in the root
+filesListed : (pages : ℕ) → List ℕ → Bytes
+filesListed pages sizes = treeLines (record { pages = pages; root = files 0x41 sizes })
+
 pub listings : List Case
 listings =
     -- the bench's, free 3 by paper 02 §1: /A/7 is empty and has a page
@@ -92,6 +103,13 @@ listings =
     ∷ shown (replicate 65536 0) (format gives done ∷ []) listing (text "pages 256 free 255\n")
     -- a locked file's line is that of any other (paper 02 §10)
     ∷ shown (set desk 64 0xC0) [] listing (text "pages 8 free 2\nF 256 /0042\nD 256 /A\nF 0 /A/7\nD 256 /A/B\n")
+    -- sizes and counts of one digit to five
+    ∷ shown [] [] (λ b. filesListed 16 (9 ∷ 10 ∷ 99 ∷ 100 ∷ 109 ∷ [])) (text "pages 16 free 10\nF 9 /A\nF 10 /B\nF 99 /C\nF 100 /D\nF 109 /E\n")
+    ∷ shown [] [] (λ b. filesListed 104 (999 ∷ [])) (text "pages 104 free 99\nF 999 /A\n")
+    ∷ shown [] [] (λ b. filesListed 104 (1 ∷ 0 ∷ 255 ∷ [])) (text "pages 104 free 100\nF 1 /A\nF 0 /B\nF 255 /C\n")
+    ∷ shown [] [] (λ b. filesListed 112 (300 ∷ [])) (text "pages 112 free 109\nF 300 /A\n")
+    ∷ shown [] [] (λ b. filesListed 256 (65025 ∷ [])) (text "pages 256 free 0\nF 65025 /A\n")
+    ∷ shown [] [] (λ b. filesListed 256 (10000 ∷ 32768 ∷ [])) (text "pages 256 free 86\nF 10000 /A\nF 32768 /B\n")
     -- refused
     ∷ shown [] [] listing (text "refused 1\n")
     ∷ shown (replicate 65537 0) [] listing (text "refused 1\n")
@@ -101,5 +119,5 @@ listings =
     ∷ []
 
 pub listings-hold : Hold listings
-unfolding computing printing computed stated listings desk fresh
+unfolding computing printing computed stated listings files filesListed desk fresh
 listings-hold = hold listings refl

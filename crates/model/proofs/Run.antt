@@ -115,6 +115,17 @@ c gives a = record { call = c; given = record { answered = a; lent = bufferBefor
 abbrev pub reads : (path : Bytes) (position : ℕ) (buffer : Bytes) (n : ℕ) (filled : Bytes) → Step
 reads path position buffer n filled = record { call = read path position buffer; given = record { answered = granted n; lent = filled } }
 
+-- A refusal with all three numbers of its place, not by the definitions' own words for it; and one with no place.
+abbrev pub numbered : (number x y z : ℕ) → Refusal
+numbered n x y z = record { number = n; place = (x, y, z) }
+
+abbrev pub refusal : {A : Type 0} → ℕ → Answer A
+refusal n = refused (numbered n 0 0 0)
+
+-- with the byte of the path at which the walk stops
+abbrev pub refusalAt : {A : Type 0} → (number byte : ℕ) → Answer A
+refusalAt n i = refused (numbered n i 0 0)
+
 abbrev pub done : Answer (Unit {0})
 done = granted tt
 

@@ -3,22 +3,22 @@
 use mathlib.Core.Path.{refl}
 use Prim.Native.Nat.{ℕ}
 use mathlib.Core.Bool.{true, false}
-use mathlib.Core.List.{List, [], _∷_, _++_, map, foldl}
+use mathlib.Core.List.{List, [], _∷_, _++_, map, foldl, flatMap}
 use lib.ListN.{replicate, set}
 use Rattle.volume.specs.Bytes.{Bytes, part, put}
 use Rattle.volume.specs.Lists.{upTo}
 use Rattle.volume.specs.Geometry as On
 use Rattle.model.specs.Layout.{version1}
 use Rattle.model.specs.Sound.{sound, ownedPages, owners}
-use Rattle.model.specs.Call.{verdict, find, list, makeFile, makeDirectory, write, removeFile, removeDirectory, isFile, isDirectory, empty, refused, granted}
+use Rattle.model.specs.Call.{verdict, find, list, makeFile, makeDirectory, write, removeFile, isFile, isDirectory, empty, refused, granted}
 use Rattle.model.specs.Text.{text}
 use Rattle.model.specs.Judge.{clean, judge, isClean}
-use Rattle.model.proofs.Run.{computing, Case, _gives_, done, sized, answered, shown, Hold, computed, stated, hold}
-use Rattle.model.proofs.Desk.{day1, found, entry, whole, header, stored, fresh, one, two, desk, shelf}
+use Rattle.model.proofs.Run.{computing, Case, _gives_, numbered, done, sized, answered, shown, Hold, computed, stated, hold}
+use Rattle.model.proofs.Desk.{day1, found, entry, whole, header, stored, fresh, one, two, desk, shelf, far}
 
 -- refused by this number, with the three numbers of its place (paper 02 §2)
 abbrev unsound : Bytes → (number x y z : ℕ) → Case
-unsound b n x y z = answered b (verdict gives refused (record { number = n; place = (x, y, z) }) ∷ [])
+unsound b n x y z = answered b (verdict gives refused (numbered n x y z) ∷ [])
 
 -- sound, with so many free pages; the judge marks these pages of 8
 abbrev clear : Bytes → ℕ → List ℕ → Case
@@ -31,6 +31,17 @@ box = header 6 0b11 ++ stored 0x81 (text "A" ++ replicate 15 0) 1 0x00 0x01 day1
 note : Bytes
 note = header 6 0b11 ++ stored 0x80 (text "A" ++ replicate 15 0) 1 0x00 0x00 day1 ++ replicate 160 0 ++ 0 ∷ replicate 255 0xE5 ++ replicate 1536 0xE5
 
+-- three files, of which the third, empty, has this name
+three : (name : ℕ) → Bytes
+three name = put 3 (4 ∷ 0b1111 ∷ []) (put 128 (stored 0x80 (name ∷ replicate 15 0) 3 0x00 0x00 day1) (set two 768 0))
+
+-- 16 pages: nine directories on pages 1 to 9, each in the one before
+nested : Bytes
+nested = 0x5A ∷ 0x01 ∷ 0x02 ∷ 6 ∷ 0b11111111 ∷ 0b11 ∷ replicate 58 0 ++ stored 0x81 (text "1" ++ replicate 15 0) 1 0x00 0x01 day1 ++ replicate 160 0
+    ++ flatMap (λ p. stored 0x81 (text "1" ++ replicate 15 0) p 0x00 0x01 day1 ++ replicate 224 0) (2 ∷ 3 ∷ 4 ∷ 5 ∷ 6 ∷ 7 ∷ 8 ∷ 9 ∷ [])
+    ++ replicate 256 0
+    ++ replicate 1536 0xE5
+
 pub sounds : List Case
 sounds =
     clear fresh 7 []
@@ -40,6 +51,9 @@ sounds =
     ∷ clear box 6 (1 ∷ [])
     ∷ clear desk 2 (4 ∷ 3 ∷ 2 ∷ 5 ∷ 1 ∷ [])
     ∷ clear shelf 2 (5 ∷ 4 ∷ 3 ∷ 2 ∷ 1 ∷ [])
+    ∷ clear (three 0x43) 4 (3 ∷ 2 ∷ 1 ∷ [])
+    ∷ shown far [] judge (clean (set (replicate 16 0) 9 1))
+    ∷ answered nested (verdict gives sized 16 6 ∷ find (text "/1/1/1/1/1/1/1/1/1") gives found isDirectory 256 day1 ∷ [])
     ∷ []
 
 pub facts : List Case
@@ -75,6 +89,8 @@ facts =
     -- equal names in one directory, told at the later entry; in two directories they are apart
     ∷ unsound (set two 97 0x41) 16 0 1 0
     ∷ unsound (set desk 545 0x37) 16 2 1 0
+    ∷ unsound (three 0x41) 16 0 2 0
+    ∷ unsound (three 0x42) 16 0 2 0
     ∷ unsound (put 3 (5 ∷ 0b111 ∷ []) (put 96 (stored 0x80 (text "A" ++ replicate 15 0) 2 0x00 0x00 day1) (set box 512 0))) 16 0 1 0
     ∷ clear (set desk 513 0x41) 2 (4 ∷ 3 ∷ 2 ∷ 5 ∷ 1 ∷ [])
     -- a directory's size
@@ -104,6 +120,8 @@ facts =
     ∷ unsound (put 3 (7 ∷ 0b1 ∷ []) (set box 81 8)) 17 0 0 0
     ∷ unsound (put 3 (7 ∷ 0b1 ∷ []) (set box 81 0)) 17 0 0 0
     ∷ unsound (put 3 (6 ∷ 0b11 ∷ []) (put 82 (0x00 ∷ 0x01 ∷ []) (set one 256 8))) 17 0 0 1
+    ∷ unsound (set desk 113 8) 17 0 1 0
+    ∷ unsound (set desk 561 8) 17 2 1 0
     -- the chain ends early
     ∷ unsound (put 82 (0x00 ∷ 0x01 ∷ []) one) 17 0 0 1
     ∷ unsound (put 82 (0xFD ∷ 0x02 ∷ []) (set (set two 96 0) 256 2)) 17 0 0 2
@@ -134,6 +152,13 @@ facts =
     ∷ unsound (put 3 (5 ∷ 0b100011 ∷ []) one) 19 5 0 0
     ∷ unsound (put 3 (5 ∷ 0b10000011 ∷ []) one) 19 7 0 0
     ∷ unsound (put 3 (4 ∷ 0b1010011 ∷ []) one) 19 4 0 0
+    -- on 16 pages: past the eighth, and more than eight directories deep
+    ∷ unsound (set far 2304 1) 17 0 0 1
+    ∷ unsound (set far 81 16) 17 0 0 0
+    ∷ unsound (put 3 (15 ∷ 0b1 ∷ 0b0 ∷ []) far) 20 9 0 0
+    ∷ unsound (put 3 (13 ∷ 0b1 ∷ 0b10010 ∷ []) far) 19 12 0 0
+    ∷ unsound (set far 3 13) 3 0 0 0
+    ∷ unsound (put 2304 (stored 0x81 (0x7F ∷ replicate 15 0) 10 0x00 0x01 day1) nested) 16 9 0 0
     ∷ []
 
 -- Two faults in one image: the first in the order of paper 02 §2 is told.
@@ -199,11 +224,11 @@ owning =
     ∷ []
 
 pub sounds-hold : Hold sounds
-unfolding computing computed stated sounds fresh note one two box desk shelf
+unfolding computing computed stated sounds fresh note one two three box desk shelf far nested
 sounds-hold = hold sounds refl
 
 pub facts-hold : Hold facts
-unfolding computing computed stated facts fresh note one two box desk shelf
+unfolding computing computed stated facts fresh note one two three box desk shelf far nested
 facts-hold = hold facts refl
 
 pub order-hold : Hold order

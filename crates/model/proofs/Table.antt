@@ -9,9 +9,9 @@ use lib.ListN.{replicate}
 use Rattle.volume.specs.Bytes.{Bytes, part, byteAt}
 use Rattle.volume.specs.Geometry as On
 use Rattle.model.specs.Layout.{version1, pagesFor, pageBit}
-use Rattle.model.specs.Call.{Call, format, verdict, find, list, makeFile, makeDirectory, write, isFile, holds, refusal, refusalAt, refused, granted}
+use Rattle.model.specs.Call.{Call, format, verdict, find, list, makeFile, makeDirectory, write, isFile, holds, granted}
 use Rattle.model.specs.Text.{text}
-use Rattle.model.proofs.Run.{computing, Case, _gives_, done, sized, answered, shown, Hold, computed, stated, hold}
+use Rattle.model.proofs.Run.{computing, Case, _gives_, refusal, refusalAt, done, sized, answered, shown, Hold, computed, stated, hold}
 
 -- ---- the arguments
 
@@ -50,7 +50,7 @@ table =
     ∷ list (text "/") 0 gives granted (holds (isFile false) (text "0042" ++ replicate 12 0) 0 date)
     ∷ list (text "/") 1 gives granted (holds (isFile false) (text "42" ++ replicate 14 0) 0 date)
     ∷ verdict gives sized 8 5
-    ∷ find (text "/00042") gives refused (refusalAt 5 1)
+    ∷ find (text "/00042") gives refusalAt 5 1
     ∷ [])
     -- 3
     ∷ shown blank (format gives done ∷ newFile "/0042" gives done ∷ writeAt "/0042" 0 255 gives done ∷ [])
@@ -73,26 +73,26 @@ table =
     (0 ∷ 1 ∷ 0 ∷ replicate (4 + 19) 0 ++ 0b100 ∷ replicate (65536 - 4 - 20) 0)
     -- 7
     ∷ answered blank (
-    format gives done ∷ newFile "/0042" gives done ∷ writeAt "/0042" 0 1786 gives refused (refusal 10)
+    format gives done ∷ newFile "/0042" gives done ∷ writeAt "/0042" 0 1786 gives refusal 10
     ∷ writeAt "/0042" 0 1785 gives done ∷ verdict gives sized 8 0 ∷ [])
     -- 8
     ∷ answered blank (
     format gives done
     ∷ newDirectory "/A" gives done ∷ newDirectory "/B" gives done ∷ newDirectory "/C" gives done
     ∷ newDirectory "/D" gives done ∷ newDirectory "/E" gives done ∷ newDirectory "/F" gives done
-    ∷ verdict gives sized 8 1 ∷ newDirectory "/G" gives refused (refusal 9) ∷ [])
+    ∷ verdict gives sized 8 1 ∷ newDirectory "/G" gives refusal 9 ∷ [])
     -- 9
     ∷ answered blank (
     format gives done
     ∷ newFile "/0123456789ABCDEF" gives done
-    ∷ newFile "/0123456789ABCDEFG" gives refused (refusal 4)
-    ∷ newFile "//A" gives refused (refusal 4)
-    ∷ newFile "/A/" gives refused (refusal 4)
+    ∷ newFile "/0123456789ABCDEFG" gives refusal 4
+    ∷ newFile "//A" gives refusal 4
+    ∷ newFile "/A/" gives refusal 4
     ∷ [])
     -- 10
     ∷ answered blank (
     format gives done ∷ newFile "/0042" gives done ∷ writeAt "/0042" 0 255 gives done
-    ∷ writeAt "/0042" 256 1 gives refused (refusal 12)
+    ∷ writeAt "/0042" 256 1 gives refusal 12
     ∷ writeAt "/0042" 255 1 gives done
     ∷ find (text "/0042") gives granted (record { kind = (isFile false); size = 256; date = date })
     ∷ [])

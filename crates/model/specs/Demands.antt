@@ -1,32 +1,35 @@
 -- The three demands of document 00, as statements about `answer`, `after` and `bufferAfter`, and those of paper 02 §9 and §10. The crate `laws`
 -- proves them.
 use mathlib.Core.Path.{_≡_}
-use mathlib.Core.Logic.{_↔_, _≢_}
-use Prim.Native.Nat.{ℕ, _+_, _≤_, _<_}
+use mathlib.Core.Logic.{_↔_, _≢_, _⊎_}
+use Prim.Native.Nat.{ℕ, _+_, _/_, _≤_, _<_}
 use mathlib.Core.Bool.{Bool, false, not}
+use mathlib.Core.Option.{some}
 use mathlib.Core.List.{List, [], _∷_}
 use lib.ListN.{length}
 use lib.Dec.{T}
-use Rattle.volume.specs.Bytes.{Bytes, same}
+use Rattle.volume.specs.Bytes.{Bytes, byteAt, same, if_then_else_}
 use Rattle.volume.specs.Lists.{all, member}
 use Rattle.volume.specs.Chain.{chain, beyond}
 use Rattle.model.specs.Layout.{pageCount, pagesFor, validLength, validHeader, freeCount, pageBit, zeroBits, link}
-use Rattle.model.specs.Entry.{aFile, aDirectory, entryAt}
+use Rattle.model.specs.Entry.{aFile, aDirectory, entryAt, occupied, nameAt}
 use Rattle.model.specs.Sound.{inRange, sound, reachedEntries, owners}
 use Rattle.model.specs.Judge.{Fault, fault, judge, isClean}
-use Rattle.model.specs.Tree.{Row, Tree, needs, freeNumber, fileNode, directoryNode}
-use Rattle.model.specs.Path.{Path, isRoot}
+use Rattle.model.specs.Tree.{Row, Tree, needs, freeNumber, fileNode, directoryNode, end, free, file, dir, Node, lookup}
+use Rattle.model.specs.Path.{Path, isRoot, pathOf}
 use Rattle.model.specs.Image.{contentOf, treeOf}
-use Rattle.model.specs.Walk.{arrived, walkTo, entryPosition}
-use Rattle.model.specs.Call.{Call, format, verdict, setLock, Told, bufferBefore, Refusal, refusal, Answer, refused, granted}
-use Rattle.model.specs.Refusal.{earlier, wanted, Passes, tableOrder}
-use Rattle.model.specs.Meaning.{freshTree, treeAnswer, treeBuffer, treeAfter, faultTold, isFormat, answer, after, bufferAfter}
+use Rattle.model.specs.Walk.{arrived, walkTo, entryPosition, entryNamed}
+use Rattle.model.specs.Call.{Call, format, verdict, setLock, Told, bufferBefore, Refusal, refusal, Answer, refused, granted, find, Found}
+use Rattle.model.specs.Name.{legalText, padded}
+use Rattle.model.specs.Refusal.{earlier, wanted, Passes}
+use Rattle.model.specs.Meaning.{freshTree, treeAnswer, treeBuffer, treeAfter, faultTold, isFormat, answer, after, bufferAfter, numbers}
+use Rattle.model.specs.Touched.{moved, touched}
 
--- ---- Demand 1: any input, an answer; a refusal has a number of the table and changes nothing.
+-- ---- Demand 1: any input, an answer; a refusal has a number that this call can give and changes nothing.
 -- (That there is always an answer is the type of `answer`, which has no condition.)
 
 pub record Untouched (c : Call) (b : Bytes) (f : Refusal) : Type 0 where
-  pub numbered : T (member (f .number) tableOrder)
+  pub numbered : T (member (f .number) (numbers c))
   pub image : after c b ≡ b
   pub lent : bufferAfter c b ≡ bufferBefore c
 
@@ -49,13 +52,44 @@ pub record AsTree (c : Call) (b : Bytes) : Type 0 where
   pub isSound : T (sound (after c b))
   pub means : treeOf (after c b) ≡ treeAfter c (treeOf b)
 
+-- A call changes no byte that it does not name.
+pub record OnlyTouched (c : Call) (b : Bytes) : Type 0 where
+  pub long : length (after c b) ≡ length b
+  pub bytes : (i : ℕ) → T (not (member i (touched c b))) → byteAt (after c b) i ≡ byteAt b i
+  -- a bitmap byte that changes keeps the bits of other pages
+  pub bits : (p : ℕ) → p < pageCount b → T (not (member p (moved c b))) → pageBit (after c b) p ≡ pageBit b p
+  -- bytes 0 to 2, the bitmap past N/8 and the reserved area are kept by every call but format ("The header page")
+  pub header : T (not (isFormat c)) → (i : ℕ) → i < 64 → i ≢ 3 → (4 ≤ i → 4 + pageCount b / 8 ≤ i) → byteAt (after c b) i ≡ byteAt b i
+
+-- a row holds x under a name of exactly these bytes
+abbrev pub HeldAs : (name : Bytes) → Node → Row → Type 0
+HeldAs n x end = ⊥
+HeldAs n x (free r) = HeldAs n x r
+HeldAs n x (file l m d v r) = ((m ≡ n) × (fileNode l d v ≡ x)) ⊎ HeldAs n x r
+HeldAs n x (dir m d s r) = ((m ≡ n) × (directoryNode d s ≡ x)) ⊎ HeldAs n x r
+
+-- Names differ when any byte differs: "0042" and "42" are two names, and "/0042" and "/42" lead to two entries.
+pub record ExactNames : Type 0 where
+  pub apart : (n m : Bytes) → n ≢ m → same n m ≡ false
+  -- padding makes no two names one
+  pub padding : (v w : Bytes) → T (legalText v) → T (legalText w) → padded v ≡ padded w → v ≡ w
+  -- what is found for a name has this name, in the tree and in the bytes
+  pub inTree : (n : Bytes) (r : Row) (x : Node) → lookup n r ≡ some x → HeldAs n x r
+  pub inBytes : (b : Bytes) (page : ℕ) (n : Bytes) (at : ℕ) → entryNamed b page n ≡ some at → T (occupied b at) × (nameAt b at ≡ n)
+  -- two paths that are found and lead to one entry are the same bytes (the root has no entry; its position is 0, where none stands)
+  pub paths : (b : Bytes) → T (sound b) → (p q : Bytes) (x y : Found) → answer (find p) b ≡ granted x → answer (find q) b ≡ granted y
+      → entryPosition b (pathOf p) ≡ entryPosition b (pathOf q) → p ≡ q
+
 pub record Demand2 : Type 0 where
   -- no fault is told exactly if the image is sound (paper 02 §2)
   pub faultless : (b : Bytes) → T (validLength (length b)) → T (validHeader b) → isClean (judge b) ≡ sound b
   pub unsound : (c : Call) (b : Bytes) → T (not (isFormat c)) → T (not (sound b)) → Unsound c b
   pub asTree : (c : Call) (b : Bytes) → T (sound b) → AsTree c b
+  -- format refuses exactly the lengths that are not allowed, and nothing else
+  pub formats : (b : Bytes) → answer format b ≡ (if validLength (length b) then granted tt else refused (refusal 1))
   pub fresh : (b : Bytes) → T (validLength (length b)) → T (sound (after format b)) × (treeOf (after format b) ≡ freshTree (pageCount b))
-  pub names : (n m : Bytes) → n ≢ m → same n m ≡ false
+  pub onlyTouched : (c : Call) (b : Bytes) → OnlyTouched c b
+  pub names : ExactNames
 
 -- ---- Demand 3: lists of calls on one image
 

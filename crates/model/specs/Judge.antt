@@ -71,9 +71,9 @@ judgeEntries below b d i earlier (at ∷ ats) marks =
     thenJudge (judgeEntry below b d i earlier (entryAt b at) marks) (judgeEntries below b d (suc i) (at ∷ earlier) ats)
 
 -- Every directory has a page of its own, so depth N is enough: any greater depth tells the same (law `judge-depth`), and the first line
--- decides nothing.
+-- decides nothing; the fault there is one that the walk tells, so that at every depth it tells no lost page and no bad count.
 unfoldable pub judgeDirectory : (depth : ℕ) → Bytes → (page : ℕ) → List ℕ → Judged
-judgeDirectory zero b p marks = fault badCount
+judgeDirectory zero b p marks = fault (badEntry p 0)
 judgeDirectory (suc depth) b p marks = judgeEntries (judgeDirectory depth b) b p 0 [] (entries p) marks
 
 -- after a clean walk: the lowest marked page that nobody owns, then bit 0 and the count

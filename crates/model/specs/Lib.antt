@@ -30,6 +30,7 @@ pub mod Effect
 pub mod Call
 pub mod Refusal
 pub mod Meaning
+pub mod Touched
 pub mod Demands
 pub mod Text
 pub mod Listing

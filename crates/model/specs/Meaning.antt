@@ -14,7 +14,7 @@ use Rattle.model.specs.Image.{treeOf}
 use Rattle.model.specs.Walk.{changeAt}
 use Rattle.model.specs.Effect.{formatted, fileMade, directoryMade, written, removed, relocked}
 use Rattle.model.specs.Call.{Call, format, verdict, find, list, read, makeFile, makeDirectory, write, removeFile, removeDirectory, setLock, isFile, isDirectory, Found, Listed, empty, holds, Told, bufferBefore, Refusal, refusal, refusalAt, Answer, refused, granted}
-use Rattle.model.specs.Refusal.{Line, refusals, settle, node, directoryRow, contentIn}
+use Rattle.model.specs.Refusal.{Line, refusals, settle, node, directoryRow, contentIn, ownNumbers}
 
 -- ---- on the plain tree
 
@@ -142,6 +142,10 @@ lines c b =
     (not (validHeader b), refusal 2)
     ∷ soundLine b
     ∷ refusals c (treeOf b)))
+
+-- the numbers that a call can give on any image; the faults stand where 3 stood, in the order told
+unfoldable pub numbers : Call → List ℕ
+numbers c = 1 ∷ (if isFormat c then [] else (2 ∷ 16 ∷ 17 ∷ 18 ∷ 20 ∷ 19 ∷ 3 ∷ ownNumbers c))
 
 -- the bytes after a granted call
 unfoldable pub effect : Call → Bytes → Bytes

@@ -177,3 +177,18 @@ Passes ls = settle ls some none ≡ none
 -- the paper's table from the top down; where 3 stood stand the faults of paper 02 §2, in the order told, and 15 is gone (paper 02 §9)
 unfoldable pub tableOrder : List ℕ
 tableOrder = 1 ∷ 2 ∷ 16 ∷ 17 ∷ 18 ∷ 20 ∷ 19 ∷ 3 ∷ 4 ∷ 11 ∷ 14 ∷ 5 ∷ 6 ∷ 8 ∷ 7 ∷ 25 ∷ 12 ∷ 9 ∷ 10 ∷ 13 ∷ []
+
+-- The numbers that a call can give on a sound image, in the order of its lines. Number 10 is one of them where the call may need pages. (Law
+-- `own-numbers`: the lines have these numbers in this order, and the numbers rise in the table.)
+unfoldable pub ownNumbers : Call → List ℕ
+ownNumbers format = []
+ownNumbers verdict = []
+ownNumbers (find path) = 4 ∷ 5 ∷ 6 ∷ []
+ownNumbers (list path i) = 4 ∷ 5 ∷ 6 ∷ 12 ∷ []
+ownNumbers (read path at buffer) = 4 ∷ 5 ∷ 6 ∷ 7 ∷ 12 ∷ []
+ownNumbers (makeFile path date) = 4 ∷ 11 ∷ 5 ∷ 6 ∷ 8 ∷ 9 ∷ 10 ∷ []
+ownNumbers (makeDirectory path date) = 4 ∷ 11 ∷ 5 ∷ 6 ∷ 8 ∷ 9 ∷ 10 ∷ []
+ownNumbers (write path at v) = 4 ∷ 5 ∷ 6 ∷ 7 ∷ 25 ∷ 12 ∷ 10 ∷ []
+ownNumbers (removeFile path) = 4 ∷ 14 ∷ 5 ∷ 6 ∷ 7 ∷ 25 ∷ []
+ownNumbers (removeDirectory path) = 4 ∷ 14 ∷ 5 ∷ 6 ∷ 13 ∷ []
+ownNumbers (setLock locked path) = 4 ∷ 5 ∷ 6 ∷ 7 ∷ []

@@ -1,5 +1,6 @@
 // Names and paths, byte by byte: which bytes are legal, whether two names are the same, and where the texts of a path end.
 // Every function answers what the model says of the bytes, changes none, and asks only that what it reads lies in the image or the path.
+use fields::Entry;
 ghost use mathlib.Core.Path.{_≡_};
 ghost use mathlib.Core.Bool.{not};
 ghost use Prim.Native.Nat.{_+_, _≤_};
@@ -7,7 +8,8 @@ ghost use lib.ListN.{length, drop};
 ghost use lib.Dec.{eqb};
 ghost use Rattle.volume.specs.Bytes.{same};
 ghost use Rattle.volume.specs.Lists.{all};
-ghost use Rattle.model.specs.Entry.{nameAt};
+ghost use Rattle.model.specs.Entry.{nameAt, entryAt};
+ghost use Rattle.model.specs.Sound.{isNamed};
 ghost use Rattle.model.specs.Name.{legalByte, legalRest, legalName, legalText, padded};
 ghost use Rattle.model.specs.Path.{texts, pathOf, isNoPath};
 ghost use Rattle.names.specs.Texts.{textLength};
@@ -49,13 +51,30 @@ pub fn has_name(image: &[u8], at: usize, name: &[u8]) -> bool
     same_bytes(&image[from..to], name)
 }
 
-pub fn same_name(image: &[u8], a: usize, b: usize) -> bool
-    requires { ⌜ (a + 32 ≤ length (now image)) × (b + 32 ≤ length (now image)) ⌝ }
-    ensures { λ r. ⌜ r ≡ same (nameAt (now (image .entry)) a) (nameAt (now (image .entry)) b) ⌝ }
+// The entry has this name. A vacant one has none, whatever its bytes.
+pub fn is_named(image: &[u8], at: usize, name: &[u8]) -> bool
+    requires { ⌜ at + 32 ≤ length (now image) ⌝ }
+    ensures { λ r. ⌜ r ≡ isNamed (now (name .entry)) (entryAt (now (image .entry)) at) ⌝ }
 {
-    let from = b + 1;
-    let to = b + 17;
-    has_name(image, a, &image[from..to])
+    let entry = fields::entry_at(image, at);
+    if let Entry::Vacant = entry {
+        return false;
+    }
+    has_name(image, at, name)
+}
+
+// The entry has the name that stands in the one at position `other`.
+pub fn has_name_of(image: &[u8], at: usize, other: usize) -> bool
+    requires { ⌜ (at + 32 ≤ length (now image)) × (other + 32 ≤ length (now image)) ⌝ }
+    ensures { λ r. ⌜ r ≡ isNamed (nameAt (now (image .entry)) other) (entryAt (now (image .entry)) at) ⌝ }
+{
+    let entry = fields::entry_at(image, at);
+    if let Entry::Vacant = entry {
+        return false;
+    }
+    let from = other + 1;
+    let to = other + 17;
+    has_name(image, at, &image[from..to])
 }
 
 fn only_zeros(bytes: &[u8], from: usize) -> bool

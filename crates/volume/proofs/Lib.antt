@@ -17,4 +17,5 @@ pub mod Grow
 pub mod Longer
 pub mod Writes
 pub mod Entries
+pub mod Stays
 pub mod Small

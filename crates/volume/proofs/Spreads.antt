@@ -10,14 +10,15 @@ use mathlib.Core.Bool.{Bool, true, false, not}
 use mathlib.Core.List.{List, [], _∷_, _++_, flatMap, append-nil}
 use lib.ListN.{length, take, drop, length-take, length-drop, take-append-drop, length-append, drop-of-length-le}
 use lib.Seq.{length-take-le, take-at, drop-at}
-use lib.Dec.{T, ltb}
+use lib.Dec.{T, ltb, lt→ltb}
 use mir.Facts.{ltb-yes, ltb-no}
 use Rattle.volume.specs.Bytes.{Bytes, byteAt, part, put, if_then_else_}
-use Rattle.volume.specs.Chain.{spread}
+use Rattle.volume.specs.Chain.{spread, along}
 use Rattle.volume.proofs.Occ.{occ, Nodup, mem-head, mem-tail, mem-apart, nodup-head, nodup-tail}
+use Rattle.volume.proofs.Tests.{if-yes}
 use Rattle.volume.proofs.Flat.{flatMap-same}
 use Rattle.volume.proofs.Splice.{splice-nil, splice-left, splice-right, splice-splice, splice-length-in}
-use Rattle.volume.proofs.Puts.{put-length, put-out, part-bytes, part-length, put-part-out}
+use Rattle.volume.proofs.Puts.{not-inside, put-length, put-out, part-bytes, part-length, put-part-out}
 
 -- a put inside a stretch
 pub put-part-in : (i : ℕ) (v b : Bytes) (s n : ℕ) → s + n ≤ length b → i + length v ≤ n → part s n (put (s + i) v b) ≡ put i v (part s n b)
@@ -127,6 +128,47 @@ module _ (first : ℕ → ℕ) (room : ℕ) where
           next 0 (drop (room - at) v) (put (first p + at) (take (room - at) v) b) (λ q m. omega (arith, e, later q m))
           ∙ put-out (first p + at) (take (room - at) v) b f i (λ u. omega (arith, length-take (room - at) v, o p (mem-head p ps) (omega arith)))
       go false l next = next (at - room) v b later
+
+  along-here : (p : ℕ) (ps : List ℕ) (k : ℕ) → k < room → along first room (p ∷ ps) k ≡ first p + k
+  unfolding along
+  along-here p ps k h = if-yes (ltb k room) (first p + k) (along first room ps (k - room)) (lt→ltb k room h)
+
+  along-next : (p : ℕ) (ps : List ℕ) (k : ℕ) → along first room (p ∷ ps) (k + room) ≡ along first room ps k
+  unfolding along
+  along-next p ps k = go (ltb (k + room) room) (λ u. ltb-yes {a = k + room} {b = room} u)
+    where
+      go : (c : Bool) → (T c → k + room < room) → (if c then first p + (k + room) else along first room ps (k + room - room)) ≡ along first room ps k
+      go true l = absurd (omega (arith, l tt))
+      go false l = let e : k + room - room ≡ k = omega arith in ap (along first room ps) e
+
+  -- bytes at which none of v goes stay
+  pub spread-elsewhere : (ps : List ℕ) (at : ℕ) (v b : Bytes) → Fits ps b
+      → (i : ℕ) → ((k : ℕ) → at ≤ k → k < at + length v → i ≢ along first room ps k) → byteAt (spread first room ps at v b) i ≡ byteAt b i
+  unfolding spread
+  spread-elsewhere [] at v b h i o = refl
+  spread-elsewhere (p ∷ ps) at v b h i o = go (ltb at room) (λ u. ltb-yes {a = at} {b = room} u) (λ u. ltb-no {a = at} {b = room} u) (λ at v b h. spread-elsewhere ps at v b h i)
+    where
+      later : Fits ps b
+      later q m = h q (mem-tail q p ps m)
+
+      go : (c : Bool) → (T c → at < room) → (T (not c) → room ≤ at)
+          → ((at : ℕ) (v b : Bytes) → Fits ps b → ((k : ℕ) → at ≤ k → k < at + length v → i ≢ along first room ps k) → byteAt (spread first room ps at v b) i ≡ byteAt b i)
+          → byteAt (if c then spread first room ps 0 (drop (room - at) v) (put (first p + at) (take (room - at) v) b) else spread first room ps (at - room) v b) i ≡ byteAt b i
+      go true l g next =
+          let lt : at < room = l tt in
+          let v₁ : Bytes = take (room - at) v in
+          let l₁ : length v₁ ≡ min (room - at) (length v) = length-take (room - at) v in
+          let f = piece p at v b lt (h p (mem-head p ps)) in
+          let e : length (put (first p + at) v₁ b) ≡ length b = put-length (first p + at) v₁ b f in
+          next 0 (drop (room - at) v) (put (first p + at) v₁ b) (λ q m. omega (arith, e, later q m))
+          (λ k u w z. o (k + room) (omega arith) (omega (arith, length-drop (room - at) v)) (z ∙ sym (along-next p ps k)))
+          ∙ put-out (first p + at) v₁ b f i (not-inside (first p + at) (length v₁) i (λ u w.
+          let k : i - first p < room = omega (arith, l₁) in
+          let z : i ≡ first p + (i - first p) = omega arith in
+          o (i - first p) (omega arith) (omega (arith, l₁)) (z ∙ sym (along-here p ps (i - first p) k))))
+      go false l g next =
+          let le : room ≤ at = g tt in
+          next (at - room) v b later (λ k u w z. o (k + room) (omega arith) (omega arith) (z ∙ sym (along-next p ps k)))
 
   module _ (apart : (p q : ℕ) → p ≢ q → first p ≤ first q → first p + room ≤ first q) where
     -- a page's stretch is outside those of other pages

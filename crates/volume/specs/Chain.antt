@@ -19,6 +19,11 @@ beyond next (suc k) p = beyond next k (next p)
 unfoldable pub spread : (first : ℕ → ℕ) (room : ℕ) → List ℕ → ℕ → Bytes → Bytes → Bytes
 spread first room [] at v b = b
 spread first room (p ∷ ps) at v b =
-    if ltb at room
-    then spread first room ps 0 (drop (room - at) v) (put (first p + at) (take (room - at) v) b)
-    else spread first room ps (at - room) v b
+    let here = spread first room ps 0 (drop (room - at) v) (put (first p + at) (take (room - at) v) b) in
+    let further = spread first room ps (at - room) v b in
+    if ltb at room then here else further
+
+-- the position at which byte `at` of the content along the pages stands
+unfoldable pub along : (first : ℕ → ℕ) (room : ℕ) → List ℕ → ℕ → ℕ
+along first room [] at = 0
+along first room (p ∷ ps) at = if ltb at room then first p + at else along first room ps (at - room)

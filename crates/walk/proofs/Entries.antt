@@ -1,40 +1,21 @@
 -- The entry of a name: an occupied one has its name and a vacant one none, and the first of a directory that has it is found in order.
-use mathlib.Core.Path.{_≡_, refl, sym, ap, _∙_}
-use mathlib.Core.Logic.{_⊎_, inl, inr}
+use mathlib.Core.Path.{_≡_, refl, sym}
 use Prim.Native.Nat.{ℕ, zero, suc, _+_, _*_, _≤_, _<_}
 use native.Mathlib.Omega.{arith}
 use mathlib.Core.Bool.{Bool, true, false}
 use mathlib.Core.Option.{none, some}
 use mathlib.Core.List.{map}
-use denote.Enum.Declared.{tagOf}
 use lib.ListN.{length, List·getD-eq-default}
-use Rattle.volume.specs.Bytes.{Bytes, same}
+use Rattle.volume.specs.Bytes.{Bytes}
 use Rattle.volume.specs.Lists.{first, countFrom}
 use Rattle.model.specs.Layout.{pageSize, pageCount}
-use Rattle.model.specs.Entry.{isLocked, Entry as Model, vacant, aFile, aDirectory, entryCount, entriesStart, entries, nameAt, dateAt, entryAt}
+use Rattle.model.specs.Entry.{Entry as Model, vacant, aFile, aDirectory, entryCount, entriesStart, entries, entryAt}
 use Rattle.model.specs.Sound.{isNamed}
 use Rattle.model.specs.Path.{Name}
 use Rattle.model.specs.Walk.{arrived, missing, blocked, entryNamed, enterOn}
 use Rattle.walk.specs.Steps.{entered}
-use Rattle.fields.proofs.Entry.{the-type}
 use Rattle.fields.proofs.Searches.{Sought, sought-here, sought-none}
 use Rattle.fields.specs.declared.Entry.{Entry}
-use Rattle.fields.specs.declared.Entry.the-variants.{Vacant, File, Directory}
-use Rattle.fields.specs.Read.{entryOf}
-
-module _ (b n : Bytes) (at : ℕ) (r : Entry) (read : entryOf r (isLocked b at) (nameAt b at) (dateAt b at) ≡ entryAt b at) where
-  pub vacant-unnamed : r ≡ Vacant → false ≡ isNamed n (entryAt b at)
-  unfolding isNamed
-  vacant-unnamed v = ap (isNamed n) (ap (λ (s : Entry). entryOf s (isLocked b at) (nameAt b at) (dateAt b at)) (sym v) ∙ read)
-
-  pub occupied-named : (tagOf the-type r ≡ 1) ⊎ (tagOf the-type r ≡ 2) → same (nameAt b at) n ≡ isNamed n (entryAt b at)
-  unfolding isNamed
-  occupied-named o = named r o ∙ ap (isNamed n) read
-    where
-      named : (s : Entry) → (tagOf the-type s ≡ 1) ⊎ (tagOf the-type s ≡ 2) → same (nameAt b at) n ≡ isNamed n (entryOf s (isLocked b at) (nameAt b at) (dateAt b at))
-      named Vacant k = elim k [ inl u ↦ absurd (omega arith) | inr u ↦ absurd (omega arith) ]
-      named (File start size) k = refl
-      named (Directory start size) k = refl
 
 -- ---- the entries of a directory, from entry i on: those before it have another name
 

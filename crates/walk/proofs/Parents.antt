@@ -6,14 +6,15 @@ use mathlib.Core.Bool.{Bool, true, false, not, _&&_}
 use mathlib.Core.Option.{Option, none, some, Option·map}
 use mathlib.Core.List.{List, [], _∷_, dropLast}
 use lib.ListN.{length, take, drop, length-take, length-drop}
-use lib.Dec.{T, eqb, leb, leb→le}
+use lib.Dec.{T, eqb}
 use Rattle.volume.specs.Bytes.{Bytes, if_then_else_}
 use Rattle.volume.specs.Lists.{all, lastOr}
-use Rattle.volume.proofs.Tests.{and-both, conditions-cons}
+use Rattle.volume.proofs.Tests.{and-both}
 use Rattle.model.specs.Name.{legalText}
 use Rattle.model.specs.Entry.{Entry, vacant, aFile, aDirectory, entryAt}
 use Rattle.model.specs.Path.{Name, Path, noPath, below, before, texts, namesFrom, pathTo, pathOf, isNoPath, parents}
 use Rattle.model.specs.Walk.{Walked, arrived, missing, blocked, inWalked, entryNamed, enterOn, walkOn}
+use Rattle.model.proofs.Bounds.{text-fits}
 use Rattle.names.specs.Texts.{textLength}
 use Rattle.names.proofs.Paths.{text-more, text-last, legal-more, legal-last}
 use Rattle.walk.specs.Steps.{nameIn, last, entered, walkedParent}
@@ -73,10 +74,6 @@ enter-then n (some (aDirectory name date start size)) on = refl
 walk-step : (b : Bytes) (n : Name) (ns : List Name) (p : ℕ) → walkOn b (n ∷ ns) p ≡ inWalked (entered b n p) (walkOn b ns)
 unfolding walkOn
 walk-step b n ns p = enter-then n (Option·map (entryAt b) (entryNamed b p (n .bytes))) (walkOn b ns)
-
-text-fits : (v : Bytes) → T (legalText v) → length v ≤ 16
-unfolding legalText
-text-fits v h = leb→le (length v) 16 (conditions-cons (leb (length v) 16) _ (conditions-cons (leb 1 (length v)) _ h .1) .0)
 
 -- ---- where the walk of a path stands: in the directory on page p, before the name that begins at `from`
 

@@ -4,8 +4,6 @@ ghost use mathlib.Core.Bool.{true, not};
 ghost use Prim.Native.Nat.{_+_, _*_, _<_, _≤_};
 ghost use lib.ListN.{length};
 ghost use Rattle.model.specs.Layout.{pageSize, pageCount};
-ghost use Rattle.model.specs.Entry.{entryAt};
-ghost use Rattle.model.specs.Sound.{isNamed};
 ghost use Rattle.model.specs.Path.{pathOf, isNoPath};
 ghost use Rattle.model.specs.Walk.{entryNamed};
 ghost use Rattle.walk.specs.Steps.{spotOf, Inside, walkedOf, Small, entered, walkedParent, parentOf, Fits};
@@ -28,18 +26,6 @@ pub enum Reached {
     Blocked(usize),
 }
 
-// The entry at `at` has the name.
-fn is_named(image: &[u8], at: usize, name: &[u8]) -> bool
-    requires { ⌜ at + 32 ≤ length (now image) ⌝ }
-    ensures { λ r. ⌜ r ≡ isNamed (now (name .entry)) (entryAt (now (image .entry)) at) ⌝ }
-{
-    let entry = fields::entry_at(image, at);
-    if let Entry::Vacant = entry {
-        return false;
-    }
-    names::has_name(image, at, name)
-}
-
 // The entry of that name in a directory. A page past the image holds none: a start page may be any byte.
 pub fn entry_named(image: &[u8], directory: Page, name: &[u8]) -> Spot
     requires { ⌜ (directory .0 < 256) × (pageSize * pageCount (now image) ≡ length (now image)) ⌝ }
@@ -50,7 +36,7 @@ pub fn entry_named(image: &[u8], directory: Page, name: &[u8]) -> Spot
     }
     for i in 0..fields::entry_count(directory) {
         let at = fields::entry_position(directory, i);
-        if is_named(image, at, name) {
+        if names::is_named(image, at, name) {
             return Spot::At(at);
         }
     }

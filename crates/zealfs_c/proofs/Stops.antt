@@ -7,17 +7,18 @@ use mathlib.Core.Bool.{Bool, true, false, _&&_}
 use mathlib.Core.Option.{Option, none, some}
 use mathlib.Core.List.{List, [], _∷_, _++_, dropLast}
 use lib.ListN.{length}
-use lib.Dec.{T, eqb, leb, leb→le}
+use lib.Dec.{T, eqb}
 use Rattle.volume.specs.Bytes.{Bytes, same, if_then_else_}
 use Rattle.volume.specs.Lists.{all, lastOr}
-use Rattle.volume.proofs.Tests.{and-both, conditions-cons}
-use Rattle.model.specs.Name.{legalByte, legalText}
+use Rattle.volume.proofs.Tests.{and-both}
+use Rattle.model.specs.Name.{legalText}
 use Rattle.model.specs.Entry.{entries, Entry, vacant, aFile, aDirectory, entryAt}
 use Rattle.model.specs.Tree.{Row, end, free, file, dir, Node, fileNode, directoryNode, lookup}
 use Rattle.model.specs.Path.{Name, Path, noPath, root, below, texts, namesFrom, pathTo, pathOf, names}
 use Rattle.model.specs.Image.{entryRow, rowOf, rowAt}
 use Rattle.model.specs.Walk.{enter, walk, nodeNamed, inWalked, walkTo}
 use Rattle.model.specs.Refusal.{stoppedAt}
+use Rattle.model.proofs.Bounds.{text-fits}
 
 -- ---- the levels of a tree
 
@@ -88,18 +89,12 @@ unfolding Spaced
 spaced-left k [] ms s = tt
 spaced-left k (n ∷ ns) ms s = (s .0, spaced-left (k + 17) ns ms (s .1))
 
-text-short : (v : Bytes) → T (legalText v) → length v ≤ 16
-unfolding legalText
-text-short v h =
-    let rest = conditions-cons (leb 1 (length v)) (leb (length v) 16 ∷ all legalByte v ∷ []) h .1 in
-    leb→le (length v) 16 (conditions-cons (leb (length v) 16) (all legalByte v ∷ []) rest .0)
-
 names-spaced : (i : ℕ) (vs : List Bytes) → T (all legalText vs) → Spaced i (namesFrom i vs)
 unfolding Spaced namesFrom all
 names-spaced i [] h = tt
 names-spaced i (v ∷ vs) h =
     let two = and-both (legalText v) (all legalText vs) h in
-    (omega arith, spaced-later (i + length v + 1) (i + 17) (namesFrom (i + length v + 1) vs) (omega (arith, text-short v (two .0))) (names-spaced (i + length v + 1) vs (two .1)))
+    (omega arith, spaced-later (i + length v + 1) (i + 17) (namesFrom (i + length v + 1) vs) (omega (arith, text-fits v (two .0))) (names-spaced (i + length v + 1) vs (two .1)))
 
 last-joined : (n : Name) (ns : List Name) → dropLast (n ∷ ns) ++ (lastOr n ns ∷ []) ≡ n ∷ ns
 unfolding lastOr

@@ -35,7 +35,7 @@ write-chain-requires c κs =
     let larger = wanted .before .before in
     let count = larger .before .before in
     write-inside (count .before .before .before .pre) (count .page-count .ensures) (larger .larger .ensures) (wanted .before .pages-for .ensures)
-    (wanted .pages-for2 .ensures) (joint .joint-of .ensures) (grow .grow .ensures) (put .before .before .before .size-bytes .ensures) (put .put .ensures) (c .before .wide .ensures .0)
+    (wanted .pages-for2 .ensures) (joint .joint-of .ensures) (grow .grow .ensures) (put .before .before .before .size-bytes .ensures) (put .put .ensures) (c .before .start-of .ensures .0)
 
 returns : tie.Need-returns
 returns c =
@@ -48,7 +48,7 @@ returns c =
     let larger = wanted .before .before in
     let count = larger .before .before in
     write-effect (count .before .before .before .pre) (count .page-count .ensures) (larger .larger .ensures) (wanted .before .pages-for .ensures)
-    (wanted .pages-for2 .ensures) (joint .joint-of .ensures) (grow .grow .ensures) (put .before .before .before .size-bytes .ensures) (put .put .ensures) (first .wide .ensures .0)
+    (wanted .pages-for2 .ensures) (joint .joint-of .ensures) (grow .grow .ensures) (put .before .before .before .size-bytes .ensures) (put .put .ensures) (first .start-of .ensures .0)
     (spread .write-chain .ensures)
 
 pub write-entry-spec : {M : Type 1} → statement M
@@ -67,8 +67,6 @@ write-entry-spec =
     (λ c. search needs)
     (λ c. search needs)
     (λ c κs. search needs)
-    (λ c. search needs)
-    (λ c. search needs)
     (λ c κs. search needs)
     write-chain-requires
     (λ c. search needs)

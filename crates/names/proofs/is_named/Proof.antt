@@ -1,8 +1,9 @@
-use Rattle.walk.proofs.Entries.{vacant-unnamed, occupied-named}
+-- An occupied entry has its name, and a vacant one none.
+use Rattle.names.proofs.Occupied.{vacant-unnamed, occupied-named}
 use mathlib.Core.Path.{_∙_}
 use borrow.Author.Needs.{needs}
-use Rattle.walk.proofs.is_named.Statement.{statement}
-use Rattle.walk.proofs.is_named.Tie as tie
+use Rattle.names.proofs.is_named.Statement.{statement}
+use Rattle.names.proofs.is_named.Tie as tie
 
 returns : tie.Need-returns
 returns c = vacant-unnamed _ (c .before .before .before .before .before .args .name .now) (c .before .before .before .before .before .args .at) (c .before .before .entry-at .result) (c .before .before .entry-at .ensures .0) (c .enum-told .given .1)
