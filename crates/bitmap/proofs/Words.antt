@@ -2,7 +2,7 @@
 -- zeros and ones together are as many as the bits; and the zeros of a complement end at the lowest zero of the word.
 use mathlib.Core.Path.{_≡_, refl, sym, ap, _∙_, subst}
 use Prim.Native.Nat.{ℕ, zero, suc, _+_, _-_, _*_, _/_, _%_, _^_, _<_}
-use native.Mathlib.Nat.{pow-suc, mod-lt, mod-one, mul-comm, zero-lt-suc, add-zero, add-suc, add-comm}
+use native.Mathlib.Nat.{pow-suc, mod-lt, mod-one, mul-comm, zero-lt-suc, zero-div, add-zero, add-suc, add-comm}
 use native.Mathlib.Numerals.{add-one}
 use native.Mathlib.Omega.{arith}
 use native.Mathlib.Decide.{decLt}
@@ -12,7 +12,7 @@ use Rattle.volume.specs.Bytes.{Bytes, bit, byteAt}
 use Rattle.volume.specs.Geometry.{Geometry, pageBit, zeroBits}
 use Rattle.volume.proofs.Bits.{bit-zero, bit-suc}
 use Rattle.model.specs.Layout.{version1}
-use Rattle.bitmap.specs.Words.{Holds, Ends}
+use Rattle.bitmap.specs.Words.{Holds, Ends, Clear}
 
 -- ---- the bits of a number in two parts
 
@@ -60,6 +60,15 @@ holds-join {b} {from} {m} {x} {y} q h lower upper = record { each = λ j l. ap (
           ap (λ (k : ℕ). bit k (y * 2 ^ (8 * q) + x)) e ∙ bit-of-high (8 * q) (j - 8 * q) y x h ∙ upper .each (j - 8 * q) (omega (arith, c))
           ∙ ap (pageBit version1 b) p
     ]
+
+-- a word of k bytes that is 0
+pub holds-none : {b : Bytes} {from w : ℕ} (k : ℕ) → Holds b from (8 * k) w → w ≡ 0 → Clear b from k
+holds-none {b} {from} k held z = record {
+  each = λ p l h.
+      let e : 8 * from + (p - 8 * from) ≡ p = omega arith in
+      ap (pageBit version1 b) (sym e) ∙ sym (held .each (p - 8 * from) (omega arith)) ∙ ap (bit (p - 8 * from)) z
+      ∙ ap (λ (x : ℕ). x % 2) (zero-div (2 ^ (p - 8 * from)));
+}
 
 -- ---- the count
 

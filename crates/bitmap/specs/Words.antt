@@ -9,6 +9,10 @@ use Rattle.model.specs.Layout.{version1}
 pub record Holds (b : Bytes) (from m w : ℕ) : Type 0 where
   pub each : (j : ℕ) → j < m → bit j w ≡ pageBit version1 b (8 * from + j)
 
+-- the k bytes from byte `from` of the bitmap on mark no page
+pub record Clear (b : Bytes) (from k : ℕ) : Type 0 where
+  pub each : (p : ℕ) → 8 * from ≤ p → p < 8 * from + 8 * k → pageBit version1 b p ≡ 0
+
 -- r is the place of the lowest zero among the lowest m bits of w, or m if they are all ones
 pub record Ends (m w r : ℕ) : Type 0 where
   pub below : (j : ℕ) → j < r → bit j w ≡ 1

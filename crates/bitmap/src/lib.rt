@@ -7,7 +7,7 @@ ghost use lib.ListN.{length};
 ghost use Rattle.model.specs.Layout.{version1};
 ghost use Rattle.volume.specs.Geometry as On;
 ghost use Rattle.bitmap.specs.Lowest.{Lowest};
-ghost use Rattle.bitmap.specs.Words.{Holds, Ends};
+ghost use Rattle.bitmap.specs.Words.{Holds, Ends, Clear};
 use fields::Page;
 
 // The lowest free page, if there is one.
@@ -90,6 +90,21 @@ pub fn zero_bits(image: &[u8], n: usize) -> usize
         counted += 1;
     }
     zeros
+}
+
+// How many bytes from `byte` on are seen to mark no page: none, 1, or 8 where a whole word is 0. A word may reach past the bitmap: what
+// stands there can only make the answer less.
+pub fn clear_bytes(image: &[u8], byte: usize) -> usize
+    requires { ⌜ byte + 12 ≤ length (now image) ⌝ }
+    ensures { λ r. ⌜ Clear (now (image .entry)) byte r × (r ≤ 8) ⌝ }
+{
+    if image[4 + byte] != 0 {
+        return 0;
+    }
+    if bits64(image, byte) != 0 {
+        return 1;
+    }
+    8
 }
 
 pub fn lowest_free(image: &[u8], n: usize) -> Free

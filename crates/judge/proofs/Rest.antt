@@ -1,8 +1,8 @@
 -- After the walk: the search for a lost page goes by what is left of the pages to look at, and passes over pages that no bit marks.
 use mathlib.Core.Path.{_≡_, refl, sym, ap, _∙_}
 use mathlib.Core.Logic.{_≢_}
-use Prim.Native.Nat.{ℕ, zero, suc, _+_, _-_, _≤_, _<_, _*_, _/_, _%_, _^_, min, max}
-use native.Mathlib.Nat.{add-zero, zero-add, zero-div}
+use Prim.Native.Nat.{ℕ, zero, suc, _+_, _-_, _≤_, _<_, _*_, min, max}
+use native.Mathlib.Nat.{add-zero, zero-add}
 use native.Mathlib.Numerals.{add-one}
 use native.Mathlib.Omega.{arith}
 use native.Mathlib.Decide.{decLt}
@@ -12,11 +12,11 @@ use mathlib.Core.List.{List}
 use lib.ListN.{getD}
 use lib.Dec.{eqb}
 use borrow.Author.Tests.{eq-eqb, ne-eqb}
-use Rattle.volume.specs.Bytes.{Bytes, byteAt, if_then_else_}
+use Rattle.volume.specs.Bytes.{Bytes, if_then_else_}
 use Rattle.volume.specs.Lists.{first, countFrom}
-use Rattle.volume.specs.Geometry as On
 use Rattle.model.specs.Layout.{pageCount, freeCount, pageBit, zeroBits}
 use Rattle.model.specs.Judge.{Fault, badCount, Judged, fault, clean, lostOr, judgeRest}
+use Rattle.bitmap.specs.Words.{Clear}
 use Rattle.judge.specs.Walk.{isLost}
 use Rattle.judge.proofs.Marks.{never}
 
@@ -91,15 +91,11 @@ module _ (b : Bytes) (marks : List ℕ) where
       let next : (p + 1) + k ≡ p + suc k = omega arith in
       unmarked-here n p (h p (omega arith) (omega arith)) ∙ unmarked-run k n (p + 1) (λ j l m. h j (omega arith) (omega arith)) ∙ ap (lostFrom n) next
 
-  -- a byte of the bitmap that is 0 marks none of its pages
-  unmarked : (q j : ℕ) → byteAt b (4 + q) ≡ 0 → j / 8 ≡ q → pageBit b j ≡ 0
-  unfolding On.pageBit
-  unmarked q j z d = rw (d, z, zero-div (2 ^ (j % 8))) refl
-
-  pub unmarked-byte : (n q : ℕ) → byteAt b (4 + q) ≡ 0 → lostFrom n (max 1 (8 * q)) ≡ lostFrom n (max 1 (8 * (q + 1)))
-  unmarked-byte n q z =
-      let e : max 1 (8 * q) + (8 * q + 8 - max 1 (8 * q)) ≡ max 1 (8 * (q + 1)) = omega arith in
-      unmarked-run (8 * q + 8 - max 1 (8 * q)) n (max 1 (8 * q)) (λ j l h. unmarked q j z (omega arith)) ∙ ap (lostFrom n) e
+  -- k bytes of the bitmap from byte q on that mark no page
+  pub unmarked-bytes : (n : ℕ) {q k : ℕ} → Clear b q k → lostFrom n (max 1 (8 * q)) ≡ lostFrom n (max 1 (8 * (q + k)))
+  unmarked-bytes n {q} {k} h =
+      let e : max 1 (8 * q) + (max 1 (8 * (q + k)) - max 1 (8 * q)) ≡ max 1 (8 * (q + k)) = omega arith in
+      unmarked-run (max 1 (8 * (q + k)) - max 1 (8 * q)) n (max 1 (8 * q)) (λ j l m. h .each j (omega arith) (omega arith)) ∙ ap (lostFrom n) e
 
 -- ---- a lost page decides, whatever the rest; without one the rest decides
 

@@ -188,8 +188,8 @@ fn lost_among(image: &[u8], marks: &[u8], from: usize, to: usize) -> Check
     Check::Clean
 }
 
-// The lowest of all, a byte of the bitmap at a time: where no bit is set no page is lost. The header is no such page: `judge_rest` asks for its
-// bit.
+// The lowest of all, a byte of the bitmap at a time, or a word: where no bit is set no page is lost. The header is no such page: `judge_rest`
+// asks for its bit.
 fn lost_page(image: &[u8], marks: &[u8]) -> Check
     requires { ⌜ Marked (now image) (now marks) ⌝ }
     ensures { λ r. ⌜ outcome r (now (marks .entry))
@@ -199,7 +199,8 @@ fn lost_page(image: &[u8], marks: &[u8]) -> Check
     let n = marks.len();
     let mut byte = 0;
     while 8 * byte < n {
-        if image[4 + byte] != 0 {
+        let clear = bitmap::clear_bytes(image, byte);
+        if clear == 0 {
             let lost = lost_among(
                 image,
                 marks,
@@ -210,7 +211,7 @@ fn lost_page(image: &[u8], marks: &[u8]) -> Check
                 return Check::Faulty(fault);
             }
         }
-        byte += 1;
+        byte += fields::larger(1, clear);
     }
     Check::Clean
 }
