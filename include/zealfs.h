@@ -82,6 +82,13 @@ uint64_t zealfs_remove_directory(uint8_t *image, size_t image_len, const uint8_t
 uint64_t zealfs_lock(uint8_t *image, size_t image_len, const uint8_t *path, size_t path_len);
 uint64_t zealfs_unlock(uint8_t *image, size_t image_len, const uint8_t *path, size_t path_len);
 
+/*
+ * Wins back lost pages, as when a cartridge was pulled too early: of an image that is sound, or given 19 or 3, it marks exactly the header and
+ * the pages that files and directories have, and counts the free ones anew. The image is then sound and holds what it held; no byte changes but 3
+ * and the N/8 of the bitmap. Any other image is refused as the verdict refuses it: 1, 2, 16, 17, 18 or 20.
+ */
+uint64_t zealfs_repair(uint8_t *image, size_t image_len);
+
 /* The parts of a code: the number, 0 when the call was granted, and number i of the place, i being 0, 1 or 2. */
 static inline unsigned zealfs_number(uint64_t code) { return (unsigned)(code & 0xff); }
 static inline unsigned zealfs_place(uint64_t code, int i) { return (unsigned)(code >> (8 + 16 * i) & 0xffff); }

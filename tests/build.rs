@@ -12,7 +12,7 @@ use std::process::Command;
 /// The environment variable that overrides the library's directory.
 const DIRECTORY: &str = "ZEALFS_LIBRARY_DIR";
 
-const CALLS: [&str; 12] = [
+const CALLS: [&str; 13] = [
     "zealfs_format",
     "zealfs_verdict",
     "zealfs_find",
@@ -25,6 +25,7 @@ const CALLS: [&str; 12] = [
     "zealfs_remove_directory",
     "zealfs_lock",
     "zealfs_unlock",
+    "zealfs_repair",
 ];
 
 fn main() {

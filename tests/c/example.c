@@ -58,6 +58,25 @@ static void judge(const struct damage *damage)
     expect("  out is zeros", out[0] + out[1], 0);
 }
 
+/* Repair clears the bit of a lost page, sets the header's and counts anew; what the walk finds fault with it refuses, and changes nothing. */
+static void repair(void)
+{
+    uint8_t sound[sizeof image], damaged[sizeof image];
+
+    memcpy(sound, image, sizeof image);
+    expect("repair a sound image", zealfs_repair(IMAGE), 0);
+    expect("  it stays", memcmp(image, sound, sizeof image) == 0, 1);
+    image[3] = 9;
+    image[4] = 0x8E;
+    expect("repair page 7, bit 0, the count", zealfs_repair(IMAGE), 0);
+    expect("  as it was", memcmp(image, sound, sizeof image) == 0, 1);
+    image[4] = 0x87;
+    memcpy(damaged, image, sizeof image);
+    expect("repair page 3 marked free", zealfs_repair(IMAGE), 20 + 256 * 3);
+    expect("  it stays", memcmp(image, damaged, sizeof image) == 0, 1);
+    memcpy(image, sound, sizeof image);
+}
+
 int main(void)
 {
     const uint8_t made[8] = {0x20, 0x26, 0x11, 0x15, 0x07, 0x21, 0x05, 0x00};
@@ -112,6 +131,7 @@ int main(void)
     expect("  free", out[1], 4);
     for (size_t i = 0; i < sizeof damages / sizeof damages[0]; i++)
         judge(&damages[i]);
+    repair();
     expect("remove file /A, refused", zealfs_remove_file(IMAGE, PATH("/A")), 7);
     expect("remove directory /A, refused", zealfs_remove_directory(IMAGE, PATH("/A")), 13);
     expect("remove directory 0042, refused", zealfs_remove_directory(IMAGE, PATH("/A/0042")), 6 + 256 * 3);

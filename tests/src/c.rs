@@ -51,6 +51,7 @@ declare! {
     zealfs_remove_directory(image: *mut u8, image_len: usize, path: *const u8, path_len: usize;);
     zealfs_lock(image: *mut u8, image_len: usize, path: *const u8, path_len: usize;);
     zealfs_unlock(image: *mut u8, image_len: usize, path: *const u8, path_len: usize;);
+    zealfs_repair(image: *mut u8, image_len: usize;);
 }
 
 /// The C library.
@@ -183,5 +184,9 @@ impl Calls for Library {
     fn unlock(&self, image: &mut [u8], path: &[u8]) -> Answer {
         answer(call!(zealfs_unlock(
             image.as_mut_ptr(), image.len(), path.as_ptr(), path.len();)))
+    }
+
+    fn repair(&self, image: &mut [u8]) -> Answer {
+        answer(call!(zealfs_repair(image.as_mut_ptr(), image.len();)))
     }
 }

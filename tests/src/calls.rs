@@ -194,6 +194,7 @@ pub trait Calls {
     fn remove_directory(&self, image: &mut [u8], path: &[u8]) -> Answer;
     fn lock(&self, image: &mut [u8], path: &[u8]) -> Answer;
     fn unlock(&self, image: &mut [u8], path: &[u8]) -> Answer;
+    fn repair(&self, image: &mut [u8]) -> Answer;
 }
 
 /// One call with its arguments. The bytes of a read are what the reader's
@@ -212,13 +213,17 @@ pub enum Call {
     RemoveDirectory(Vec<u8>),
     Lock(Vec<u8>),
     Unlock(Vec<u8>),
+    /// No call of the lists: they start afresh from its result.
+    Repair,
 }
 
-/// How many calls there are.
+/// How many calls there are that lists are made of; they come first.
 pub const CALL_COUNT: usize = 12;
+/// How many there are with those that stand outside the lists.
+pub const EVERY_CALL: usize = CALL_COUNT + 1;
 
 /// The names of the calls, in the order of [`Call::index`].
-pub const CALL_NAMES: [&str; CALL_COUNT] = [
+pub const CALL_NAMES: [&str; EVERY_CALL] = [
     "format",
     "verdict",
     "find",
@@ -231,6 +236,7 @@ pub const CALL_NAMES: [&str; CALL_COUNT] = [
     "remove_directory",
     "lock",
     "unlock",
+    "repair",
 ];
 
 impl Call {
@@ -249,6 +255,7 @@ impl Call {
             Call::RemoveDirectory(..) => 9,
             Call::Lock(..) => 10,
             Call::Unlock(..) => 11,
+            Call::Repair => 12,
         }
     }
 
@@ -271,6 +278,7 @@ impl Call {
             Call::RemoveDirectory(path) => calls.remove_directory(image, path),
             Call::Lock(path) => calls.lock(image, path),
             Call::Unlock(path) => calls.unlock(image, path),
+            Call::Repair => calls.repair(image),
         }
     }
 }

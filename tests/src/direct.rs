@@ -40,17 +40,39 @@ fn pages_of(length: usize) -> Result<usize, Refusal> {
     Ok(length / PAGE)
 }
 
-fn judge(image: &[u8]) -> Result<Sound, Refusal> {
+/// N, if length and header are right.
+fn judge_header(image: &[u8]) -> Result<usize, Refusal> {
     let pages = pages_of(image.len())?;
     if image[0] != 0x5A || image[1] != 1 || usize::from(image[2]) != pages / 8 {
         return refuse(2);
     }
+    Ok(pages)
+}
+
+fn judge(image: &[u8]) -> Result<Sound, Refusal> {
+    let pages = judge_header(image)?;
     let free = judge_pages(image, pages)?;
     Ok(Sound { pages, free })
 }
 
 /// Judges the tree and then the bitmap; answers the number of free pages.
 fn judge_pages(image: &[u8], pages: usize) -> Result<usize, Fault> {
+    let bitmap = &image[BITMAP_AT..BITMAP_AT + pages / 8];
+    let lost = lost_pages(image, pages)?;
+    if let Some(byte) = lost.iter().position(|&byte| byte != 0) {
+        let bit = lost[byte].trailing_zeros() as usize;
+        return Err(Fault::Lost((byte * 8 + bit) as u8));
+    }
+    let free: u32 = bitmap.iter().map(|byte| byte.count_zeros()).sum();
+    if bitmap[0] & 1 == 0 || free != u32::from(image[3]) {
+        return Err(Fault::Header);
+    }
+    Ok(free as usize)
+}
+
+/// Judges the tree; answers the bits of the pages that are marked and that
+/// nobody owns.
+fn lost_pages(image: &[u8], pages: usize) -> Result<[u8; 32], Fault> {
     let bitmap = &image[BITMAP_AT..BITMAP_AT + pages / 8];
     let mut unclaimed = [0; 32];
     unclaimed[..bitmap.len()].copy_from_slice(bitmap);
@@ -62,15 +84,7 @@ fn judge_pages(image: &[u8], pages: usize) -> Result<usize, Fault> {
         unclaimed,
     };
     judge.directory(0)?;
-    if let Some(byte) = judge.unclaimed.iter().position(|&byte| byte != 0) {
-        let bit = judge.unclaimed[byte].trailing_zeros() as usize;
-        return Err(Fault::Lost((byte * 8 + bit) as u8));
-    }
-    let free: u32 = bitmap.iter().map(|byte| byte.count_zeros()).sum();
-    if bitmap[0] & 1 == 0 || free != u32::from(image[3]) {
-        return Err(Fault::Header);
-    }
-    Ok(free as usize)
+    Ok(judge.unclaimed)
 }
 
 /// The first fault of the tree or the bitmap, in few bytes: every step of the
@@ -597,6 +611,21 @@ fn set_lock(image: &mut [u8], path: &[u8], locked: bool) -> Result<Answer, Refus
     Ok(Answer::granted())
 }
 
+/// After a clean walk the owned pages are marked already, so that bits of lost
+/// pages are cleared and no other but the header's is set.
+fn repair(image: &mut [u8]) -> Result<Answer, Refusal> {
+    let pages = judge_header(image)?;
+    let lost = lost_pages(image, pages)?;
+    let bitmap = &mut image[BITMAP_AT..BITMAP_AT + pages / 8];
+    for (byte, lost) in bitmap.iter_mut().zip(lost) {
+        *byte &= !lost;
+    }
+    bitmap[0] |= 1;
+    let free: u32 = bitmap.iter().map(|byte| byte.count_zeros()).sum();
+    image[3] = free as u8;
+    Ok(Answer::granted())
+}
+
 impl Calls for Direct {
     fn format(&self, image: &mut [u8]) -> Answer {
         let granted = pages_of(image.len()).map(|pages| {
@@ -652,5 +681,9 @@ impl Calls for Direct {
 
     fn unlock(&self, image: &mut [u8], path: &[u8]) -> Answer {
         set_lock(image, path, false).into()
+    }
+
+    fn repair(&self, image: &mut [u8]) -> Answer {
+        repair(image).into()
     }
 }

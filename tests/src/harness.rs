@@ -128,7 +128,8 @@ pub fn compare(
 }
 
 /// Steps the tree, which has to answer as the expected implementation did. A
-/// granted format gives a tree where there was none.
+/// granted format gives a tree where there was none, and after a granted repair
+/// the replay starts afresh from the image.
 fn advance_replay(
     replay: &mut Option<Replay>,
     call: &Call,
@@ -145,6 +146,12 @@ fn advance_replay(
         }
         None if *call == Call::Format && expected.is_granted() => {
             *replay = Some(Replay::formatted(image.len()));
+        }
+        None if *call == Call::Repair && expected.is_granted() => {
+            *replay = Replay::of(image);
+            if replay.is_none() {
+                *what += "a repaired image is not sound\n";
+            }
         }
         None => {}
     }

@@ -122,7 +122,7 @@ impl Shrinker<'_> {
 /// Calls that are a little simpler than this one.
 fn simpler(call: &Call) -> Vec<Call> {
     match call {
-        Call::Format | Call::Verdict => Vec::new(),
+        Call::Format | Call::Verdict | Call::Repair => Vec::new(),
         Call::Find(path) => shorter(path).map(Call::Find).collect(),
         Call::RemoveFile(path) => shorter(path).map(Call::RemoveFile).collect(),
         Call::RemoveDirectory(path) => shorter(path).map(Call::RemoveDirectory).collect(),
@@ -237,7 +237,7 @@ fn image_text(image: &[u8]) -> String {
 fn call_text(call: &Call) -> String {
     let name = call.name();
     match call {
-        Call::Format | Call::Verdict => name.to_string(),
+        Call::Format | Call::Verdict | Call::Repair => name.to_string(),
         Call::Find(path)
         | Call::RemoveFile(path)
         | Call::RemoveDirectory(path)

@@ -3,6 +3,7 @@
 
 use crate::calls::{Answer, Call, Calls, Refusal};
 use crate::misjudge::misjudged;
+use crate::plain::reader::is_allocated;
 use crate::plain::writer::entry_at;
 use crate::plain::{Plain, BITMAP_AT, CONTENT, PAGE};
 
@@ -65,6 +66,12 @@ pub enum Fault {
     LockClearsFlags,
     /// To lock a second time unlocks.
     LockTurns,
+    /// A repair leaves the bit of the highest lost page.
+    RepairLeavesBit,
+    /// A repair keeps byte 3.
+    RepairKeepsCount,
+    /// A repair also marks owned pages that are marked as free.
+    RepairMarksOwned,
     // From here on the fault that is told of an image is not its first one, or
     // its place is another.
     /// The page that fails is counted among those that passed.
@@ -84,7 +91,7 @@ pub enum Fault {
 }
 
 /// All faults.
-pub const FAULTS: [Fault; 35] = [
+pub const FAULTS: [Fault; 38] = [
     Fault::LeadingZeros,
     Fault::TrustedFreeCount,
     Fault::WholeBitmap,
@@ -113,6 +120,9 @@ pub const FAULTS: [Fault; 35] = [
     Fault::DirectoryLocks,
     Fault::LockClearsFlags,
     Fault::LockTurns,
+    Fault::RepairLeavesBit,
+    Fault::RepairKeepsCount,
+    Fault::RepairMarksOwned,
     Fault::FailedPageCounted,
     Fault::EarlierOfEqualNames,
     Fault::HighestLostPage,
@@ -157,6 +167,7 @@ impl Wrong {
             Call::RemoveFile(_) | Call::RemoveDirectory(_) if answer.is_granted() => {
                 self.spoil_removal(image, &before);
             }
+            Call::Repair => self.spoil_repair(image, &before, &mut answer),
             _ => {}
         }
         self.spoil_answer(&mut answer, &call);
@@ -293,6 +304,33 @@ impl Wrong {
         }
     }
 
+    fn spoil_repair(&self, image: &mut [u8], before: &[u8], answer: &mut Answer) {
+        match self.0 {
+            Fault::RepairLeavesBit if answer.is_granted() => {
+                let pages = 1..image.len() / PAGE;
+                let was_cleared =
+                    |&page: &usize| is_allocated(before, page) && !is_allocated(image, page);
+                if let Some(page) = pages.rev().find(was_cleared) {
+                    image[BITMAP_AT + page / 8] |= 1 << (page % 8);
+                    image[3] -= 1;
+                }
+            }
+            Fault::RepairKeepsCount if answer.is_granted() => image[3] = before[3],
+            Fault::RepairMarksOwned if answer.number == 20 => {
+                let mut marked = before.to_vec();
+                while answer.number == 20 {
+                    let page = answer.place[0] as usize;
+                    marked[BITMAP_AT + page / 8] |= 1 << (page % 8);
+                    *answer = Plain.repair(&mut marked);
+                }
+                if answer.is_granted() {
+                    image.copy_from_slice(&marked);
+                }
+            }
+            _ => {}
+        }
+    }
+
     fn spoil_answer(&self, answer: &mut Answer, call: &Call) {
         match self.0 {
             Fault::PlaceOfSlash if matches!(answer.number, 5 | 6) => answer.place[0] -= 1,
@@ -414,5 +452,9 @@ impl Calls for Wrong {
 
     fn unlock(&self, image: &mut [u8], path: &[u8]) -> Answer {
         self.perform(image, Call::Unlock(path.to_vec())).0
+    }
+
+    fn repair(&self, image: &mut [u8]) -> Answer {
+        self.perform(image, Call::Repair).0
     }
 }

@@ -21,6 +21,7 @@ fn damaged_scenario(seed: u64) -> Scenario {
     let mut generator = Generator::new(replay, &mut random);
     let mut calls = vec![Call::Verdict];
     calls.extend((0..4).map(|_| generator.next_call()));
+    calls.push(Call::Repair);
     Scenario { image, calls }
 }
 

@@ -56,10 +56,14 @@ unowned-all n = zeros-all n
 
 -- j is what the judge of the root came to, from marks of no owner
 pub judge-root : (b : Bytes) (m : List ℕ) (j : Judged) → 1 ≤ pageCount b → m ≡ replicate (pageCount b) 0
-    → ((f : ℕ) → unowned m ≤ f → j ≡ judgeDirectory (suc f) b 0 m) → thenJudge j (judgeRest b) ≡ judge b
-unfolding judge
-judge-root b m j low start post = ap (λ (s : Judged). thenJudge s (judgeRest b)) (go (pageCount b) low start)
+    → ((f : ℕ) → unowned m ≤ f → j ≡ judgeDirectory (suc f) b 0 m) → j ≡ judgeDirectory (pageCount b) b 0 (replicate (pageCount b) 0)
+judge-root b m j low start post = go (pageCount b) low start
   where
     go : (n : ℕ) → 1 ≤ n → m ≡ replicate n 0 → j ≡ judgeDirectory n b 0 (replicate n 0)
     go zero l e = absurd (omega arith)
     go (suc n) l e = let u = ap unowned e ∙ unowned-all n in post n (omega arith) ∙ ap (judgeDirectory (suc n) b 0) e
+
+-- a walk that ended clean is followed by the rest, and one that did not is all
+pub judge-rest-of : (b : Bytes) (j : Judged) → j ≡ judgeDirectory (pageCount b) b 0 (replicate (pageCount b) 0) → thenJudge j (judgeRest b) ≡ judge b
+unfolding judge
+judge-rest-of b j e = ap (λ (s : Judged). thenJudge s (judgeRest b)) e

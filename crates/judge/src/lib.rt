@@ -9,7 +9,7 @@ ghost use lib.ListN.{length, replicate};
 ghost use Rattle.volume.specs.Lists.{first, countFrom};
 ghost use Rattle.model.specs.Layout.{pageCount};
 ghost use Rattle.model.specs.Entry.{entryCount, nameAt, entryAt};
-ghost use Rattle.model.specs.Judge.{clean, judgePage, judgeChain, freshName, judgeEntry, judgeDirectory, lostOr, judgeRest, judge};
+ghost use Rattle.model.specs.Judge.{clean, judgePage, judgeChain, freshName, judgeEntry, judgeDirectory, lostOr, judgeRest, judgeWalk, judge};
 ghost use Rattle.judge.specs.Answers.{faultOf, outcome, findingOf, judgedAs};
 ghost use Rattle.judge.specs.Walk.{Marked, unowned, isLost, position, earlier};
 
@@ -237,12 +237,20 @@ fn judge_rest(image: &[u8], marks: &[u8]) -> Check
     Check::Clean
 }
 
-// The walk, and what comes after it. No page has an owner at its beginning.
+// The walk alone: every owned page gets its owner mark. No page has one at its beginning. A repair marks these pages in the bitmap (02 §7).
+pub fn own_pages(image: &[u8], marks: &mut [u8]) -> Check
+    requires { ⌜ Marked (now image) (now marks) × (now marks ≡ replicate (pageCount (now image)) 0) ⌝ }
+    ensures { λ r. ⌜ outcome r (now (marks .exit)) ≡ judgeWalk (now (image .entry)) ⌝ }
+{
+    judge_directory(image, marks, Page(0))
+}
+
+// The walk, and what comes after it.
 fn judge_all(image: &[u8], marks: &mut [u8]) -> Check
     requires { ⌜ Marked (now image) (now marks) × (now marks ≡ replicate (pageCount (now image)) 0) ⌝ }
     ensures { λ r. ⌜ outcome r (now (marks .exit)) ≡ judge (now (image .entry)) ⌝ }
 {
-    let judged = judge_directory(image, marks, Page(0));
+    let judged = own_pages(image, marks);
     if let Check::Faulty(fault) = judged {
         return Check::Faulty(fault);
     }

@@ -271,6 +271,48 @@ module _ (b : Bytes) where
   told-marks : {s : List ℕ} → Tells Right (ownedPages b) unmarked (clean s) → (q : ℕ) → q < pageCount b → getD s q 0 ≡ occ q (ownedPages b)
   told-marks (proved s g o c) q l = omega (arith, c .each q l, getD-replicate {A = ℕ} (pageCount b) q 0 0 l)
 
+-- ---- the walk alone
+
+-- what a clean walk says, and what makes it clean: all that it passes is good, and each owned page lies in the image, is marked and owned once
+pub record Walkable (b : Bytes) : Type 0 where
+  pub formed : T (goodDirectory (pageCount b) b 0)
+  pub inside : (q : ℕ) → Mem q (ownedPages b) → (1 ≤ q) × (q < pageCount b)
+  pub marked : (q : ℕ) → Mem q (ownedPages b) → pageBit b q ≡ 1
+  pub once : (q : ℕ) → occ q (ownedPages b) ≤ 1
+
+module _ (b : Bytes) where
+  abbrev walk : Judged
+  walk = judgeDirectory (pageCount b) b 0 (replicate (pageCount b) 0)
+
+  walk-told : Tells b (T (goodDirectory (pageCount b) b 0)) (ownedPages b) (replicate (pageCount b) 0) walk
+  walk-told = directory-told b (pageCount b) 0 (replicate (pageCount b) 0) (length-replicate {A = ℕ} (pageCount b) 0)
+
+  told-walkable : {s : List ℕ} → Tells b (T (goodDirectory (pageCount b) b 0)) (ownedPages b) (replicate (pageCount b) 0) (clean s)
+      → Walkable b × ((q : ℕ) → q < pageCount b → getD s q 0 ≡ occ q (ownedPages b))
+  told-walkable (proved s g o c) = (
+    record {
+      formed = g;
+      inside = λ q m. (o q m .0, o q m .1);
+      marked = λ q m. o q m .2;
+      once = λ q. elim (mem-or-not q (ownedPages b)) [ inl m ↦ omega (arith, o q m .3) | inr z ↦ omega arith ];
+    },
+    λ q l. omega (arith, c .each q l, getD-replicate {A = ℕ} (pageCount b) q 0 0 l),
+  )
+
+  told-clean : {j : Judged} → Tells b (T (goodDirectory (pageCount b) b 0)) (ownedPages b) (replicate (pageCount b) 0) j → Walkable b → T (isClean j)
+  unfolding isClean
+  told-clean (refuted n) w = n (w .formed) (λ q m.
+      let i = w .inside q m in
+      omega (arith, i .0, i .1, w .marked q m, w .once q, getD-replicate {A = ℕ} (pageCount b) q 0 0 (i .1)))
+  told-clean (proved s g o c) w = tt
+
+  -- a walk that ends clean has given its owner mark to each owned page, and to no other
+  pub walk-clean : (marks : List ℕ) → walk ≡ clean marks → Walkable b × ((q : ℕ) → q < pageCount b → getD marks q 0 ≡ occ q (ownedPages b))
+  walk-clean marks e = told-walkable (subst (Tells b (T (goodDirectory (pageCount b) b 0)) (ownedPages b) (replicate (pageCount b) 0)) e walk-told)
+
+  pub walkable-clean : Walkable b → T (isClean walk)
+  walkable-clean w = told-clean walk-told w
+
 pub judge-sound : (b : Bytes) → T (validLength (length b)) → T (validHeader b) → isClean (judge b) ≡ sound b
 judge-sound b = told-sound b (judge-told b)
 

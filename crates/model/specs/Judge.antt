@@ -87,8 +87,12 @@ judgeRest b marks =
     lostOr (if counted then clean marks else fault badCount)
     (first (λ p. eqb (getD marks p 0) 0 && eqb (pageBit b p) 1) (countFrom 1 (pageCount b - 1)))
 
+-- the walk alone: every owned page gets its owner mark, none having one at the beginning
+abbrev pub judgeWalk : Bytes → Judged
+judgeWalk b = judgeDirectory (pageCount b) b 0 (replicate (pageCount b) 0)
+
 unfoldable pub judge : Bytes → Judged
-judge b = thenJudge (judgeDirectory (pageCount b) b 0 (replicate (pageCount b) 0)) (judgeRest b)
+judge b = thenJudge (judgeWalk b) (judgeRest b)
 
 unfoldable pub isClean : Judged → Bool
 isClean (fault f) = false

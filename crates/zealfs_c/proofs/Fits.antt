@@ -19,6 +19,8 @@ use Rattle.model.specs.Refusal.{Line, stoppedAt, walked, walkedParent, walkedDi
 use Rattle.model.specs.Meaning.{told, firstFault, soundLine, isFormat, lines, answer}
 use Rattle.judge.proofs.Image.{allowed}
 use Rattle.judge.proofs.Placed.{InPlace, fault-placed}
+use Rattle.repair.specs.Repair.{repairAnswer}
+use Rattle.repair.proofs.Repairs.{repair-demand}
 use Rattle.zealfs_c.specs.Codes.{packed, codeOf, Apart, Fits, placeOf}
 use Rattle.zealfs_c.proofs.Stops.{height, height-at, Spaced, spaced-left, path-spaced, walk-stops, walk-to-stops}
 
@@ -170,3 +172,11 @@ place-fits c b = go (answer c b) (refused-in c b)
     go : (a : Answer (Told c)) → ((m : Refusal) → a ≡ refused m → InCode m) → Fits (placeOf a)
     go (refused m) i = i m refl .place
     go (granted x) i = record { first = omega arith; second = omega arith; third = omega arith }
+
+-- what repair is refused with is the verdict's refusal
+pub repair-fits : (b : Bytes) → Fits (placeOf (repairAnswer b))
+repair-fits b = go (repairAnswer b) refl
+  where
+    go : (a : Answer (Unit {0})) → repairAnswer b ≡ a → Fits (placeOf a)
+    go (refused m) e = refused-fits verdict b (sym (repair-demand .refuses b m e .told))
+    go (granted x) e = record { first = omega arith; second = omega arith; third = omega arith }

@@ -16,6 +16,7 @@ ghost use Rattle.model.specs.Meaning.{faultTold, answer, after, bufferAfter};
 ghost use Rattle.judge.specs.Answers.{faultOf};
 ghost use Rattle.refusals.specs.Told.{told};
 ghost use Rattle.zealfs.specs.Answers.{changeAnswer, findDate, listName, listDate};
+ghost use Rattle.repair.specs.Repair.{repairAnswer, repairAfter};
 ghost use Rattle.zealfs_c.specs.Codes.{packed, refusalCode, codeOf, Fits, placeOf, lockNumber, verdictOut, findOut, listOut, readOut};
 
 // The three numbers of a place as one.
@@ -261,4 +262,15 @@ pub extern "C" fn zealfs_unlock(image: &mut [u8], path: &[u8]) -> u64
     ensures { λ _. ⌜ now (image .exit) ≡ after (setLock false (now (path .entry))) (now (image .entry)) ⌝ }
 {
     change_code(zealfs::unlock(image, path))
+}
+
+// ---- a call outside the lists of demand 3
+
+// Wins back lost pages (02 §7).
+#[no_mangle]
+pub extern "C" fn zealfs_repair(image: &mut [u8]) -> u64
+    ensures { λ r. ⌜ r ≡ codeOf (repairAnswer (now (image .entry))) ⌝ }
+    ensures { λ _. ⌜ now (image .exit) ≡ repairAfter (now (image .entry)) ⌝ }
+{
+    change_code(repair::repair(image))
 }

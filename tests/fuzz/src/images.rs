@@ -9,8 +9,10 @@
 //! ```
 //!
 //! The calls are not part of the input. On a sound image they look at what
-//! there is and then change it; on any other all have to be refused, and
-//! the last, a format, is granted where the length is allowed.
+//! there is and then change it; on any other all have to be refused. Then it is
+//! repaired: where that is granted the calls go on as on the sound image that it
+//! is then, and where not a format follows, which is granted where the length is
+//! allowed.
 
 use crate::input::Input;
 use crate::pool;
@@ -18,7 +20,7 @@ use zealfs_tests::calls::Call;
 use zealfs_tests::damage::{mend_bitmap, Survey};
 use zealfs_tests::desk::{pattern, DATE};
 use zealfs_tests::harness::Scenario;
-use zealfs_tests::plain::reader::judge;
+use zealfs_tests::plain::reader::{judge, tree_and_owned};
 use zealfs_tests::plain::tree::{Node, Tree};
 use zealfs_tests::plain::{
     pages_of_image, BITMAP_AT, CONTENT, DIRECTORY_ENTRIES, ENTRY, PAGE, ROOT_ENTRIES_AT,
@@ -46,7 +48,7 @@ pub fn decode(bytes: &[u8]) -> Scenario {
     }
     let calls = match judge(&image) {
         Ok(tree) => calls_on_sound(&tree, usize::from(second >> 1)),
-        Err(_) => calls_on_unsound(),
+        Err(_) => calls_on_unsound(&image, usize::from(second >> 1)),
     };
     Scenario { image, calls }
 }
@@ -125,9 +127,9 @@ fn entry(image: &[u8], number: u8) -> usize {
     places[usize::from(number) % places.len()]
 }
 
-fn calls_on_unsound() -> Vec<Call> {
+fn calls_on_unsound(image: &[u8], turn: usize) -> Vec<Call> {
     let path = || b"/A".to_vec();
-    vec![
+    let mut calls = vec![
         Call::Verdict,
         Call::Find(b"/".to_vec()),
         Call::List(b"/".to_vec(), 0),
@@ -141,10 +143,21 @@ fn calls_on_unsound() -> Vec<Call> {
         Call::Unlock(path()),
         // What a call takes for no path it takes so only on a sound image.
         Call::Find(b"A".to_vec()),
-        Call::Format,
-        Call::MakeDirectory(path(), DATE.to_vec()),
+        Call::Repair,
         Call::Verdict,
-    ]
+    ];
+    match tree_and_owned(image) {
+        Ok((tree, _)) => {
+            calls.push(Call::Repair);
+            calls.extend(calls_on_sound(&tree, turn));
+        }
+        Err(_) => calls.extend([
+            Call::Format,
+            Call::MakeDirectory(path(), DATE.to_vec()),
+            Call::Verdict,
+        ]),
+    }
+    calls
 }
 
 /// Looks at the root and some entries from number `turn` on, then changes them.
@@ -155,7 +168,7 @@ fn calls_on_sound(tree: &Tree, turn: usize) -> Vec<Call> {
         (path.as_slice(), &entry.node)
     });
     let chosen: Vec<(&[u8], &Node)> = chosen.collect();
-    let mut calls = vec![Call::Verdict, Call::Find(b"/".to_vec())];
+    let mut calls = vec![Call::Verdict, Call::Repair, Call::Find(b"/".to_vec())];
     look_into(&mut calls, b"/");
     for (path, node) in &chosen {
         look_at(&mut calls, path, node);

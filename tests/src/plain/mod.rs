@@ -125,6 +125,14 @@ impl Calls for Plain {
     fn unlock(&self, image: &mut [u8], path: &[u8]) -> Answer {
         Plain::set_lock(image, path, false).into()
     }
+
+    fn repair(&self, image: &mut [u8]) -> Answer {
+        let granted = reader::tree_and_owned(image).map(|(_, owned)| {
+            writer::repair(image, &owned);
+            Answer::granted()
+        });
+        granted.into()
+    }
 }
 
 /// The replay of a list of calls on the tree alone: it sees the tree of the
@@ -173,6 +181,8 @@ impl Replay {
             Call::RemoveDirectory(path) => tree.remove(path, Kind::Directory),
             Call::Lock(path) => tree.set_lock(path, true),
             Call::Unlock(path) => tree.set_lock(path, false),
+            // On a sound image there is nothing to mend.
+            Call::Repair => Ok(Answer::granted()),
         };
         result.into()
     }

@@ -9,6 +9,20 @@ use crate::calls::{Refusal, NAME_BYTES};
 
 /// The tree that a sound image means; else refusal 1, 2, 3 or 16 to 20.
 pub fn judge(image: &[u8]) -> Result<Tree, Refusal> {
+    let (tree, reader) = walk(image)?;
+    reader.judge_lost_pages()?;
+    reader.judge_header()?;
+    Ok(tree)
+}
+
+/// The tree of an image whose walk is clean, and which pages entries own,
+/// whatever other pages, bit 0 and byte 3 are; else refusal 1, 2, 16, 17, 18
+/// or 20.
+pub fn tree_and_owned(image: &[u8]) -> Result<(Tree, Vec<bool>), Refusal> {
+    walk(image).map(|(tree, reader)| (tree, reader.owned))
+}
+
+fn walk(image: &[u8]) -> Result<(Tree, Reader<'_>), Refusal> {
     let pages = pages_of_image(image.len())?;
     let in_use = (pages / 8) as u8;
     if image[..3] != [0x5A, 1, in_use] {
@@ -19,9 +33,7 @@ pub fn judge(image: &[u8]) -> Result<Tree, Refusal> {
         owned: vec![false; pages],
     };
     let root = reader.directory(0)?;
-    reader.judge_lost_pages()?;
-    reader.judge_header()?;
-    Ok(Tree { pages, root })
+    Ok((Tree { pages, root }, reader))
 }
 
 /// Whether the page is allocated by the bitmap.

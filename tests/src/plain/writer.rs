@@ -90,6 +90,23 @@ pub fn set_lock(image: &mut [u8], path: &[u8], locked: bool) {
     image[at] = others | if locked { 0x40 } else { 0 };
 }
 
+/// Sets the bit of each page to whether it is the header or owned, and counts
+/// the zero bits.
+pub fn repair(image: &mut [u8], owned: &[bool]) {
+    let mut free = 0;
+    for (page, &is_owned) in owned.iter().enumerate() {
+        let bit = 1 << (page % 8);
+        let byte = &mut image[BITMAP_AT + page / 8];
+        if page == 0 || is_owned {
+            *byte |= bit;
+        } else {
+            *byte &= !bit;
+            free += 1;
+        }
+    }
+    image[3] = free;
+}
+
 /// Takes the lowest free page and zeroes it.
 fn allocate(image: &mut [u8]) -> usize {
     let mut pages = 0..image.len() / PAGE;

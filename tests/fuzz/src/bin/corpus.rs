@@ -7,7 +7,7 @@ use std::path::Path;
 use std::{env, fs, io};
 use zealfs_fuzz::{images, lists, seeds};
 use zealfs_tests::c::Library;
-use zealfs_tests::calls::{CALL_COUNT, CALL_NAMES, NUMBERS};
+use zealfs_tests::calls::{CALL_NAMES, EVERY_CALL, NUMBERS};
 use zealfs_tests::harness::Scenario;
 
 /// One of the two targets, with what is known of it.
@@ -49,7 +49,7 @@ fn write_seeds(target: &Target, directory: &Path) -> io::Result<()> {
 }
 
 fn tally(target: &Target, directory: &Path) -> io::Result<()> {
-    let mut tally = [[0_u64; NUMBERS]; CALL_COUNT];
+    let mut tally = [[0_u64; NUMBERS]; EVERY_CALL];
     for file in fs::read_dir(directory)? {
         let mut scenario = (target.decode)(&fs::read(file?.path())?);
         for call in &mut scenario.calls {

@@ -236,3 +236,11 @@ pub unsafe extern "C" fn zealfs_unlock(
 ) -> u64 {
     code(&calls().unlock(lent_mut(image, image_len), lent(path, path_len)))
 }
+
+/// # Safety
+///
+/// As include/zealfs.h says.
+#[no_mangle]
+pub unsafe extern "C" fn zealfs_repair(image: *mut u8, image_len: usize) -> u64 {
+    code(&calls().repair(lent_mut(image, image_len)))
+}

@@ -187,4 +187,8 @@ impl Calls for Rarely {
     fn unlock(&self, image: &mut [u8], path: &[u8]) -> Answer {
         Plain.unlock(image, path)
     }
+
+    fn repair(&self, image: &mut [u8]) -> Answer {
+        Plain.repair(image)
+    }
 }

@@ -1,0 +1,7 @@
+pub mod Bits
+pub mod WalkFaults
+pub mod Mended
+pub mod Repairs
+pub mod Taken
+pub mod Mending
+pub mod Table

@@ -1,0 +1,4 @@
+pub mod Remark
+pub mod Repair
+pub mod Demand
+pub mod Taken
