@@ -1,7 +1,8 @@
 /*
  * ZealFS version 1 over an image in memory: the functions of libzealfs_c.a (crates/zealfs_c, built by `rt staticlib zealfs_c`).
  *
- * Whatever the bytes, each function answers, and always returns. The result is 0 when the call is granted, else the code of a refusal:
+ * Whatever the bytes, each function answers, and always returns. The result is 0 when the call is granted, else the code of a refusal
+ * (zealfs_audit alone returns something else):
  *
  *     number + 256 * (a + 65536 * (b + 65536 * c))
  *
@@ -88,6 +89,13 @@ uint64_t zealfs_unlock(uint8_t *image, size_t image_len, const uint8_t *path, si
  * and the N/8 of the bitmap. Any other image is refused as the verdict refuses it: 1, 2, 16, 17, 18 or 20.
  */
 uint64_t zealfs_repair(uint8_t *image, size_t image_len);
+
+/*
+ * A second judge, which shares no walk with the verdict's. It returns 1 for an image that is sound, as the verdict has it, and 0 for any other: no
+ * refusal, and no code. owners: for each page 0 if nobody owns it, 1 for the header, else where in the image the entry of the file or directory
+ * begins that owns it (64 or more); nobody owns a page past N. All are 0 when it returns 0.
+ */
+uint64_t zealfs_audit(const uint8_t *image, size_t image_len, uint64_t owners[256]);
 
 /* The parts of a code: the number, 0 when the call was granted, and number i of the place, i being 0, 1 or 2. */
 static inline unsigned zealfs_number(uint64_t code) { return (unsigned)(code & 0xff); }

@@ -12,7 +12,7 @@ use std::process::Command;
 /// The environment variable that overrides the library's directory.
 const DIRECTORY: &str = "ZEALFS_LIBRARY_DIR";
 
-const CALLS: [&str; 13] = [
+const CALLS: [&str; 14] = [
     "zealfs_format",
     "zealfs_verdict",
     "zealfs_find",
@@ -26,6 +26,7 @@ const CALLS: [&str; 13] = [
     "zealfs_lock",
     "zealfs_unlock",
     "zealfs_repair",
+    "zealfs_audit",
 ];
 
 fn main() {

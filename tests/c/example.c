@@ -77,6 +77,23 @@ static void repair(void)
     memcpy(image, sound, sizeof image);
 }
 
+/* The second judge names an owner for each page of a sound image, and of any other nobody. */
+static void audit(void)
+{
+    static const uint64_t of_pages[] = {1, 64, 256, 256};
+    uint64_t owners[256];
+    uint8_t kept = image[3];
+
+    expect("audit", zealfs_audit(IMAGE, owners), 1);
+    for (size_t i = 0; i < 256; i++)
+        if (i < 5 || owners[i] != 0)
+            expect("  owner", owners[i], i < 4 ? of_pages[i] : 0);
+    image[3] = 5;
+    expect("audit, the free count wrong", zealfs_audit(IMAGE, owners), 0);
+    image[3] = kept;
+    expect("  the header is nobody's", owners[0], 0);
+}
+
 int main(void)
 {
     const uint8_t made[8] = {0x20, 0x26, 0x11, 0x15, 0x07, 0x21, 0x05, 0x00};
@@ -132,6 +149,7 @@ int main(void)
     for (size_t i = 0; i < sizeof damages / sizeof damages[0]; i++)
         judge(&damages[i]);
     repair();
+    audit();
     expect("remove file /A, refused", zealfs_remove_file(IMAGE, PATH("/A")), 7);
     expect("remove directory /A, refused", zealfs_remove_directory(IMAGE, PATH("/A")), 13);
     expect("remove directory 0042, refused", zealfs_remove_directory(IMAGE, PATH("/A/0042")), 6 + 256 * 3);

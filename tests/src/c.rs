@@ -1,6 +1,6 @@
 //! The boundary to the C library `libzealfs_c.a`. All unsafe code is here.
 
-use crate::calls::{Answer, Calls, DATE_BYTES, NAME_BYTES};
+use crate::calls::{Answer, Audit, Calls, DATE_BYTES, NAME_BYTES, OWNERS};
 
 /// Declares and calls functions of the library. The arguments after the
 /// semicolon are arrays of fixed length that the library fills; these two
@@ -52,6 +52,7 @@ declare! {
     zealfs_lock(image: *mut u8, image_len: usize, path: *const u8, path_len: usize;);
     zealfs_unlock(image: *mut u8, image_len: usize, path: *const u8, path_len: usize;);
     zealfs_repair(image: *mut u8, image_len: usize;);
+    zealfs_audit(image: *const u8, image_len: usize; owners: u64);
 }
 
 /// The C library.
@@ -188,5 +189,15 @@ impl Calls for Library {
 
     fn repair(&self, image: &mut [u8]) -> Answer {
         answer(call!(zealfs_repair(image.as_mut_ptr(), image.len();)))
+    }
+
+    fn audit(&self, image: &[u8]) -> Audit {
+        let mut owners = [UNSET; OWNERS + 1];
+        let sound = call!(zealfs_audit(image.as_ptr(), image.len(); owners[..OWNERS]));
+        check_rest(&owners[OWNERS..], UNSET);
+        Audit {
+            sound,
+            owners: owners[..OWNERS].try_into().expect("a row and its rest"),
+        }
     }
 }

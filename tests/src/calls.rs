@@ -180,6 +180,34 @@ impl fmt::Display for Answer {
     }
 }
 
+/// How many pages the second judge's row has.
+pub const OWNERS: usize = 256;
+
+/// What the second judge says.
+#[derive(Clone, Debug, PartialEq, Eq)]
+pub struct Audit {
+    /// 1 for sound, 0 for no.
+    pub sound: u64,
+    /// Who owns each page: 0 nobody, 1 the header, else where in the image the
+    /// owner's entry begins.
+    pub owners: [u64; OWNERS],
+}
+
+impl Audit {
+    /// No: the row names nobody, not even the header.
+    pub fn no() -> Audit {
+        Audit {
+            sound: 0,
+            owners: [0; OWNERS],
+        }
+    }
+
+    /// The image is sound, and these are the owners.
+    pub fn sound(owners: [u64; OWNERS]) -> Audit {
+        Audit { sound: 1, owners }
+    }
+}
+
 /// An implementation of the calls over a lent image.
 pub trait Calls {
     fn format(&self, image: &mut [u8]) -> Answer;
@@ -195,6 +223,7 @@ pub trait Calls {
     fn lock(&self, image: &mut [u8], path: &[u8]) -> Answer;
     fn unlock(&self, image: &mut [u8], path: &[u8]) -> Answer;
     fn repair(&self, image: &mut [u8]) -> Answer;
+    fn audit(&self, image: &[u8]) -> Audit;
 }
 
 /// One call with its arguments. The bytes of a read are what the reader's

@@ -1,7 +1,9 @@
 //! The calls on the image bytes directly: judge, walk, do. No tree and no
 //! allocation; this is what the benchmark measures the library by.
 
-use crate::calls::{Answer, Calls, Kind, Refusal, DATE_BYTES, DIRECTORY_SIZE, NAME_BYTES};
+use crate::calls::{
+    Answer, Audit, Calls, Kind, Refusal, DATE_BYTES, DIRECTORY_SIZE, NAME_BYTES, OWNERS,
+};
 
 const PAGE: usize = 256;
 const CONTENT: usize = 255;
@@ -626,6 +628,110 @@ fn repair(image: &mut [u8]) -> Result<Answer, Refusal> {
     Ok(Answer::granted())
 }
 
+// The second judge
+
+/// Who owns each page so far, and the directories that were found, of which
+/// some are still to be visited.
+struct Auditor<'a> {
+    image: &'a [u8],
+    pages: usize,
+    owners: [u64; OWNERS],
+    directories: [u8; OWNERS],
+    found: usize,
+}
+
+impl Auditor<'_> {
+    /// Visits the directories in the order in which they are found.
+    fn visit_all(&mut self) -> bool {
+        let mut visited = 0;
+        while visited < self.found {
+            let entries = match self.directories[visited] {
+                0 => ROOT,
+                page => Entries::of_page(page),
+            };
+            if !self.visit(entries) {
+                return false;
+            }
+            visited += 1;
+        }
+        true
+    }
+
+    fn visit(&mut self, entries: Entries) -> bool {
+        let image = self.image;
+        let occupied = |at: &usize| image[*at] & OCCUPIED != 0;
+        let places = || (entries.from..entries.to).step_by(ENTRY).filter(occupied);
+        places().all(|at| {
+            let name = &image[at + 1..=at + NAME_BYTES];
+            let is_only =
+                places().all(|other| other == at || image[other + 1..=other + NAME_BYTES] != *name);
+            is_only && is_padded_name(name) && self.claim_pages(at)
+        })
+    }
+
+    /// The entry there claims its pages; a directory is put with those to visit.
+    fn claim_pages(&mut self, at: usize) -> bool {
+        let entry = &self.image[at..at + ENTRY];
+        let (start, size) = (entry[START], size_of(entry));
+        if entry[0] & DIRECTORY != 0 {
+            let is_claimed = size == PAGE && self.claim(start, at);
+            if is_claimed {
+                self.directories[self.found] = start;
+                self.found += 1;
+            }
+            return is_claimed;
+        }
+        let mut page = start;
+        for _ in 0..pages_of_file(size) {
+            if !self.claim(page, at) {
+                return false;
+            }
+            page = self.image[usize::from(page) * PAGE];
+        }
+        page == 0
+    }
+
+    /// Page 0 has the header for its owner from the start.
+    fn claim(&mut self, page: u8, at: usize) -> bool {
+        let page = usize::from(page);
+        let is_free = page < self.pages && self.owners[page] == 0;
+        if is_free {
+            self.owners[page] = at as u64;
+        }
+        is_free
+    }
+
+    /// Each page is marked exactly if somebody owns it, and byte 3 says how many
+    /// nobody does.
+    fn is_marked(&self) -> bool {
+        let owners = &self.owners[..self.pages];
+        let bits = (0..self.pages).map(|page| self.image[BITMAP_AT + page / 8] >> (page % 8) & 1);
+        let nobodies = owners.iter().filter(|&&owner| owner == 0).count();
+        bits.zip(owners)
+            .all(|(bit, &owner)| (bit == 1) == (owner != 0))
+            && nobodies == usize::from(self.image[3])
+    }
+}
+
+fn audit(image: &[u8]) -> Audit {
+    let Ok(pages) = judge_header(image) else {
+        return Audit::no();
+    };
+    let mut auditor = Auditor {
+        image,
+        pages,
+        owners: [0; OWNERS],
+        // The root comes first.
+        directories: [0; OWNERS],
+        found: 1,
+    };
+    auditor.owners[0] = 1;
+    match auditor.visit_all() && auditor.is_marked() {
+        true => Audit::sound(auditor.owners),
+        false => Audit::no(),
+    }
+}
+
 impl Calls for Direct {
     fn format(&self, image: &mut [u8]) -> Answer {
         let granted = pages_of(image.len()).map(|pages| {
@@ -685,5 +791,9 @@ impl Calls for Direct {
 
     fn repair(&self, image: &mut [u8]) -> Answer {
         repair(image).into()
+    }
+
+    fn audit(&self, image: &[u8]) -> Audit {
+        audit(image)
     }
 }

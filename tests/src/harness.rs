@@ -1,7 +1,7 @@
 //! Runs a list of calls on two implementations and compares all they answer
 //! and all that was lent to them.
 
-use crate::calls::{Answer, Call, Calls};
+use crate::calls::{Answer, Call, Calls, OWNERS};
 use crate::plain::reader::{is_allocated, judge};
 use crate::plain::Replay;
 use std::fmt::Write;
@@ -94,7 +94,8 @@ fn perform_guarded(
 pub type Observer<'a> = &'a mut dyn FnMut(&Call, &Answer);
 
 /// Runs the list on both implementations, and on the tree alone where the
-/// starting image is sound; answers the first difference.
+/// starting image is sound; answers the first difference. The second judges are
+/// compared on the image before the list and after it.
 pub fn compare(
     scenario: &Scenario,
     expected: &dyn Calls,
@@ -104,6 +105,11 @@ pub fn compare(
     let mut replay = Replay::of(&scenario.image);
     let mut expected_image = scenario.image.clone();
     let mut actual_image = Guarded::new(&scenario.image, scenario.calls.len());
+    let mut what = String::new();
+    describe_audits(&mut what, expected, actual, &actual_image);
+    if !what.is_empty() {
+        return Some(Difference { step: 0, what });
+    }
     for (step, call) in scenario.calls.iter().enumerate() {
         let mut expected_call = call.clone();
         let mut actual_call = call.clone();
@@ -119,7 +125,9 @@ pub fn compare(
         }
         observe(call, &got);
     }
-    let mut what = String::new();
+    if actual_image.bytes() != scenario.image {
+        describe_audits(&mut what, expected, actual, &actual_image);
+    }
     if let Some(replay) = replay {
         describe_end(&mut what, &replay, actual, actual_image.bytes());
     }
@@ -179,6 +187,22 @@ fn describe_end(what: &mut String, replay: &Replay, calls: &dyn Calls, image: &[
 fn describe_answers(what: &mut String, wanted: &Answer, got: &Answer) {
     if wanted != got {
         let _ = writeln!(what, "expected {wanted}\n     got {got}");
+    }
+}
+
+/// What the second judges say of an image, which they must leave as it is.
+fn describe_audits(what: &mut String, expected: &dyn Calls, actual: &dyn Calls, image: &Guarded) {
+    let wanted = expected.audit(image.bytes());
+    let got = actual.audit(image.bytes());
+    if wanted == got {
+        return;
+    }
+    let (sound, says) = (wanted.sound, got.sound);
+    let _ = writeln!(what, "audit: expected {sound}, got {says}");
+    let different = (0..OWNERS).find(|&page| wanted.owners[page] != got.owners[page]);
+    if let Some(page) = different {
+        let (owner, named) = (wanted.owners[page], got.owners[page]);
+        let _ = writeln!(what, "  page {page}: expected owner {owner}, got {named}");
     }
 }
 

@@ -1,11 +1,11 @@
 //! Copies of the plain implementation with one thing broken, to see that the
 //! harness tells of each.
 
-use crate::calls::{Answer, Call, Calls, Refusal};
+use crate::calls::{Answer, Audit, Call, Calls, Refusal};
 use crate::misjudge::misjudged;
 use crate::plain::reader::is_allocated;
 use crate::plain::writer::entry_at;
-use crate::plain::{Plain, BITMAP_AT, CONTENT, PAGE};
+use crate::plain::{pages_of_image, Plain, BITMAP_AT, CONTENT, PAGE};
 
 /// What is broken.
 #[derive(Clone, Copy, Debug, PartialEq, Eq, PartialOrd)]
@@ -72,6 +72,10 @@ pub enum Fault {
     RepairKeepsCount,
     /// A repair also marks owned pages that are marked as free.
     RepairMarksOwned,
+    /// The second judge names each owner one page on.
+    OwnerOnePageOn,
+    /// The second judge trusts byte 3.
+    AuditTrustsCount,
     // From here on the fault that is told of an image is not its first one, or
     // its place is another.
     /// The page that fails is counted among those that passed.
@@ -91,7 +95,7 @@ pub enum Fault {
 }
 
 /// All faults.
-pub const FAULTS: [Fault; 38] = [
+pub const FAULTS: [Fault; 40] = [
     Fault::LeadingZeros,
     Fault::TrustedFreeCount,
     Fault::WholeBitmap,
@@ -123,6 +127,8 @@ pub const FAULTS: [Fault; 38] = [
     Fault::RepairLeavesBit,
     Fault::RepairKeepsCount,
     Fault::RepairMarksOwned,
+    Fault::OwnerOnePageOn,
+    Fault::AuditTrustsCount,
     Fault::FailedPageCounted,
     Fault::EarlierOfEqualNames,
     Fault::HighestLostPage,
@@ -456,5 +462,18 @@ impl Calls for Wrong {
 
     fn repair(&self, image: &mut [u8]) -> Answer {
         self.perform(image, Call::Repair).0
+    }
+
+    fn audit(&self, image: &[u8]) -> Audit {
+        let mut seen = image.to_vec();
+        if let (Fault::AuditTrustsCount, Ok(pages)) = (self.0, pages_of_image(image.len())) {
+            let zero_bits = (0..pages).filter(|&page| !is_allocated(image, page));
+            seen[3] = zero_bits.count() as u8;
+        }
+        let mut audit = Plain.audit(&seen);
+        if self.has(Fault::OwnerOnePageOn) {
+            audit.owners[1..].rotate_right(1);
+        }
+        audit
     }
 }

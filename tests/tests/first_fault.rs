@@ -2,7 +2,7 @@
 //! every kind of fault by itself, and two or more at once for every step of the
 //! order in which document 02 §2 judges.
 
-use zealfs_tests::calls::{Answer, Refusal};
+use zealfs_tests::calls::{Answer, Calls, Refusal};
 use zealfs_tests::damage::mend_bitmap;
 use zealfs_tests::desk::Desk;
 use zealfs_tests::plain::Plain;
@@ -108,7 +108,8 @@ type Told = (u8, [u64; 3]);
 
 const SOUND: Told = (0, [0; 3]);
 
-/// Sees that every implementation tells this of the image.
+/// Sees that every implementation tells this of the image, and that the second
+/// judge says sound exactly where nothing is told.
 fn check(what: &str, image: &[u8], (number, place): Told) {
     for subject in all() {
         let verdict = subject.calls.verdict(image);
@@ -119,6 +120,9 @@ fn check(what: &str, image: &[u8], (number, place): Told) {
             let told = Answer::refused(Refusal { number, place });
             assert_eq!(verdict, told, "{what}: {who} tells {verdict}");
         }
+        let audit = subject.calls.audit(image);
+        assert_eq!(audit.sound, u64::from(number == 0), "{what}: {who}");
+        assert_eq!(audit, Plain.audit(image), "{what}: {who}");
     }
 }
 

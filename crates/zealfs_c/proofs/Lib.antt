@@ -1,3 +1,4 @@
 pub mod Stops
 pub mod Fits
+pub mod Rows
 pub mod Codes

@@ -1,6 +1,7 @@
 -- What a C caller is told of a model's answer: a code, and the numbers in the out arrays, which are zeros beside a refusal.
 use mathlib.Core.Path.{_≡_}
 use Prim.Native.Nat.{ℕ, _+_, _*_, _/_, _%_, _≤_, _<_}
+use mathlib.Core.Bool.{Bool}
 use mathlib.Core.List.{List, [], _∷_}
 use Rattle.volume.specs.Bytes.{if_then_else_}
 use Rattle.model.specs.Call.{Kind, isFile, isDirectory, Verdict, Found, Listed, empty, holds, Refusal, Answer, refused, granted}
@@ -45,6 +46,10 @@ kindNumber isDirectory = 1
 unfoldable pub lockNumber : Kind → ℕ
 lockNumber (isFile locked) = if locked then 1 else 0
 lockNumber isDirectory = 0
+
+-- what the second judge says (paper 02 §8): no refusal, and no number of the table
+unfoldable pub soundNumber : Bool → ℕ
+soundNumber says = if says then 1 else 0
 
 -- pages, free
 unfoldable pub verdictOut : Answer Verdict → List ℕ

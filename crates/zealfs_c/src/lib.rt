@@ -11,13 +11,17 @@ use zealfs::ReadAnswer;
 use zealfs::VerdictAnswer;
 ghost use mathlib.Core.Path.{_≡_};
 ghost use mathlib.Core.Bool.{true, false};
+ghost use Prim.Native.Nat.{_≤_};
+ghost use lib.ListN.{length};
+ghost use Rattle.model.specs.Sound.{sound};
 ghost use Rattle.model.specs.Call.{format, verdict, find, list, read, makeFile, makeDirectory, write, removeFile, removeDirectory, setLock, isFile};
 ghost use Rattle.model.specs.Meaning.{faultTold, answer, after, bufferAfter};
 ghost use Rattle.judge.specs.Answers.{faultOf};
 ghost use Rattle.refusals.specs.Told.{told};
 ghost use Rattle.zealfs.specs.Answers.{changeAnswer, findDate, listName, listDate};
 ghost use Rattle.repair.specs.Repair.{repairAnswer, repairAfter};
-ghost use Rattle.zealfs_c.specs.Codes.{packed, refusalCode, codeOf, Fits, placeOf, lockNumber, verdictOut, findOut, listOut, readOut};
+ghost use Rattle.audit.specs.Owner.{ownerNumbers};
+ghost use Rattle.zealfs_c.specs.Codes.{packed, refusalCode, codeOf, Fits, placeOf, lockNumber, soundNumber, verdictOut, findOut, listOut, readOut};
 
 // The three numbers of a place as one.
 fn pack(a: usize, b: usize, c: usize) -> u64
@@ -264,7 +268,7 @@ pub extern "C" fn zealfs_unlock(image: &mut [u8], path: &[u8]) -> u64
     change_code(zealfs::unlock(image, path))
 }
 
-// ---- a call outside the lists of demand 3
+// ---- calls outside the lists of demand 3
 
 // Wins back lost pages (02 §7).
 #[no_mangle]
@@ -273,4 +277,28 @@ pub extern "C" fn zealfs_repair(image: &mut [u8]) -> u64
     ensures { λ _. ⌜ now (image .exit) ≡ repairAfter (now (image .entry)) ⌝ }
 {
     change_code(repair::repair(image))
+}
+
+// Positions as C has them.
+fn copy_owners(from: &[usize], to: &mut [u64])
+    requires { ⌜ (length (now from) ≡ length (now to)) × (length (now to) ≤ 256) ⌝ }
+    ensures { λ _. ⌜ now (to .exit) ≡ now (from .entry) ⌝ }
+{
+    for p in 0..to.len() {
+        to[p] = from[p] as u64;
+    }
+}
+
+// The second judge (02 §8): 1 if the image is sound, and who owns each page: 0 nobody, 1 the header, else where the owner's entry begins.
+#[no_mangle]
+pub extern "C" fn zealfs_audit(image: &[u8], owners: &mut [u64; 256]) -> u64
+    ensures { λ r. ⌜ r ≡ soundNumber (sound (now (image .entry))) ⌝ }
+    ensures { λ _. ⌜ now (owners .exit) ≡ ownerNumbers (now (image .entry)) ⌝ }
+{
+    let findings = audit::audit(image);
+    let row = findings.owners;
+    let mut numbers = [0u64; 256];
+    copy_owners(&row, &mut numbers);
+    *owners = numbers;
+    if findings.sound { 1 } else { 0 }
 }

@@ -6,7 +6,7 @@ pub mod reader;
 pub mod tree;
 pub mod writer;
 
-use crate::calls::{Answer, Call, Calls, Kind, Refusal};
+use crate::calls::{Answer, Audit, Call, Calls, Kind, Refusal};
 use tree::Tree;
 
 /// Bytes of a page.
@@ -132,6 +132,10 @@ impl Calls for Plain {
             Answer::granted()
         });
         granted.into()
+    }
+
+    fn audit(&self, image: &[u8]) -> Audit {
+        reader::owner_row(image).map_or_else(|_| Audit::no(), Audit::sound)
     }
 }
 

@@ -5,21 +5,40 @@ use super::path::is_legal_name;
 use super::tree::{Directory, Entry, File, Node, Tree};
 use super::{pages_of_file, pages_of_image};
 use super::{BITMAP_AT, CONTENT, DIRECTORY_ENTRIES, ENTRY, PAGE, ROOT_ENTRIES, ROOT_ENTRIES_AT};
-use crate::calls::{Refusal, NAME_BYTES};
+use crate::calls::{Refusal, NAME_BYTES, OWNERS};
 
 /// The tree that a sound image means; else refusal 1, 2, 3 or 16 to 20.
 pub fn judge(image: &[u8]) -> Result<Tree, Refusal> {
+    judge_all(image).map(|(tree, _)| tree)
+}
+
+/// Who owns each page of a sound image: 1 the header, else where the owner's
+/// entry begins, and 0 for nobody.
+pub fn owner_row(image: &[u8]) -> Result<[u64; OWNERS], Refusal> {
+    let (_, reader) = judge_all(image)?;
+    let mut row = [0; OWNERS];
+    for (number, owner) in row.iter_mut().zip(reader.owners) {
+        *number = owner.map_or(0, |entry| entry.at() as u64);
+    }
+    row[0] = 1;
+    Ok(row)
+}
+
+/// The walk and what comes after it.
+fn judge_all(image: &[u8]) -> Result<(Tree, Reader<'_>), Refusal> {
     let (tree, reader) = walk(image)?;
     reader.judge_lost_pages()?;
     reader.judge_header()?;
-    Ok(tree)
+    Ok((tree, reader))
 }
 
 /// The tree of an image whose walk is clean, and which pages entries own,
 /// whatever other pages, bit 0 and byte 3 are; else refusal 1, 2, 16, 17, 18
 /// or 20.
 pub fn tree_and_owned(image: &[u8]) -> Result<(Tree, Vec<bool>), Refusal> {
-    walk(image).map(|(tree, reader)| (tree, reader.owned))
+    let (tree, reader) = walk(image)?;
+    let owned = (0..tree.pages).map(|page| reader.is_owned(page));
+    Ok((tree, owned.collect()))
 }
 
 fn walk(image: &[u8]) -> Result<(Tree, Reader<'_>), Refusal> {
@@ -30,7 +49,7 @@ fn walk(image: &[u8]) -> Result<(Tree, Reader<'_>), Refusal> {
     }
     let mut reader = Reader {
         image,
-        owned: vec![false; pages],
+        owners: vec![None; pages],
     };
     let root = reader.directory(0)?;
     Ok((Tree { pages, root }, reader))
@@ -50,14 +69,18 @@ struct Place {
 }
 
 impl Place {
-    /// The 32 bytes of the entry.
-    fn bytes(self, image: &[u8]) -> &[u8] {
+    /// Where the entry begins.
+    fn at(self) -> usize {
         let entries_at = match self.directory {
             0 => ROOT_ENTRIES_AT,
             page => page * PAGE,
         };
-        let at = entries_at + self.number * ENTRY;
-        &image[at..at + ENTRY]
+        entries_at + self.number * ENTRY
+    }
+
+    /// The 32 bytes of the entry.
+    fn bytes(self, image: &[u8]) -> &[u8] {
+        &image[self.at()..self.at() + ENTRY]
     }
 
     fn bad_entry(self) -> Refusal {
@@ -71,12 +94,15 @@ impl Place {
 
 struct Reader<'a> {
     image: &'a [u8],
-    /// Which pages entries have been found to own, one flag for each page of
-    /// the image.
-    owned: Vec<bool>,
+    /// The entry that has been found to own each page of the image, if one has.
+    owners: Vec<Option<Place>>,
 }
 
 impl Reader<'_> {
+    fn is_owned(&self, page: usize) -> bool {
+        self.owners[page].is_some()
+    }
+
     /// The directory on that page.
     fn directory(&mut self, page: usize) -> Result<Directory, Refusal> {
         let count = match page {
@@ -127,17 +153,17 @@ impl Reader<'_> {
 
     /// Takes a page for the entry, of whose pages so many have passed.
     fn own(&mut self, page: usize, place: Place, passed: usize) -> Result<(), Refusal> {
-        let in_range = 1..self.owned.len();
+        let in_range = 1..self.owners.len();
         if !in_range.contains(&page) {
             return Err(place.bad_chain(passed));
         }
-        if self.owned[page] {
+        if self.is_owned(page) {
             return Err(Refusal::at_page(18, page));
         }
         if !is_allocated(self.image, page) {
             return Err(Refusal::at_page(20, page));
         }
-        self.owned[page] = true;
+        self.owners[page] = Some(place);
         Ok(())
     }
 
@@ -164,8 +190,8 @@ impl Reader<'_> {
     /// After the walk every page that is marked has an owner. Page 0 is the
     /// header's, whatever its bit says.
     fn judge_lost_pages(&self) -> Result<(), Refusal> {
-        let is_lost = |&page: &usize| is_allocated(self.image, page) && !self.owned[page];
-        match (1..self.owned.len()).find(is_lost) {
+        let is_lost = |&page: &usize| is_allocated(self.image, page) && !self.is_owned(page);
+        match (1..self.owners.len()).find(is_lost) {
             Some(page) => Err(Refusal::at_page(19, page)),
             None => Ok(()),
         }
@@ -173,7 +199,7 @@ impl Reader<'_> {
 
     /// Bit 0 and byte 3.
     fn judge_header(&self) -> Result<(), Refusal> {
-        let pages = 0..self.owned.len();
+        let pages = 0..self.owners.len();
         let zero_bits = pages.filter(|&page| !is_allocated(self.image, page));
         let is_counted = zero_bits.count() == usize::from(self.image[3]);
         if is_counted && is_allocated(self.image, 0) {

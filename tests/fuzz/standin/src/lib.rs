@@ -8,7 +8,7 @@ mod rare;
 use rare::{Rarely, RARE};
 use std::sync::OnceLock;
 use std::{env, slice};
-use zealfs_tests::calls::{Answer, Calls};
+use zealfs_tests::calls::{Answer, Calls, OWNERS};
 use zealfs_tests::plain::Plain;
 use zealfs_tests::wrong::{Wrong, FAULTS};
 
@@ -243,4 +243,14 @@ pub unsafe extern "C" fn zealfs_unlock(
 #[no_mangle]
 pub unsafe extern "C" fn zealfs_repair(image: *mut u8, image_len: usize) -> u64 {
     code(&calls().repair(lent_mut(image, image_len)))
+}
+
+/// # Safety
+///
+/// As include/zealfs.h says.
+#[no_mangle]
+pub unsafe extern "C" fn zealfs_audit(image: *const u8, image_len: usize, owners: *mut u64) -> u64 {
+    let audit = calls().audit(lent(image, image_len));
+    tell::<_, OWNERS>(owners, &audit.owners);
+    audit.sound
 }

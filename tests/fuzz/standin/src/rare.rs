@@ -1,7 +1,7 @@
 //! Faults that show only where several things come together, unlike those of
 //! tests/src/wrong.rs.
 
-use zealfs_tests::calls::{Answer, Calls, Kind, NAME_BYTES};
+use zealfs_tests::calls::{Answer, Audit, Calls, Kind, NAME_BYTES};
 use zealfs_tests::damage::Survey;
 use zealfs_tests::plain::reader::judge;
 use zealfs_tests::plain::{Plain, BITMAP_AT, CONTENT, PAGE};
@@ -190,5 +190,9 @@ impl Calls for Rarely {
 
     fn repair(&self, image: &mut [u8]) -> Answer {
         Plain.repair(image)
+    }
+
+    fn audit(&self, image: &[u8]) -> Audit {
+        Plain.audit(image)
     }
 }

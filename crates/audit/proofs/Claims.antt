@@ -1,0 +1,170 @@
+-- A page that gets an owner had none and lies in the row; a chain is claimed page by page.
+use mathlib.Core.Path.{_≡_, refl, sym, ap, _∙_}
+use Prim.Native.Nat.{ℕ, zero, suc, _+_, _-_, _≤_, _<_}
+use native.Mathlib.Omega.{arith}
+use native.Mathlib.Numerals.{add-one}
+use mathlib.Core.Bool.{Bool, true, false, not, _&&_}
+use mathlib.Core.List.{List, [], _∷_, _++_, map, flatMap}
+use lib.ListN.{length, getD, set, length-set, length-append}
+use lib.Dec.{eqb, ltb, eqb·suc-zero}
+use borrow.Author.Tests.{not-true, not-false, eqb-true, ltb-true}
+use Rattle.volume.specs.Bytes.{Bytes, if_then_else_}
+use Rattle.volume.specs.Lists.{countFrom}
+use Rattle.volume.specs.Chain.{chain}
+use Rattle.volume.proofs.Occ.{Mem, mem-head, mem-tail}
+use Rattle.model.specs.Layout.{pagesFor, link}
+use Rattle.model.specs.Name.{legalName}
+use Rattle.model.specs.Entry as Model
+use Rattle.model.specs.Entry.{entryCount, entries, isLocked, nameAt, dateAt, entryAt}
+use Rattle.model.specs.Sound.{pagesOf, pagesAt}
+use Rattle.fields.specs.declared.Entry.{Entry}
+use Rattle.fields.specs.Read.{entryOf}
+use Rattle.audit.specs.Visit.{Visited, stops, goes, thenVisit, claim, claimChain, claimEntry, claimEntries}
+use Rattle.audit.specs.Lent.{outcome, free, position, rest}
+
+-- ---- answers that were tested
+
+pub goes-of : (r : Bool) {m : List ℕ} {v : Visited} → outcome r m ≡ v → not r ≡ false → goes m ≡ v
+goes-of r {m} e h = sym (ap (λ (s : Bool). outcome s m) (not-false r h)) ∙ e
+
+pub stops-of : (r : Bool) {v : Visited} (m : List ℕ) → outcome r m ≡ v → not r ≡ true → stops ≡ v
+stops-of r m e h = sym (ap (λ (s : Bool). outcome s m) (not-true r h)) ∙ e
+
+pub told : {r s : Bool} → r ≡ s → not r ≡ false → s ≡ true
+told {r} e h = sym e ∙ not-false r h
+
+pub untold : {r s : Bool} → r ≡ s → not r ≡ true → s ≡ false
+untold {r} e h = sym e ∙ not-true r h
+
+abbrev rowOf : Visited → List ℕ → List ℕ
+rowOf stops d = d
+rowOf (goes row) d = row
+
+pub never : {A : Type 0} {m : List ℕ} → goes m ≡ stops → A
+never e = let z : _≡_ {A = ℕ} 1 0 = ap tag e in absurd (omega arith)
+  where
+    tag : Visited → ℕ
+    tag stops = 0
+    tag (goes row) = 1
+
+pub goes-injective : {m n : List ℕ} → goes m ≡ goes n → m ≡ n
+goes-injective {m} e = ap (λ (v : Visited). rowOf v m) e
+
+-- ---- one page
+
+free-set : (row : List ℕ) (p at : ℕ) → 1 ≤ at → p < length row → getD row p 0 ≡ 0 → free row ≡ suc (free (set row p at))
+unfolding free
+free-set [] p at k l h = absurd (omega arith)
+free-set (x ∷ row) zero at k l h = omega arith
+free-set (x ∷ row) (suc p) at k l h = omega (arith, free-set row p at k (omega arith) h)
+
+pub record Claimed (p : ℕ) (row row′ : List ℕ) : Type 0 where
+  pub here : p < length row
+  pub long : length row′ ≡ length row
+
+pub page-claimed : (at p : ℕ) (row row′ : List ℕ) → goes row′ ≡ claim at p row → Claimed p row row′
+unfolding claim
+page-claimed at p row row′ e = go (ltb p (length row)) (eqb (getD row p 0) 0) refl e
+  where
+    go : (c k : Bool) → ltb p (length row) ≡ c → goes row′ ≡ (if c && k then goes (set row p at) else stops) → Claimed p row row′
+    go true true l q = record { here = ltb-true p (length row) l; long = ap length (goes-injective q) ∙ length-set row p at }
+    go true false l q = never q
+    go false k l q = never q
+
+-- ---- a chain
+
+pub chain-next : (b : Bytes) (at left p : ℕ) (row : List ℕ) → 0 < left → claimChain b at left p row ≡ thenVisit (claim at p row) (claimChain b at (left - 1) (link b p))
+unfolding claimChain
+chain-next b at zero p row l = absurd (omega arith)
+chain-next b at (suc k) p row l = let e : suc k - 1 ≡ k = omega arith in rw e
+
+pub chain-end : (b : Bytes) (at left p : ℕ) (row : List ℕ) → left ≤ 0 → claimChain b at left p row ≡ (if eqb p 0 then goes row else stops)
+unfolding claimChain
+chain-end b at zero p row l = refl
+chain-end b at (suc k) p row l = absurd (omega arith)
+
+-- ---- an entry
+
+-- the entry that was read
+pub read-as : (b : Bytes) (at : ℕ) {r s : Entry} → entryOf r (isLocked b at) (nameAt b at) (dateAt b at) ≡ entryAt b at → r ≡ s → entryOf s (isLocked b at) (nameAt b at) (dateAt b at) ≡ entryAt b at
+read-as b at h q = ap (λ (x : Entry). entryOf x (isLocked b at) (nameAt b at) (dateAt b at)) (sym q) ∙ h
+
+-- the same of entry i of a directory
+pub seen : (b : Bytes) (d i : ℕ) {at : ℕ} {r s : Entry} → at ≡ position d i → entryOf r (isLocked b at) (nameAt b at) (dateAt b at) ≡ entryAt b at → r ≡ s
+    → entryOf s (isLocked b (position d i)) (nameAt b (position d i)) (dateAt b (position d i)) ≡ entryAt b (position d i)
+seen b d i {at} {r} {s} here read e = rw (← here, ← e) read
+
+-- ---- the entries of a directory
+
+pub rest-all : (p : ℕ) → entries p ≡ rest p 0
+unfolding entries rest
+rest-all p = let e : entryCount p ≡ entryCount p - 0 = omega arith in ap (λ (n : ℕ). map (position p) (countFrom 0 n)) e
+
+pub rest-next : (p i : ℕ) → i < entryCount p → rest p i ≡ position p i ∷ rest p (i + 1)
+unfolding countFrom rest
+rest-next p i l = let e : entryCount p - i ≡ suc (entryCount p - (i + 1)) = omega arith in rw (e, add-one i)
+
+pub rest-end : (p i : ℕ) → entryCount p ≤ i → rest p i ≡ []
+unfolding countFrom rest
+rest-end p i l = let e : entryCount p - i ≡ 0 = omega arith in rw e
+
+pub entries-next : (b : Bytes) (p i : ℕ) (row : List ℕ) {n : ℕ} → n ≡ entryCount p → i < n
+    → claimEntries b (rest p i) row ≡ thenVisit (claimEntry b (position p i) (entryAt b (position p i)) row) (claimEntries b (rest p (i + 1)))
+unfolding claimEntries
+entries-next b p i row c l = ap (λ (ats : List ℕ). claimEntries b ats row) (rest-next p i (omega arith))
+
+pub entries-end : (b : Bytes) (p i : ℕ) (row : List ℕ) {n : ℕ} → n ≡ entryCount p → n ≤ i → claimEntries b (rest p i) row ≡ goes row
+unfolding claimEntries
+entries-end b p i row c l = ap (λ (ats : List ℕ). claimEntries b ats row) (rest-end p i (omega arith))
+
+-- ---- what claims leave
+
+-- as long a row, with fewer pages that nobody owns
+abbrev pub Spends : (ps row : List ℕ) → Visited → Type 0
+Spends ps row stops = Unit {0}
+Spends ps row (goes r) = (length r ≡ length row) × (free r + length ps ≡ free row)
+
+spends-if : (ps row : List ℕ) (c : Bool) (v : Visited) → Spends ps row v → Spends ps row (if c then v else stops)
+spends-if ps row true v h = h
+spends-if ps row false v h = tt
+
+spends-then : (ps qs row : List ℕ) (v : Visited) (on : List ℕ → Visited) → Spends ps row v → ((s : List ℕ) → Spends qs s (on s)) → Spends (ps ++ qs) row (thenVisit v on)
+unfolding thenVisit
+spends-then ps qs row stops on h k = tt
+spends-then ps qs row (goes s) on h k = more (on s) (k s)
+  where
+    more : (v : Visited) → Spends qs s v → Spends (ps ++ qs) row v
+    more stops w = tt
+    more (goes r) w = (w .0 ∙ h .0, omega (arith, w .1, h .1, length-append ps qs))
+
+page-spends : (at p : ℕ) (row : List ℕ) → 1 ≤ at → Spends (p ∷ []) row (claim at p row)
+unfolding claim
+page-spends at p row l = go (ltb p (length row)) (eqb (getD row p 0) 0) refl refl
+  where
+    go : (c k : Bool) → ltb p (length row) ≡ c → eqb (getD row p 0) 0 ≡ k → Spends (p ∷ []) row (if c && k then goes (set row p at) else stops)
+    go true true u z = (length-set row p at, omega (arith, free-set row p at l (ltb-true p (length row) u) (eqb-true (getD row p 0) 0 z)))
+    go true false u z = tt
+    go false k u z = tt
+
+chain-spends : (b : Bytes) (at k p : ℕ) (row : List ℕ) → 1 ≤ at → Spends (chain (link b) k p) row (claimChain b at k p row)
+unfolding claimChain chain
+chain-spends b at zero p row l = spends-if [] row (eqb p 0) (goes row) (refl, omega arith)
+chain-spends b at (suc k) p row l =
+    spends-then (p ∷ []) (chain (link b) k (link b p)) row (claim at p row) (claimChain b at k (link b p)) (page-spends at p row l) (λ s. chain-spends b at k (link b p) s l)
+
+pub entry-spends : (b : Bytes) (at : ℕ) (e : Model.Entry) (row : List ℕ) → 1 ≤ at → Spends (pagesOf b e) row (claimEntry b at e row)
+unfolding claimEntry pagesOf
+entry-spends b at Model.vacant row l = (refl, omega arith)
+entry-spends b at (Model.aFile locked name date start size) row l = spends-if (chain (link b) (pagesFor size) start) row (legalName name) (claimChain b at (pagesFor size) start row) (chain-spends b at (pagesFor size) start row l)
+entry-spends b at (Model.aDirectory name date start size) row l = spends-if (start ∷ []) row (legalName name && eqb size 0x0100) (claim at start row) (page-spends at start row l)
+
+pub entries-spend : (b : Bytes) (ats row : List ℕ) → ((at : ℕ) → Mem at ats → 1 ≤ at) → Spends (flatMap (pagesAt b) ats) row (claimEntries b ats row)
+unfolding claimEntries flatMap
+entries-spend b [] row h = (refl, omega arith)
+entries-spend b (at ∷ ats) row h =
+    spends-then (pagesAt b at) (flatMap (pagesAt b) ats) row (claimEntry b at (entryAt b at) row) (claimEntries b ats) (entry-spends b at (entryAt b at) row (h at (mem-head at ats)))
+    (λ s. entries-spend b ats s (λ x m. h x (mem-tail x at ats m)))
+
+pub position-low : (p i : ℕ) → 1 ≤ position p i
+position-low zero i = omega arith
+position-low (suc p) i = let e = eqb·suc-zero p in rw e (omega arith)

@@ -1,0 +1,11 @@
+pub mod Owners
+pub mod Visits
+pub mod Visiting
+pub mod Audited
+pub mod Promise
+pub mod Legal
+pub mod Claims
+pub mod Stands
+pub mod Names
+pub mod Marks
+pub mod Table

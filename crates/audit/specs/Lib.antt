@@ -1,0 +1,4 @@
+pub mod Owner
+pub mod Demand
+pub mod Visit
+pub mod Lent
