@@ -157,7 +157,7 @@ module _ (b : Bytes) where
           ap (λ (l : List ℕ). ownerNumber (firstOwner l)) (sym (o .2)) ∙ ap ownerNumber (sym (owner-suc b q))
       | inr z ↦
           y .sets .kept (suc q) (owned-root (suc q) ∙ z) ∙ first-used (pageCount b) (suc q) (omega arith)
-          ∙ free z (page-owned b f (suc q) (omega arith) u) ∙ ap ownerNumber (sym (owner-suc b q))
+          ∙ free z (page-owned f (suc q) (omega arith) u) ∙ ap ownerNumber (sym (owner-suc b q))
     ]
       where
         free : occ (suc q) (ownedPages b) ≡ 0 → Owned b (suc q) → 0 ≡ ownerNumber (firstOwner (owners b (suc q)))
@@ -182,7 +182,7 @@ module _ (b : Bytes) where
       go : (c : Bool) → (T c → T (isMarked b row)) → AtYes b Told (if c then goes row else stops)
       go true t =
           let f = marked-facts (low h) row y h w (t tt) in
-          record { isSound = facts-sound b f; long = row-long (low h) row y; each = row-owner (low h) row y f }
+          record { isSound = facts-sound f; long = row-long (low h) row y; each = row-owner (low h) row y f }
       go false t = tt
 
   concluded-done : Facts b → (v : Visited) → AtYes b (Yes b (pageCount b) (0 ∷ []) start) v → IsYes b v → IsYes b (concluded b v)
@@ -209,7 +209,7 @@ module _ (b : Bytes) where
   audit-done h = go (validLength (length b)) (validHeader b) (f .fits) (f .headed)
     where
       f : Facts b
-      f = sound-facts b h
+      f = sound-facts h
 
       ownable : Ownable (flatMap (owned (pageCount b) b) (0 ∷ [])) start
       ownable q m =
@@ -219,7 +219,7 @@ module _ (b : Bytes) where
 
       go : (c k : Bool) → T c → T k → IsYes b (if c && k then concluded b (visit (pageCount b) b (0 ∷ []) start) else stops)
       go true true v w = concluded-done f (visit (pageCount b) b (0 ∷ []) start) (visit-yes b (pageCount b) (0 ∷ []) start)
-          (visit-done b (pageCount b) (pageCount b) (0 ∷ []) start (λ d m. good d m) ownable (omega (arith, owned-length, count-owned b f)))
+          (visit-done b (pageCount b) (pageCount b) (0 ∷ []) start (λ d m. good d m) ownable (omega (arith, owned-length, count-owned f)))
         where
           good : (d : ℕ) → Mem d (0 ∷ []) → T (goodDirectory (pageCount b) b d)
           good d m = elim (mem-cons d 0 [] m) [ inl e ↦ subst (λ (x : ℕ). T (goodDirectory (pageCount b) b x)) (sym e) (f .formed) | inr k ↦ absurd (omega arith) ]
@@ -287,7 +287,7 @@ audit-owners b = go (audit b) (audit-told b) (audit-done b) (sound b) (λ t. t) 
     go stops y d false t u = sym (zeros-map 256)
     go (goes row) y d false t u = absurd (u (y .isSound))
     go (goes row) y d true t u =
-        let f = sound-facts b (y .isSound) in
+        let f = sound-facts (y .isSound) in
         let s = valid-sized b (f .fits) in
         let n : length (row ++ replicate (256 - length row) 0) ≡ 256 = omega (arith, length-append row (replicate (256 - length row) 0), length-replicate {A = ℕ} (256 - length row) 0, y .long, s .high) in
         ext-getD 0 (row ++ replicate (256 - length row) 0) (map ownerNumber (map (ownerOf b) (upTo 256)))

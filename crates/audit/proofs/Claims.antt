@@ -6,8 +6,8 @@ use native.Mathlib.Numerals.{add-one}
 use mathlib.Core.Bool.{Bool, true, false, not, _&&_}
 use mathlib.Core.List.{List, [], _∷_, _++_, map, flatMap}
 use lib.ListN.{length, getD, set, length-set, length-append}
-use lib.Dec.{eqb, ltb, eqb·suc-zero}
-use borrow.Author.Tests.{not-true, not-false, eqb-true, ltb-true}
+use lib.Dec.{eqb, ltb}
+use borrow.Author.Tests.{not-true, not-false, eqb-true, ltb-true, eq-eqb, ne-eqb}
 use Rattle.volume.specs.Bytes.{Bytes, if_then_else_}
 use Rattle.volume.specs.Lists.{countFrom}
 use Rattle.volume.specs.Chain.{chain}
@@ -18,6 +18,8 @@ use Rattle.model.specs.Entry as Model
 use Rattle.model.specs.Entry.{entryCount, entries, isLocked, nameAt, dateAt, entryAt}
 use Rattle.model.specs.Sound.{pagesOf, pagesAt}
 use Rattle.fields.specs.declared.Entry.{Entry}
+use Rattle.fields.specs.declared.Entry.the-variants.{Vacant, File, Directory}
+use Rattle.fields.specs.declared.Page.{Page}
 use Rattle.fields.specs.Read.{entryOf}
 use Rattle.audit.specs.Visit.{Visited, stops, goes, thenVisit, claim, claimChain, claimEntry, claimEntries}
 use Rattle.audit.specs.Lent.{outcome, free, position, rest}
@@ -83,11 +85,54 @@ unfolding claimChain
 chain-end b at zero p row l = refl
 chain-end b at (suc k) p row l = absurd (omega arith)
 
+-- as the code goes: v is what the whole chain gives, and r, m the answer of one claim with its row
+module _ (b : Bytes) (at left p : ℕ) (row : List ℕ) {v : Visited} (is : v ≡ claimChain b at left p row) where
+  pub chain-stops : 0 < left → (r : Bool) (m : List ℕ) → outcome r m ≡ claim at p row → not r ≡ true → stops ≡ v
+  unfolding thenVisit
+  chain-stops l r m e h = sym (is ∙ chain-next b at left p row l ∙ rw (← stops-of r m e h))
+
+  pub chain-goes : 0 < left → (r : Bool) (m : List ℕ) → outcome r m ≡ claim at p row → not r ≡ false → {q : ℕ} → q ≡ link b p → v ≡ claimChain b at (left - 1) q m
+  unfolding thenVisit
+  chain-goes l r m e h k = is ∙ chain-next b at left p row l ∙ rw (← goes-of r e h, k)
+
+  pub chain-ends : left ≤ 0 → p ≡ 0 → goes row ≡ v
+  chain-ends l z = sym (is ∙ chain-end b at left p row l ∙ rw (eq-eqb p 0 z))
+
+  pub chain-open : left ≤ 0 → (p ≡ 0 → ⊥) → stops ≡ v
+  chain-open l z = sym (is ∙ chain-end b at left p row l ∙ rw (ne-eqb p 0 z))
+
 -- ---- an entry
 
 -- the entry that was read
 pub read-as : (b : Bytes) (at : ℕ) {r s : Entry} → entryOf r (isLocked b at) (nameAt b at) (dateAt b at) ≡ entryAt b at → r ≡ s → entryOf s (isLocked b at) (nameAt b at) (dateAt b at) ≡ entryAt b at
 read-as b at h q = ap (λ (x : Entry). entryOf x (isLocked b at) (nameAt b at) (dateAt b at)) (sym q) ∙ h
+
+-- what an entry claims goes by what was read at its position; l says whether its name is legal
+module _ (b : Bytes) (at : ℕ) (row : List ℕ) {r : Entry} (read : entryOf r (isLocked b at) (nameAt b at) (dateAt b at) ≡ entryAt b at) where
+  pub vacant-claims : r ≡ Vacant → goes row ≡ claimEntry b at (entryAt b at) row
+  unfolding claimEntry
+  vacant-claims e = rw (← read-as b at read e)
+
+  module _ {start : Page} {size : ℕ} {l : Bool} (legal : l ≡ legalName (nameAt b at)) where
+    pub file-unnamed : r ≡ File start size → not l ≡ true → stops ≡ claimEntry b at (entryAt b at) row
+    unfolding claimEntry
+    file-unnamed e n = rw (← read-as b at read e, untold legal n)
+
+    pub file-claims : r ≡ File start size → not l ≡ false → {k : ℕ} → k ≡ pagesFor size → {v : Visited} → v ≡ claimChain b at k (start .0) row → v ≡ claimEntry b at (entryAt b at) row
+    unfolding claimEntry
+    file-claims e n k c = rw (← read-as b at read e, told legal n, ← k) c
+
+    pub directory-unnamed : r ≡ Directory start size → not l ≡ true → stops ≡ claimEntry b at (entryAt b at) row
+    unfolding claimEntry
+    directory-unnamed e n = rw (← read-as b at read e, untold legal n)
+
+    pub directory-unsized : r ≡ Directory start size → not l ≡ false → (size ≡ 256 → ⊥) → stops ≡ claimEntry b at (entryAt b at) row
+    unfolding claimEntry
+    directory-unsized e n h = rw (← read-as b at read e, told legal n, ne-eqb _ _ h)
+
+    pub directory-claims : r ≡ Directory start size → not l ≡ false → size ≡ 256 → {v : Visited} → v ≡ claim at (start .0) row → v ≡ claimEntry b at (entryAt b at) row
+    unfolding claimEntry
+    directory-claims e n h c = rw (← read-as b at read e, told legal n, eq-eqb _ _ h) c
 
 -- the same of entry i of a directory
 pub seen : (b : Bytes) (d i : ℕ) {at : ℕ} {r s : Entry} → at ≡ position d i → entryOf r (isLocked b at) (nameAt b at) (dateAt b at) ≡ entryAt b at → r ≡ s
@@ -116,6 +161,20 @@ entries-next b p i row c l = ap (λ (ats : List ℕ). claimEntries b ats row) (r
 pub entries-end : (b : Bytes) (p i : ℕ) (row : List ℕ) {n : ℕ} → n ≡ entryCount p → n ≤ i → claimEntries b (rest p i) row ≡ goes row
 unfolding claimEntries
 entries-end b p i row c l = ap (λ (ats : List ℕ). claimEntries b ats row) (rest-end p i (omega arith))
+
+-- as the code goes: v is what the whole directory gives
+module _ (b : Bytes) (p i : ℕ) (row : List ℕ) {v : Visited} (is : v ≡ claimEntries b (rest p i) row) {n : ℕ} (count : n ≡ entryCount p) where
+  module _ (l : i < n) {at : ℕ} (here : at ≡ position p i) (r : Bool) (m : List ℕ) (e : outcome r m ≡ claimEntry b at (entryAt b at) row) where
+    pub entries-stop : not r ≡ true → stops ≡ v
+    unfolding thenVisit
+    entries-stop h = sym (is ∙ entries-next b p i row count l ∙ rw (← here, ← stops-of r m e h))
+
+    pub entries-go : not r ≡ false → v ≡ claimEntries b (rest p (i + 1)) m
+    unfolding thenVisit
+    entries-go h = is ∙ entries-next b p i row count l ∙ rw (← here, ← goes-of r e h)
+
+  pub entries-done : n ≤ i → goes row ≡ v
+  entries-done l = sym (is ∙ entries-end b p i row count l)
 
 -- ---- what claims leave
 
@@ -164,7 +223,3 @@ entries-spend b [] row h = (refl, omega arith)
 entries-spend b (at ∷ ats) row h =
     spends-then (pagesAt b at) (flatMap (pagesAt b) ats) row (claimEntry b at (entryAt b at) row) (claimEntries b ats) (entry-spends b at (entryAt b at) row (h at (mem-head at ats)))
     (λ s. entries-spend b ats s (λ x m. h x (mem-tail x at ats m)))
-
-pub position-low : (p i : ℕ) → 1 ≤ position p i
-position-low zero i = omega arith
-position-low (suc p) i = let e = eqb·suc-zero p in rw e (omega arith)

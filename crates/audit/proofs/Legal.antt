@@ -63,9 +63,10 @@ module _ (b : Bytes) (at : ℕ) (inside : at + 32 ≤ length b) where
         good = n ∙ ap₂ (λ (z g : Bool). if eqb c 0 then z else (legalByte c && g)) (s .blank) (s .good) ∙ sym (ap legalRest here);
       })
 
-  pub behind-none : {k : ℕ} {zeros legal : Bool} → Behind b at k zeros legal → k ≤ 1 → (legalByte (byteAt b (at + 1)) && legal) ≡ legalName (nameAt b at)
+  pub behind-none : {k : ℕ} {zeros legal : Bool} → Behind b at k zeros legal → k ≤ 1 → {first : Bool} → first ≡ legalByte (byteAt b (at + 1))
+      → (first && legal) ≡ legalName (nameAt b at)
   unfolding legalName
-  behind-none {k} {zeros} {legal} s l =
+  behind-none {k} {zeros} {legal} s l f =
       let one : k ≡ 1 = omega (arith, s .low) in
       let rest : legal ≡ legalRest (drop 1 (nameAt b at)) = s .good ∙ ap (λ (n : ℕ). legalRest (drop n (nameAt b at))) one in
-      ap (λ (g : Bool). legalByte (byteAt b (at + 1)) && g) rest ∙ sym (ap legalName (step 0 (omega arith)))
+      ap₂ (λ (x g : Bool). x && g) f rest ∙ sym (ap legalName (step 0 (omega arith)))

@@ -12,10 +12,11 @@ use Rattle.volume.specs.Bytes.{Bytes, if_then_else_}
 use Rattle.volume.specs.Lists.{all, countFrom, upTo}
 use Rattle.model.specs.Layout.{pageCount, validLength, validHeader}
 use Rattle.model.specs.Sound.{sound}
-use Rattle.audit.specs.Visit.{stops, goes, visit, nobodies, concluded, firstRow, audit}
+use Rattle.audit.specs.Visit.{stops, goes, visit, nobodies, isMarked, concluded, firstRow, audit}
 use Rattle.audit.specs.Owner.{ownerNumbers}
 use Rattle.audit.proofs.Audited.{Told, saysYes, fullRow, audit-told, audit-sound, audit-owners}
 use Rattle.audit.proofs.Visiting.{AtYes, Yes, visit-yes}
+use Rattle.audit.proofs.Claims.{told, untold, goes-of, stops-of}
 use Rattle.audit.specs.Lent.{free, outcome, Row}
 
 -- the pages from p on
@@ -23,17 +24,32 @@ unfoldable pub allFrom : (ℕ → Bool) → (n p : ℕ) → Bool
 allFrom f n p = all f (countFrom p (n - p))
 
 module _ (f : ℕ → Bool) (n : ℕ) where
-  pub all-from : all f (upTo n) ≡ allFrom f n 0
+  pub all-first : {m : ℕ} → n ≡ m → all f (upTo m) ≡ allFrom f n 0
   unfolding allFrom
-  all-from = let e : n ≡ n - 0 = omega arith in ap (λ (k : ℕ). all f (countFrom 0 k)) e
+  all-first {m} s = let e : m ≡ n - 0 = omega arith in ap (λ (k : ℕ). all f (countFrom 0 k)) e
 
-  pub all-next : (p : ℕ) → p < n → allFrom f n p ≡ (f p && allFrom f n (p + 1))
+  all-next : (p : ℕ) → p < n → allFrom f n p ≡ (f p && allFrom f n (p + 1))
   unfolding allFrom all countFrom
   all-next p l = let e : n - p ≡ suc (n - (p + 1)) = omega arith in rw (e, add-one p)
 
-  pub all-end : (p : ℕ) → n ≤ p → allFrom f n p ≡ true
+  all-end : (p : ℕ) → n ≤ p → allFrom f n p ≡ true
   unfolding allFrom all countFrom
   all-end p l = let e : n - p ≡ 0 = omega arith in rw e
+
+-- as the code goes: v is what all pages give, and r the answer for page p
+module _ (f : ℕ → Bool) (n p : ℕ) {v : Bool} (is : v ≡ allFrom f n p) where
+  module _ (l : p < n) {r : Bool} (e : r ≡ f p) where
+    pub all-stop : not r ≡ true → false ≡ v
+    all-stop h = sym (is ∙ all-next f n p l ∙ rw (untold e h))
+
+    pub all-go : not r ≡ false → v ≡ allFrom f n (p + 1)
+    all-go h = is ∙ all-next f n p l ∙ rw (told e h)
+
+  pub all-done : n ≤ p → true ≡ v
+  all-done l = sym (is ∙ all-end f n p l)
+
+pub nobodies-all : (row : List ℕ) (p : ℕ) {count : ℕ} → p ≤ length row → length row ≤ p → count ≡ nobodies row p → count ≡ nobodies row (length row)
+nobodies-all row p h l is = let e : p ≡ length row = omega arith in is ∙ ap (nobodies row) e
 
 pub nobodies-next : (row : List ℕ) (p : ℕ) → nobodies row (p + 1) ≡ nobodies row p + (1 - getD row p 0)
 unfolding nobodies
@@ -60,26 +76,26 @@ outcome-is : (r : Bool) (row : List ℕ) → outcome r row ≡ (if r then goes r
 outcome-is true row = refl
 outcome-is false row = refl
 
-pub outcome-if : {r c : Bool} (row : List ℕ) → r ≡ c → outcome r row ≡ (if c then goes row else stops)
+outcome-if : {r c : Bool} (row : List ℕ) → r ≡ c → outcome r row ≡ (if c then goes row else stops)
 outcome-if {r} row e = outcome-is r row ∙ ap (λ (c : Bool). if c then goes row else stops) e
 
 -- ---- the whole
 
-pub says-no : (b : Bytes) → audit b ≡ stops → (false ≡ sound b) × (replicate 256 0 ≡ ownerNumbers b)
+says-no : (b : Bytes) → audit b ≡ stops → (false ≡ sound b) × (replicate 256 0 ≡ ownerNumbers b)
 says-no b e = (ap saysYes (sym e) ∙ audit-sound b, ap fullRow (sym e) ∙ audit-owners b)
 
-pub says-yes : (b : Bytes) (row : List ℕ) → audit b ≡ goes row → (true ≡ sound b) × (row ++ replicate (256 - length row) 0 ≡ ownerNumbers b)
+says-yes : (b : Bytes) (row : List ℕ) → audit b ≡ goes row → (true ≡ sound b) × (row ++ replicate (256 - length row) 0 ≡ ownerNumbers b)
 says-yes b row e = (ap saysYes (sym e) ∙ audit-sound b, ap fullRow (sym e) ∙ audit-owners b)
 
-pub audit-short : (b : Bytes) → validLength (length b) ≡ false → audit b ≡ stops
+audit-short : (b : Bytes) → validLength (length b) ≡ false → audit b ≡ stops
 unfolding audit
 audit-short b e = rw e
 
-pub audit-headless : (b : Bytes) → validLength (length b) ≡ true → validHeader b ≡ false → audit b ≡ stops
+audit-headless : (b : Bytes) → validLength (length b) ≡ true → validHeader b ≡ false → audit b ≡ stops
 unfolding audit
 audit-headless b e f = rw (e, f)
 
-pub audit-full : (b : Bytes) → validLength (length b) ≡ true → validHeader b ≡ true → audit b ≡ concluded b (visit (pageCount b) b (0 ∷ []) (firstRow (pageCount b)))
+audit-full : (b : Bytes) → validLength (length b) ≡ true → validHeader b ≡ true → audit b ≡ concluded b (visit (pageCount b) b (0 ∷ []) (firstRow (pageCount b)))
 unfolding audit
 audit-full b e f = rw (e, f)
 
@@ -128,7 +144,7 @@ module _ (b : Bytes) (n : ℕ) (pages : n ≡ pageCount b) (valid : validLength 
     omega (arith, low),
   )
 
-  pub says-full : (row : List ℕ) → audit b ≡ goes row → (true ≡ sound b) × (row ++ drop {A = ℕ} n (1 ∷ replicate 255 0) ≡ ownerNumbers b)
+  says-full : (row : List ℕ) → audit b ≡ goes row → (true ≡ sound b) × (row ++ drop {A = ℕ} n (1 ∷ replicate 255 0) ≡ ownerNumbers b)
   says-full row e =
       let y = says-yes b row e in
       let t : AtYes b (Told b) (goes row) = subst (AtYes b (Told b)) e (audit-told b) in
@@ -136,5 +152,37 @@ module _ (b : Bytes) (n : ℕ) (pages : n ≡ pageCount b) (valid : validLength 
       (y .0, ap (λ (l : List ℕ). row ++ l) (drop-first n (omega (arith, low)) few ∙ ap (λ (m : ℕ). replicate {A = ℕ} m 0) k) ∙ y .1)
 
 -- a visit keeps the row's length
-pub visit-long : (b : Bytes) (f : ℕ) (ds row r : List ℕ) → goes r ≡ visit f b ds row → length r ≡ length row
+visit-long : (b : Bytes) (f : ℕ) (ds row r : List ℕ) → goes r ≡ visit f b ds row → length r ≡ length row
 visit-long b f ds row r e = let y : AtYes b (Yes b f ds row) (goes r) = subst (AtYes b (Yes b f ds row)) (sym e) (visit-yes b f ds row) in y .sets .long
+
+-- as the code goes: r is the answer of the visit of the whole image, and m its row
+module _ (b : Bytes) {row : List ℕ} (r : Bool) (m : List ℕ) (v : outcome r m ≡ visit (pageCount b) b (0 ∷ []) row) where
+  pub row-stops : row ≡ firstRow (pageCount b) → not r ≡ true → stops ≡ concluded b (visit (pageCount b) b (0 ∷ []) (firstRow (pageCount b)))
+  unfolding concluded
+  row-stops e h = rw (← e, ← stops-of r m v h)
+
+  pub row-long : Row b row → not r ≡ false → Row b m
+  row-long k h =
+      let l = visit-long b (pageCount b) (0 ∷ []) row m (goes-of r v h) in
+      record { each = l ∙ k .each; high = omega (arith, l, k .high) }
+
+  pub row-goes : row ≡ firstRow (pageCount b) → not r ≡ false → {a : Bool} → a ≡ isMarked b m
+      → outcome a m ≡ concluded b (visit (pageCount b) b (0 ∷ []) (firstRow (pageCount b)))
+  unfolding concluded
+  row-goes e h q = outcome-if m q ∙ rw (← e, ← goes-of r v h)
+
+-- the tests in their order: the length, the header, and the row of the visit
+module _ (b : Bytes) {r : Bool} (e : r ≡ validLength (length b)) where
+  pub no-length : not r ≡ true → (false ≡ sound b) × (replicate 256 0 ≡ ownerNumbers b)
+  no-length h = says-no b (audit-short b (untold e h))
+
+  module _ (k : not r ≡ false) {s : Bool} (f : s ≡ validHeader b) where
+    pub no-header : not s ≡ true → (false ≡ sound b) × (replicate 256 0 ≡ ownerNumbers b)
+    no-header h = says-no b (audit-headless b (told e k) (untold f h))
+
+    module _ (h : not s ≡ false) (a : Bool) (m : List ℕ) (o : outcome a m ≡ concluded b (visit (pageCount b) b (0 ∷ []) (firstRow (pageCount b)))) where
+      pub no-row : not a ≡ true → (false ≡ sound b) × (replicate 256 0 ≡ ownerNumbers b)
+      no-row q = says-no b (audit-full b (told e k) (told f h) ∙ sym (stops-of a m o q))
+
+      pub yes-row : not a ≡ false → (n : ℕ) → n ≡ pageCount b → (true ≡ sound b) × (m ++ drop {A = ℕ} n (1 ∷ replicate 255 0) ≡ ownerNumbers b)
+      yes-row q n c = says-full b n c (told e k) m (audit-full b (told e k) (told f h) ∙ sym (goes-of a o q))

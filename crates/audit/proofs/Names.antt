@@ -1,9 +1,9 @@
 -- Names of two entries: occupied ones are compared byte by byte, and a vacant one has none.
 use mathlib.Core.Path.{_≡_, refl, sym, ap, _∙_}
 use mathlib.Core.Logic.{_⊎_, inl, inr}
-use Prim.Native.Nat.{ℕ, suc, _+_, _-_, _≤_, _<_}
+use Prim.Native.Nat.{ℕ, suc, _+_, _≤_, _<_}
 use native.Mathlib.Omega.{arith}
-use mathlib.Core.Bool.{Bool, true, not, _&&_}
+use mathlib.Core.Bool.{Bool, true, false, not, _&&_}
 use mathlib.Core.List.{List, [], _∷_, _++_, flatMap, append-nil}
 use lib.ListN.{length, set, take, length-set}
 use lib.Seq.{take-suc-set, append-snoc}
@@ -19,7 +19,8 @@ use Rattle.fields.specs.declared.Entry.{Entry}
 use Rattle.fields.specs.declared.Entry.the-variants.{Vacant, File, Directory}
 use Rattle.fields.specs.Read.{entryOf}
 use Rattle.audit.specs.Lent.{position, rest, apart}
-use Rattle.audit.proofs.Claims.{rest-all, rest-next, rest-end}
+use Rattle.fields.specs.declared.Page.{Page}
+use Rattle.audit.proofs.Claims.{told, untold, rest-all, rest-next, rest-end, seen}
 
 -- what an occupied entry is named is what stands in its bytes
 pub named-same : (b : Bytes) (at : ℕ) (r : Entry) → entryOf r (isLocked b at) (nameAt b at) (dateAt b at) ≡ entryAt b at → (tagOf the-type r ≡ 1) ⊎ (tagOf the-type r ≡ 2)
@@ -35,21 +36,45 @@ named-same b at r read o e = one r o ∙ ap (λ (x : Model.Entry). sameName x e)
 -- ---- entry by entry
 
 module _ (b : Bytes) (p : ℕ) {n : ℕ} (count : n ≡ entryCount p) where
-  pub apart-next : (e : Model.Entry) (j : ℕ) → j < n → apart b e (rest p j) ≡ (not (sameName e (entryAt b (position p j))) && apart b e (rest p (j + 1)))
+  apart-next : (e : Model.Entry) (j : ℕ) → j < n → apart b e (rest p j) ≡ (not (sameName e (entryAt b (position p j))) && apart b e (rest p (j + 1)))
   unfolding apart all
   apart-next e j l = ap (all (λ later. not (sameName e (entryAt b later)))) (rest-next p j (omega arith))
 
-  pub apart-end : (e : Model.Entry) (j : ℕ) → n ≤ j → apart b e (rest p j) ≡ true
+  apart-end : (e : Model.Entry) (j : ℕ) → n ≤ j → apart b e (rest p j) ≡ true
   unfolding apart all
   apart-end e j l = ap (all (λ later. not (sameName e (entryAt b later)))) (rest-end p j (omega arith))
 
-  pub names-next : (i : ℕ) → i < n → namesApart b (rest p i) ≡ (apart b (entryAt b (position p i)) (rest p (i + 1)) && namesApart b (rest p (i + 1)))
+  names-next : (i : ℕ) → i < n → namesApart b (rest p i) ≡ (apart b (entryAt b (position p i)) (rest p (i + 1)) && namesApart b (rest p (i + 1)))
   unfolding apart namesApart
   names-next i l = ap (namesApart b) (rest-next p i (omega arith))
 
-  pub names-end : (i : ℕ) → n ≤ i → namesApart b (rest p i) ≡ true
+  names-end : (i : ℕ) → n ≤ i → namesApart b (rest p i) ≡ true
   unfolding namesApart
   names-end i l = ap (namesApart b) (rest-end p i (omega arith))
+
+-- as the code goes: v is what the whole directory gives, and r the answer for one entry
+module _ (b : Bytes) (p i : ℕ) {v : Bool} (is : v ≡ namesApart b (rest p i)) {n : ℕ} (count : n ≡ entryCount p) where
+  module _ (l : i < n) {r : Bool} (e : r ≡ apart b (entryAt b (position p i)) (rest p (i + 1))) where
+    pub names-stop : not r ≡ true → false ≡ v
+    names-stop h = sym (is ∙ names-next b p count i l ∙ rw (untold e h))
+
+    pub names-go : not r ≡ false → v ≡ namesApart b (rest p (i + 1))
+    names-go h = is ∙ names-next b p count i l ∙ rw (told e h)
+
+  pub names-done : n ≤ i → true ≡ v
+  names-done l = sym (is ∙ names-end b p count i l)
+
+-- the same of the entries behind entry i, which is compared with each
+module _ (b : Bytes) (p i j : ℕ) {v : Bool} (is : v ≡ apart b (entryAt b (position p i)) (rest p j)) {n : ℕ} (count : n ≡ entryCount p) where
+  module _ (l : j < n) {at other : ℕ} (here : at ≡ position p i) (there : other ≡ position p j) {r : Bool} (e : r ≡ sameName (entryAt b at) (entryAt b other)) where
+    pub apart-stop : r ≡ true → false ≡ v
+    apart-stop h = sym (is ∙ apart-next b p count (entryAt b (position p i)) j l ∙ rw (← here, ← there, ← e, h))
+
+    pub apart-go : r ≡ false → v ≡ apart b (entryAt b (position p i)) (rest p (j + 1))
+    apart-go h = is ∙ apart-next b p count (entryAt b (position p i)) j l ∙ rw (← here, ← there, ← e, h)
+
+  pub apart-done : n ≤ j → true ≡ v
+  apart-done l = sym (is ∙ apart-end b p count (entryAt b (position p i)) j l)
 
 -- ---- the directories among the entries
 
@@ -71,7 +96,7 @@ module _ (b : Bytes) (p found : ℕ) (list₀ : List ℕ) where
   pub pushes-first : Pushes b p found list₀ found 0 list₀
   pushes-first = record { counted = ap (λ (l : List ℕ). found + length (directoriesAt b l)) (sym (rest-all p)); kept = refl; held = ap (λ (l : List ℕ). take found list₀ ++ directoriesAt b l) (sym (rest-all p)) }
 
-  pub pushes-here : {end i n start size : ℕ} {name date : Bytes} {list : List ℕ} → n ≡ entryCount p → i < n → Model.aDirectory name date start size ≡ entryAt b (position p i)
+  pushes-here : {end i n start size : ℕ} {name date : Bytes} {list : List ℕ} → n ≡ entryCount p → i < n → Model.aDirectory name date start size ≡ entryAt b (position p i)
       → end < length list → Pushes b p found list₀ end i list → Pushes b p found list₀ (end + 1) (i + 1) (set list end start)
   pushes-here {end} {i} {n} {start} {size} {name} {date} {list} c l e u w =
       let d : directoriesAt b (rest p i) ≡ start ∷ directoriesAt b (rest p (i + 1)) =
@@ -85,14 +110,14 @@ module _ (b : Bytes) (p found : ℕ) (list₀ : List ℕ) where
             ∙ append-snoc (take end list) start (directoriesAt b (rest p (i + 1))) ∙ ap (λ (l : List ℕ). take end list ++ l) (sym d) ∙ w .held;
       }
 
-  pub pushes-room : {end i n start size : ℕ} {name date : Bytes} {list : List ℕ} → n ≡ entryCount p → i < n → Model.aDirectory name date start size ≡ entryAt b (position p i)
+  pushes-room : {end i n start size : ℕ} {name date : Bytes} {list : List ℕ} → n ≡ entryCount p → i < n → Model.aDirectory name date start size ≡ entryAt b (position p i)
       → found + length (directoriesAt b (entries p)) ≤ length list₀ → Pushes b p found list₀ end i list → end < length list
   pushes-room {end} {i} {n} {start} {size} {name} {date} {list} c l e u w =
       let d : directoriesAt b (rest p i) ≡ start ∷ directoriesAt b (rest p (i + 1)) =
       dirs-next b p i (omega arith) ∙ ap (λ (x : Model.Entry). inDirectory [] (λ s. s ∷ []) x ++ directoriesAt b (rest p (i + 1))) (sym e) in
       omega (arith, w .counted, w .kept, ap length d)
 
-  pub pushes-not : {end i n : ℕ} {list : List ℕ} → n ≡ entryCount p → i < n → inDirectory {A = List ℕ} [] (λ s. s ∷ []) (entryAt b (position p i)) ≡ []
+  pushes-not : {end i n : ℕ} {list : List ℕ} → n ≡ entryCount p → i < n → inDirectory {A = List ℕ} [] (λ s. s ∷ []) (entryAt b (position p i)) ≡ []
       → Pushes b p found list₀ end i list → Pushes b p found list₀ end (i + 1) list
   pushes-not {end} {i} {n} {list} c l e w =
       let d : directoriesAt b (rest p i) ≡ directoriesAt b (rest p (i + 1)) =
@@ -106,11 +131,24 @@ module _ (b : Bytes) (p found : ℕ) (list₀ : List ℕ) where
       (omega (arith, w .counted, ap length d), sym (append-nil (take end list)) ∙ ap (λ (l : List ℕ). take end list ++ l) (sym d) ∙ w .held)
 
 -- an entry that is no directory
-pub not-directory : (l : Bool) (n d : Bytes) (r : Entry) → (tagOf the-type r ≡ 0) ⊎ (tagOf the-type r ≡ 1) → inDirectory {A = List ℕ} [] (λ s. s ∷ []) (entryOf r l n d) ≡ []
+not-directory : (l : Bool) (n d : Bytes) (r : Entry) → (tagOf the-type r ≡ 0) ⊎ (tagOf the-type r ≡ 1) → inDirectory {A = List ℕ} [] (λ s. s ∷ []) (entryOf r l n d) ≡ []
 not-directory l n d Vacant k = refl
 not-directory l n d (File start size) k = refl
 not-directory l n d (Directory start size) k = elim k [ inl u ↦ absurd (omega arith) | inr u ↦ absurd (omega arith) ]
 
-pub not-there : (b : Bytes) (d i : ℕ) (r : Entry) {at : ℕ} → at ≡ position d i → entryOf r (isLocked b at) (nameAt b at) (dateAt b at) ≡ entryAt b at
+not-there : (b : Bytes) (d i : ℕ) (r : Entry) {at : ℕ} → at ≡ position d i → entryOf r (isLocked b at) (nameAt b at) (dateAt b at) ≡ entryAt b at
     → (tagOf the-type r ≡ 0) ⊎ (tagOf the-type r ≡ 1) → inDirectory {A = List ℕ} [] (λ s. s ∷ []) (entryAt b (position d i)) ≡ []
 not-there b d i r {at} here read k = rw (← here, ← read) (not-directory (isLocked b at) (nameAt b at) (dateAt b at) r k)
+
+-- as the code goes: r was read of entry i
+module _ (b : Bytes) (p found : ℕ) (list₀ : List ℕ) {end i n : ℕ} {list : List ℕ} (w : Pushes b p found list₀ end i list) (c : n ≡ entryCount p) (l : i < n)
+    {at : ℕ} (here : at ≡ position p i) (r : Entry) (read : entryOf r (isLocked b at) (nameAt b at) (dateAt b at) ≡ entryAt b at) where
+  module _ {start : Page} {size : ℕ} (e : r ≡ Directory start size) (u : found + length (directoriesAt b (entries p)) ≤ length list₀) where
+    pub finds-room : end < length list
+    finds-room = pushes-room b p found list₀ c l (seen b p i here read e) u w
+
+    pub pushes-one : Pushes b p found list₀ (end + 1) (i + 1) (set list end (start .0))
+    pushes-one = pushes-here b p found list₀ c l (seen b p i here read e) finds-room w
+
+  pub pushes-none : (tagOf the-type r ≡ 0) ⊎ (tagOf the-type r ≡ 1) → Pushes b p found list₀ end (i + 1) list
+  pushes-none k = pushes-not b p found list₀ c l (not-there b p i r here read k) w

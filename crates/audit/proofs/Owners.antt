@@ -62,7 +62,7 @@ pub owner-is : (b : Bytes) → Facts b → (at q : ℕ) → Mem at (reachedEntri
 unfolding owners
 owner-is b f at q m k =
     let i = f .inside q (omega (arith, occ-flatMap-le (pagesAt b) (reachedEntries b) at q m)) in
-    (i .0, i .1, go (page-owned b f q (i .0) (i .1)))
+    (i .0, i .1, go (page-owned f q (i .0) (i .1)))
   where
     has : Mem at (owners b q)
     has = mem-keep (λ x. member q (pagesAt b x)) (reachedEntries b) at m (occ-member q (pagesAt b at) k)

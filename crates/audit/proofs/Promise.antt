@@ -24,7 +24,7 @@ use Rattle.laws.proofs.Facts.{Facts, valid-sized, sound-facts}
 use Rattle.laws.proofs.Entries.{entry-within}
 use Rattle.laws.proofs.Lists.{page-owned}
 use Rattle.laws.proofs.Headline.{demand-2, demand-3}
-use Rattle.audit.specs.Owner.{Owner, nobody, entry, firstOwner, ownerOf, ownerRow}
+use Rattle.audit.specs.Owner.{Owner, nobody, firstOwner, ownerOf, ownerRow}
 use Rattle.audit.specs.Demand.{isGranted, Named, isFree, isOwned, AuditDemand}
 use Rattle.audit.proofs.Owners.{getD-countFrom, length-countFrom, keep-mem}
 use Rattle.audit.proofs.Audited.{owner-suc, past-nobody}
@@ -63,7 +63,7 @@ row-at b h p l =
 named : (b : Bytes) → Facts b → (p : ℕ) → 1 ≤ p → p < pageCount b → Named b p (ownerOf b p)
 unfolding owners
 named b f zero low high = absurd (omega arith)
-named b f (suc q) low high = subst (Named b (suc q)) (sym (owner-suc b q)) (go (page-owned b f (suc q) low high))
+named b f (suc q) low high = subst (Named b (suc q)) (sym (owner-suc b q)) (go (page-owned f (suc q) low high))
   where
     go : Model.Owned b (suc q) → Named b (suc q) (firstOwner (owners b (suc q)))
     go (Model.isFree z e) = subst (λ (l : List ℕ). Named b (suc q) (firstOwner l)) (sym e) (isFree z e)
@@ -73,7 +73,7 @@ named b f (suc q) low high = subst (Named b (suc q)) (sym (owner-suc b q)) (go (
 
 past : (b : Bytes) → T (sound b) → (p : ℕ) → pageCount b ≤ p → getD (ownerRow b) p nobody ≡ nobody
 past b h p l = elim (decLt p 256) [
-  | yes k ↦ let f = sound-facts b h in row-at b h p k ∙ past-nobody b f p l (omega (arith, valid-sized b (f .fits) .low))
+  | yes k ↦ let f = sound-facts h in row-at b h p k ∙ past-nobody b f p l (omega (arith, valid-sized b (f .fits) .low))
   | no k ↦ List·getD-eq-default (ownerRow b) nobody (omega (arith, row-long b, k))
 ]
 
@@ -116,7 +116,7 @@ audit-demand = record {
   apart = λ b at m. reached-far (pageCount b) b 0 at (member-occ at (reachedEntries b) m);
   first = λ b h. row-at b h 0 (omega arith);
   pages = λ b h p low high.
-      let f = sound-facts b h in
+      let f = sound-facts h in
       subst (Named b p) (sym (row-at b h p (omega (arith, valid-sized b (f .fits) .high)))) (named b f p low high);
   past = past;
   unsound = row-unsound;

@@ -2,7 +2,7 @@
 -- number of visits; and where all is good it says yes, since each directory that is found has claimed a page.
 use mathlib.Core.Path.{_≡_, refl, sym, ap, _∙_, subst}
 use mathlib.Core.Logic.{inl, inr}
-use Prim.Native.Nat.{ℕ, zero, suc, _+_, _-_, _≤_, _<_}
+use Prim.Native.Nat.{ℕ, zero, suc, _+_, _≤_, _<_}
 use native.Mathlib.Omega.{arith}
 use mathlib.Core.Bool.{Bool, true, false}
 use mathlib.Core.List.{List, [], _∷_, _++_, flatMap}
@@ -186,7 +186,7 @@ module _ (b : Bytes) where
   module _ (f d : ℕ) (ds row s : List ℕ) (apart : T (namesApart b (entries d))) (each : (at : ℕ) → Mem at (entries d) → T (goodEntry b (entryAt b at)))
       (o : Ownable (claimed d) row) (c : Sets (Among b (entries d)) (claimed d) row s) (r : List ℕ) (y : Yes f (ds ++ children d) s r) where
     later : (x : ℕ) → Mem x ds → SameDirectory b b f (suc f) x
-    later x m = depth f (suc f) b x (y .good x (omega (arith, occ-append x ds (children d)))) (omega arith)
+    later x m = depth (y .good x (omega (arith, occ-append x ds (children d)))) (omega arith)
 
     own-later : flatMap (owned (suc f) b) ds ≡ flatMap (owned f b) ds
     own-later = flatMap-same (owned (suc f) b) (owned f b) ds (λ x m. later x m .owns)
@@ -315,7 +315,7 @@ module _ (b : Bytes) where
       let cs = children d in
       let below : (c : ℕ) → Mem c cs → T (goodDirectory e b c) = λ c m.
       let v = in-directory (entries d) c m in in-page (entryAt b (v .0)) (goodDirectory e b) (h .below (v .0) (v .1)) c (v .2) in
-      let same : (c : ℕ) → Mem c cs → SameDirectory b b e (suc e) c = λ c m. depth e (suc e) b c (below c m) (omega arith) in
+      let same : (c : ℕ) → Mem c cs → SameDirectory b b e (suc e) c = λ c m. depth (below c m) (omega arith) in
       let own-same : flatMap (owned (suc e) b) cs ≡ flatMap (owned e b) cs = flatMap-same (owned (suc e) b) (owned e b) cs (λ c m. same c m .owns) in
       let rest : List ℕ = flatMap (owned (suc e) b) (ds ++ cs) in
       let counts : (q : ℕ) → occ q (claimed d ++ rest) ≡ occ q (flatMap (owned (suc e) b) (d ∷ ds)) = λ q. omega (

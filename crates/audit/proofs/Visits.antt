@@ -4,7 +4,7 @@ use mathlib.Core.Path.{_≡_, refl, sym, ap, _∙_, subst}
 use mathlib.Core.Logic.{inl, inr}
 use Prim.Native.Nat.{ℕ, zero, suc, _+_, _-_, _≤_, _<_}
 use native.Mathlib.Omega.{arith}
-use mathlib.Core.Bool.{Bool, true, false, not, _&&_}
+use mathlib.Core.Bool.{Bool, true, false, _&&_}
 use mathlib.Core.List.{List, [], _∷_, _++_, flatMap}
 use lib.ListN.{length, getD, set, length-set}
 use lib.Seq.{getD-set-same, getD-set-other}
@@ -15,10 +15,9 @@ use Rattle.volume.proofs.Occ.{hit-refl, occ, Mem, occ-append, mem-head, mem-tai
 use Rattle.volume.proofs.Tests.{and-both, both-and, eq-eqb}
 use Rattle.model.specs.Layout.{pagesFor, link}
 use Rattle.model.specs.Name.{legalName}
-use Rattle.model.specs.Entry.{entries, Entry, vacant, aFile, aDirectory, entryAt}
+use Rattle.model.specs.Entry.{Entry, vacant, aFile, aDirectory, entryAt}
 use Rattle.model.specs.Sound.{pagesOf, pagesAt, goodEntry}
-use Rattle.laws.proofs.Owns.{own}
-use Rattle.audit.specs.Visit.{Visited, stops, goes, thenVisit, claim, claimChain, claimEntry, claimEntries, visit}
+use Rattle.audit.specs.Visit.{Visited, stops, goes, thenVisit, claim, claimChain, claimEntry, claimEntries}
 
 -- 1 if the page has an owner, and 0 if not
 abbrev pub used : List ℕ → ℕ → ℕ

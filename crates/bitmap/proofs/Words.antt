@@ -1,13 +1,13 @@
 -- A word of the bitmap: a bit of a number in two parts is a bit of one of them, so bytes make a word in order; each bit is a zero or a one, so
 -- zeros and ones together are as many as the bits; and the zeros of a complement end at the lowest zero of the word.
 use mathlib.Core.Path.{_≡_, refl, sym, ap, _∙_, subst}
-use Prim.Native.Nat.{ℕ, zero, suc, _+_, _-_, _*_, _/_, _%_, _^_, _<_}
-use native.Mathlib.Nat.{pow-suc, mod-lt, mod-one, mul-comm, zero-lt-suc, zero-div, add-zero, add-suc, add-comm}
+use Prim.Native.Nat.{ℕ, zero, suc, _+_, _-_, _*_, _/_, _%_, _^_, _≤_, _<_}
+use native.Mathlib.Nat.{pow-suc, mod-lt, mod-eq-of-lt, mod-one, mul-comm, zero-lt-suc, zero-div, add-zero, add-suc, add-comm}
 use native.Mathlib.Numerals.{add-one}
 use native.Mathlib.Omega.{arith}
 use native.Mathlib.Decide.{decLt}
 use lib.Pow.{shr-shr, high, low, field, mod-mod-pow, mod-pow-add, pow-pos}
-use lib.Count.{ones, onesIn, ones-cat, trailingZeros, under}
+use lib.Count.{ones, onesIn, ones-cat, ones-le, trailingZeros, under}
 use Rattle.volume.specs.Bytes.{Bytes, bit, byteAt}
 use Rattle.volume.specs.Geometry.{Geometry, pageBit, zeroBits}
 use Rattle.volume.proofs.Bits.{bit-zero, bit-suc}
@@ -60,6 +60,11 @@ holds-join {b} {from} {m} {x} {y} q h lower upper = record { each = λ j l. ap (
           ap (λ (k : ℕ). bit k (y * 2 ^ (8 * q) + x)) e ∙ bit-of-high (8 * q) (j - 8 * q) y x h ∙ upper .each (j - 8 * q) (omega (arith, c))
           ∙ ap (pageBit version1 b) p
     ]
+
+pub holds-bytes : {b : Bytes} {from x y : ℕ} → x ≡ byteAt b (4 + from) → x < 256 → y ≡ byteAt b (5 + from) → Holds b from 16 (x + 256 * y)
+holds-bytes {b} {from} low h high =
+    let above : 5 + from ≡ 4 + (from + 1) = omega arith in
+    holds-join 1 h (holds-byte low) (holds-byte (high ∙ ap (byteAt b) above))
 
 -- a word of k bytes that is 0
 pub holds-none : {b : Bytes} {from w : ℕ} (k : ℕ) → Holds b from (8 * k) w → w ≡ 0 → Clear b from k
@@ -121,3 +126,16 @@ ends zero w h = record { below = λ j l. absurd (omega arith); here = λ l. absu
 ends (suc m) w h =
     subst (λ (t : ℕ). Ends (suc m) w (under (((2 ^ suc m - 1) - w) % 2) (trailingZeros m t))) (sym (complement-half m w h))
     (ends-under w (ends m (w / 2) (omega (arith, pow-suc 2 m))) (((2 ^ suc m - 1) - w) % 2) (complement-low m w h))
+
+-- ---- the ones of the lowest bits of a word
+
+-- x is the weight of bit k, by which the remainder was taken, and r counts its ones
+module _ (word k x r : ℕ) (w : x ≡ 2 ^ k) (e : r ≡ ones (word % x)) where
+  pub low-most : r ≤ k
+  low-most = let same = ap (λ (y : ℕ). ones (word % y)) w in omega (arith, e, same, ones-le k (word % 2 ^ k) (mod-lt word (pow-pos k)))
+
+  pub low-zeros : k - r + ones (word % 2 ^ k) ≡ k
+  low-zeros = let same = ap (λ (y : ℕ). ones (word % y)) w in omega (arith, e, same, low-most)
+
+pub all-zeros : (word k r : ℕ) → word < 2 ^ 64 → k ≡ 64 → r ≡ ones word → r ≤ 64 → 64 - r + ones (word % 2 ^ k) ≡ k
+all-zeros word k r fits e count most = rw e (omega (arith, count, ap ones (mod-eq-of-lt fits)))

@@ -19,7 +19,8 @@ use Rattle.chains.specs.Asked.{Growing}
 abbrev added : (n joint : ℕ) → Bytes → Bytes
 added n joint b = let p = On.lowestFree version1 n b in set (On.taken version1 p b) joint p
 
-pub added-stored : (n joint p : ℕ) (b r : Bytes) → p ≡ On.lowestFree version1 n b → r ≡ On.taken version1 p b → set r joint p ≡ On.grown version1 n 1 (byte joint) b
+pub added-stored : (n joint p : ℕ) (b r : Bytes) → p ≡ On.lowestFree version1 n b → r ≡ On.taken version1 p b
+    → set r joint p ≡ On.grown version1 n 1 (byte joint) b
 unfolding On.grown
 added-stored n joint p b r ep er = ap (λ (d : Bytes). set d joint p) er ∙ ap (λ (q : ℕ). set (On.taken version1 q b) joint q) ep
 
@@ -44,7 +45,7 @@ module _ {n k joint : ℕ} {b : Bytes} (g : Growing n (suc k) joint b) where
   growing-next : (length (added n joint b) ≡ length b) × Growing n k (256 * On.lowestFree version1 n b) (added n joint b)
   growing-next =
       let law = version1-lawful n (omega (arith, g .room .held .page)) (g .few) in
-      let t = room-next version1 home n law k (byte joint) (g .own) b (g .room) in
+      let t = room-next law k (byte joint) (g .own) b (g .room) in
       (t .3 .size, record { few = g .few; counted = omega (arith, t .3 .count, g .counted); own = On.lowestFree version1 n b; room = t .4 })
 
 -- ---- the chain

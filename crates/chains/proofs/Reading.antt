@@ -31,7 +31,8 @@ module _ (b d : Bytes) (p at done count : ℕ) where
       ∙ ap (λ (w : Bytes). put done w d) (take-nil (count - done)) ∙ splice-nil d done)
 
   -- the bytes of the image from f to e, put there
-  pub some-read : p < pageCount b → at ≤ room → (f e : ℕ) → f ≡ On.content version1 p + at → e ≡ f + min (room - at) (count - done) → put done (take (e - f) (drop f b)) d ≡ onPage
+  pub some-read : p < pageCount b → at ≤ room → (f e : ℕ) → f ≡ On.content version1 p + at → e ≡ f + min (room - at) (count - done)
+      → put done (take (e - f) (drop f b)) d ≡ onPage
   some-read h k f e hf he = ap (λ (w : Bytes). put done w d) (ap (λ (i : ℕ). take i (drop f b)) many ∙ ap (λ (i : ℕ). take m (drop i b)) hf
       ∙ sym (part-part (On.content version1 p) room at m b (omega arith)) ∙ take-min (count - done) m (drop at (On.contentOn version1 b p)) rest)
     where
@@ -95,7 +96,8 @@ module _ {b : Bytes} {k p₀ from count : ℕ} {d₀ : Bytes} where
 
         step : wanted b (k - (i + 1)) p′ at′ done′ count d′ ≡ wanted b (k - i) p at done count d
         step =
-            put-two count done at room done′ at′ (On.contentOn version1 b p) (content b (k - (i + 1)) p′) d d′ full (omega (arith, r .fits, r .size)) ed edone eat
+            put-two count done at room done′ at′ (On.contentOn version1 b p) (content b (k - (i + 1)) p′)
+            d d′ full (omega (arith, r .fits, r .size)) ed edone eat
             ∙ ap (λ (w : Bytes). put done (take (count - done) (drop at w)) d) (sym cut)
 
     pub reading-last : k ≤ i → d ≡ put 0 (take count (drop from (content b k p₀))) d₀

@@ -71,7 +71,8 @@ module _ (first : ℕ → ℕ) (r : ℕ) where
     | no l ↦ sym (ap length (none-put (first p + at) r at v b (omega arith)))
   ]
 
-  pub piece-out : (p at : ℕ) (v b : Bytes) (i : ℕ) → first p + r ≤ length b → (first p ≤ i → first p + r ≤ i) → byteAt (put (first p + at) (take (r - at) v) b) i ≡ byteAt b i
+  pub piece-out : (p at : ℕ) (v b : Bytes) (i : ℕ) → first p + r ≤ length b → (first p ≤ i → first p + r ≤ i)
+      → byteAt (put (first p + at) (take (r - at) v) b) i ≡ byteAt b i
   piece-out p at v b i h o = elim (decLt at r) [
     | yes l ↦ put-out (first p + at) (take (r - at) v) b (omega (arith, length-take (r - at) v)) i (λ u. omega (arith, length-take (r - at) v, o (omega arith)))
     | no l ↦ sym (ap (λ (d : Bytes). byteAt d i) (none-put (first p + at) r at v b (omega arith)))

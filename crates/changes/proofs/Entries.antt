@@ -67,4 +67,4 @@ module _ (b : Bytes) (f : Facts b) (ps : List ℕ) (o : Owned b ps) where
       let n = pageCount b in
       let mine = sum-occ ps n (under-of-mem n ps (λ q m. o .inside q m .1)) in
       let all = sum-occ (ownedPages b) n (under-of-mem n (ownedPages b) (λ q m. f .inside q m .1)) in
-      omega (arith, mine, all, sum-mono (λ q. occ q ps) (λ q. occ q (ownedPages b)) n (λ q l. own-inside q), count-owned b f)
+      omega (arith, mine, all, sum-mono (λ q. occ q ps) (λ q. occ q (ownedPages b)) n (λ q l. own-inside q), count-owned f)

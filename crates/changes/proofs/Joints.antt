@@ -16,26 +16,27 @@ module _ (b : Bytes) (start k : ℕ) where
   unfolding chain jointOf
   joint-none entry e = sym (ap (λ (m : ℕ). jointOf version1 entry (chain (link b) m start)) e)
 
-  pub joint-last : (entry : Field) {p : ℕ} → 0 < k → p ≡ beyond (link b) (k - 1) start → byte (pageSize * p) ≡ jointOf version1 entry (chain (link b) k start)
+  pub joint-last : (entry : Field) {p r : ℕ} → (k ≡ 0 → ⊥) → p ≡ beyond (link b) (k - 1) start → r ≡ pageSize * p → byte r ≡ jointOf version1 entry (chain (link b) k start)
   unfolding chain jointOf
-  joint-last entry h e =
+  joint-last entry h e is =
       let one-more : k ≡ suc (k - 1) = omega arith in
-      ap (λ (q : ℕ). byte (pageSize * q)) (e ∙ sym (chain-last (link b) (k - 1) start))
+      ap byte is ∙ ap (λ (q : ℕ). byte (pageSize * q)) (e ∙ sym (chain-last (link b) (k - 1) start))
       ∙ sym (ap (λ (m : ℕ). jointOf version1 entry (chain (link b) m start)) one-more)
 
-  -- the page with an index lies in the image with those before it
+  -- the last page lies in the image with those before it
   module _ (inside : Inside b k start) where
     parts : (i q : ℕ) → i ≤ k → occ q (chain (link b) k start) ≡ occ q (chain (link b) i start) + occ q (chain (link b) (k - i) (beyond (link b) i start))
     parts i q h =
         let e : k ≡ i + (k - i) = omega arith in
         ap (λ (m : ℕ). occ q (chain (link b) m start)) e ∙ ap (occ q) (chain-append (link b) i (k - i) start) ∙ occ-append q (chain (link b) i start) (chain (link b) (k - i) (beyond (link b) i start))
 
-    pub inside-before : (i : ℕ) → i < k → Inside b i start
-    inside-before i h q l = omega (arith, inside q l, parts i q (omega arith))
+    pub inside-before : (k ≡ 0 → ⊥) → Inside b (k - 1) start
+    inside-before h q l = omega (arith, inside q l, parts (k - 1) q (omega arith))
 
-    pub inside-at : (i : ℕ) {p : ℕ} → i < k → p ≡ beyond (link b) i start → p < pageCount b
+    pub inside-at : {p : ℕ} → (k ≡ 0 → ⊥) → p ≡ beyond (link b) (k - 1) start → p < pageCount b
     unfolding chain
-    inside-at i {p} h e =
+    inside-at {p} h e =
+        let i : ℕ = k - 1 in
         let q : ℕ = beyond (link b) i start in
         let m : k - i ≡ suc (k - i - 1) = omega arith in
         let here : Mem q (chain (link b) (k - i) q) = subst (λ (n : ℕ). Mem q (chain (link b) n q)) (sym m) (mem-head q (chain (link b) (k - i - 1) (link b q))) in

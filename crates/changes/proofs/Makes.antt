@@ -41,17 +41,14 @@ module _ {at fl z k : ℕ} {name date b : Bytes} (m : Making at fl z k name date
 
 -- ---- on a sound image, in the lowest vacant entry of the directory that some names lead to
 
-pub parent-inside : (b : Bytes) → Facts b → (ns : List Name) (above : Parent b ns) → above .t < pageCount b
-parent-inside b f ns above = slot b f ns (suc (above .e)) (above .t) (entriesStart (above .t) + 32 * 0) (above .leads) (first-entry (above .t)) .page
-
 pub making : (b : Bytes) → Facts b → (ns : List Name) (above : Parent b ns) (at : ℕ) → first (vacancy b) (entries (above .t)) ≡ some at
     → (fl z k : ℕ) (name date : Bytes) → length name ≡ 16 → length date ≡ 8 → z < 65536 → k ≤ zeroBits b (pageCount b) → Making at fl z k name date b
 making b f ns above at found fl z k name date ln ld hz hk =
     let t = above .t in
     let w : Bytes = newEntry fl name 0 z date in
     let l : length w ≡ 32 = new-length fl name z date ln ld in
-    let s : Slot b t at = slot b f ns (suc (above .e)) t at (above .leads) (first-found (vacancy b) (entries t) at found .0) in
-    let u = held b f t at s 0 32 (omega arith) in
+    let s : Slot b t at = slot f ns (suc (above .e)) t at (above .leads) (first-found (vacancy b) (entries t) at found .0) in
+    let u = held f s 0 32 (omega arith) in
     let h : Held version1 home (pageCount b) at (length w) t b = record {
       inside = omega (arith, s .inside);
       bytes = λ i x y. u .bytes i (omega arith) (omega arith);
@@ -64,19 +61,13 @@ making b f ns above at found fl z k name date ln ld hz hk =
       dated = ld;
       sized = hz;
       growing = record {
-        few = size b f .high;
+        few = size f .high;
         counted = omega (arith, edited-is version1 home (pageCount b) at t w b h .count, f .counted);
         own = t;
-        room = made-room version1 home (pageCount b) (lawful b f) b at t w (byte (at + 17)) k (size b f .whole) (header-marked b f) (omega (arith, size b f .low)) h (omega arith) (omega arith)
+        room = made-room (lawful f) b at t w (byte (at + 17)) k (size f .whole) (header-marked f) (omega (arith, size f .low)) h (omega arith) (omega arith)
             (put-in at w b (h .inside) 17 (omega arith) ∙ new-start fl name z date ln ld) hk;
       };
     }
 
 pub place-making : (b : Bytes) → Facts b → (ns : List Name) (name date : Bytes) (k : ℕ) (w : Place b ns name date k) (fl z : ℕ) → z < 65536 → Making (w .at) fl z k name date b
 place-making b f ns name date k w fl z hz = making b f ns (w .above) (w .at) (w .found) fl z k name date (w .long) (w .dated) hz (w .space)
-
--- what a make makes of the bytes
-pub entry-made : (b : Bytes) (ns : List Name) (n : Name) (above : Parent b ns) (at : ℕ) → first (vacancy b) (entries (above .t)) ≡ some at → (fl z k : ℕ) (date : Bytes)
-    → On.grown version1 (pageCount b) k (byte (at + 17)) (put at (newEntry fl (n .bytes) 0 z date) b) ≡ made fl z k (below ns n) date b
-unfolding lowestVacant
-entry-made b ns n above at found fl z k date = sym (made-position b ns n date fl z k above ∙ rw found)

@@ -28,8 +28,8 @@ use Rattle.changes.proofs.Entries.{entry-position, own-few}
 owned-returned : (b : Bytes) → Facts b → (k p : ℕ) → Owned b (chain (link b) k p) → Returned b k p
 owned-returned b f k p o = record {
   inside = under-of-mem (pageCount b) (chain (link b) k p) (λ q m. o .inside q m .1);
-  few = size b f .high;
-  counted = omega (arith, own-few b f (chain (link b) k p) o, chain-length (link b) k p, f .counted, size b f .high);
+  few = size f .high;
+  counted = omega (arith, own-few b f (chain (link b) k p) o, chain-length (link b) k p, f .counted, size f .high);
 }
 
 module _ (b : Bytes) (f : Facts b) (p : Path) (at begins : ℕ) (x : EntryOf b p at begins) {name date : Bytes} {start k : ℕ} where
@@ -40,7 +40,7 @@ module _ (b : Bytes) (f : Facts b) (p : Path) (at begins : ℕ) (x : EntryOf b p
   unfolding own
   directory-owned is =
       let l = leads b f (x .ns) (x .page) (x .reached) in
-      let o : Owned b (start ∷ owned (l .0) b start) = subst (λ (z : Entry). Owned b (own (l .0) b z)) is (entry-owned b f (x .ns) (l .0) (x .page) at (l .1) (among b f p at begins x)) in
+      let o : Owned b (start ∷ owned (l .0) b start) = subst (λ (z : Entry). Owned b (own (l .0) b z)) is (entry-owned f (x .ns) (l .0) (x .page) at (l .1) (among b f p at begins x)) in
       record {
         inside = λ q m. elim (mem-cons q start [] m) [
           | inl e ↦ o .inside q (subst (λ (y : ℕ). Mem y (start ∷ owned (l .0) b start)) (sym e) (mem-head start (owned (l .0) b start)))

@@ -14,7 +14,9 @@ use Rattle.model.specs.Entry.{Entry as Model, vacant, aFile, aDirectory, entrie
 use Rattle.model.specs.Tree.{Row, held}
 use Rattle.model.specs.Image.{entryRow, rowOf, rowAt}
 use Rattle.model.specs.Effect.{isVacant}
+use Rattle.fields.specs.declared.Page.{Page}
 use Rattle.fields.specs.declared.Entry.{Entry}
+use Rattle.fields.specs.declared.Entry.the-variants.{Vacant, File, Directory}
 use Rattle.fields.specs.Read.{entryOf}
 use Rattle.fields.proofs.Searches.{entriesFrom, all-entries, entry-then}
 
@@ -22,8 +24,19 @@ use Rattle.fields.proofs.Searches.{entriesFrom, all-entries, entry-then}
 abbrev pub vacancy : Bytes → ℕ → Bool
 vacancy b at = isVacant (entryAt b at)
 
-pub vacancy-read : (b : Bytes) (at : ℕ) (r s : Entry) → entryOf r (isLocked b at) (nameAt b at) (dateAt b at) ≡ entryAt b at → r ≡ s → isVacant (entryOf s (isLocked b at) (nameAt b at) (dateAt b at)) ≡ vacancy b at
-vacancy-read b at r s read is = ap (λ (x : Entry). isVacant (entryOf x (isLocked b at) (nameAt b at) (dateAt b at))) (sym is) ∙ ap isVacant read
+-- what was read there is r
+module _ (b : Bytes) (at : ℕ) (r : Entry) (read : entryOf r (isLocked b at) (nameAt b at) (dateAt b at) ≡ entryAt b at) where
+  pub vacant-read : r ≡ Vacant → true ≡ vacancy b at
+  unfolding isVacant
+  vacant-read e = rw (← read, e)
+
+  pub file-read : (start : Page) (size : ℕ) → r ≡ File start size → false ≡ vacancy b at
+  unfolding isVacant
+  file-read start size e = rw (← read, e)
+
+  pub directory-read : (start : Page) (size : ℕ) → r ≡ Directory start size → false ≡ vacancy b at
+  unfolding isVacant
+  directory-read start size e = rw (← read, e)
 
 pub first-entry : (p : ℕ) → Mem (entriesStart p + 32 * 0) (entries p)
 first-entry p = subst (Mem (entriesStart p + 32 * 0)) (sym (all-entries p ∙ entry-then p 0 (some-entries (eqb p 0)))) (mem-head (entriesStart p + 32 * 0) (entriesFrom p (0 + 1)))
@@ -47,9 +60,3 @@ row-holds b g (x ∷ xs) = go (entryAt b x) (row-holds b g xs)
 pub directory-holds : (d : ℕ) (b : Bytes) (p : ℕ) → ltb 0 (held (rowAt (suc d) b p)) ≡ not (all (vacancy b) (entries p))
 unfolding rowAt
 directory-holds d b p = row-holds b (rowAt d b) (entries p)
-
-pub holds-nothing : (d : ℕ) (b : Bytes) (p : ℕ) → (held (rowAt (suc d) b p) ≡ 0) ↔ (all (vacancy b) (entries p) ≡ true)
-holds-nothing d b p =
-    let h : ℕ = held (rowAt (suc d) b p) in
-    let e = directory-holds d b p in
-    (λ z. not-false (all (vacancy b) (entries p)) (sym e ∙ le-ltb 0 h (omega arith)), λ t. omega (arith, ltb-false 0 h (e ∙ ap not t)))

@@ -47,7 +47,7 @@ module _ (b : Bytes) (f : Facts b) (p : Path) (at begins : ℕ) (x : EntryOf b p
   unfolding own pagesOf
   apart =
       let l = leads b f (x .ns) (x .page) (x .reached) in
-      sym (ap (λ (y : Entry). occ (x .page) (own (l .0) b y)) is-read) ∙ entry-apart b f (x .ns) (l .0) (x .page) at (l .1) (among b f p at begins x)
+      sym (ap (λ (y : Entry). occ (x .page) (own (l .0) b y)) is-read) ∙ entry-apart f (x .ns) (l .0) (x .page) at (l .1) (among b f p at begins x)
 
   ends : beyond (link b) (pagesFor k) (startAt b at) ≡ 0
   unfolding goodEntry
@@ -57,9 +57,9 @@ module _ (b : Bytes) (f : Facts b) (p : Path) (at begins : ℕ) (x : EntryOf b p
 
   chained : Chained version1 home (pageCount b) b (byte (at + 17)) (x .page) (pagesFor k)
   chained = record {
-    size = size b f .whole;
-    aside = header-marked b f;
-    held = held b f (x .page) at (entry-slot b f p at begins x) 17 1 (omega arith);
+    size = size f .whole;
+    aside = header-marked f;
+    held = held f (entry-slot b f p at begins x) 17 1 (omega arith);
     apart = apart;
     pages = owns .inside;
     once = owns .once;
@@ -68,14 +68,14 @@ module _ (b : Bytes) (f : Facts b) (p : Path) (at begins : ℕ) (x : EntryOf b p
 
   beside : Beside version1 home (pageCount b) (byte (at + 17)) (x .page) (at + 18) 2 b
   beside =
-      let h = held b f (x .page) at (entry-slot b f p at begins x) 18 2 (omega arith) in
+      let h = held f (entry-slot b f p at begins x) 18 2 (omega arith) in
       record { inside = h .inside; bytes = λ i l u. (h .bytes i l u .0, h .bytes i l u .1, λ y. omega arith) }
 
   module _ (from : ℕ) (v : Bytes) (space : pagesFor (max k (from + length v)) - pagesFor k ≤ zeroBits b (pageCount b)) where
     few : max k (from + length v) < 65536
     few =
         let s : ℕ = max k (from + length v) in
-        omega (arith, fill-up s, pages-rise k s (omega arith), own-few b f ps owns, chain-length (link b) (pagesFor k) (startAt b at), size b f .high)
+        omega (arith, fill-up s, pages-rise k s (omega arith), own-few b f ps owns, chain-length (link b) (pagesFor k) (startAt b at), size f .high)
 
     pub writing : Writing at start k from v b
     writing = record {
@@ -84,7 +84,7 @@ module _ (b : Bytes) (f : Facts b) (p : Path) (at begins : ℕ) (x : EntryOf b p
       own = x .page;
       chained = chained;
       beside = beside;
-      few = size b f .high;
+      few = size f .high;
       counted = f .counted;
       space = space;
       fits = omega (arith, few);

@@ -69,16 +69,16 @@ module _ {at start size from : ℕ} {v b : Bytes} (w : Writing at start size fro
   pages : chain (link b₂) (pagesFor s) (byteAt b₂ (at + 17)) ≡ chainAt version1 b entry j ++ On.gained version1 N k b
   pages =
       ap (λ (m : ℕ). chain (link b₂) m (byteAt b₂ (at + 17))) (sym many)
-      ∙ written-pages version1 home N law b entry (w .own) j k (at + 18) (le16 s) (w .chained) (w .beside) (w .space)
+      ∙ written-pages law b entry (w .own) j k (at + 18) (le16 s) (w .chained) (w .beside) (w .space)
 
   length-kept : length b₂ ≡ length b
   length-kept =
-      let e : length b₁ ≡ length b = chain-grown version1 home N law b entry (w .own) j k (w .chained) (w .space) .size in
+      let e : length b₁ ≡ length b = chain-grown law b entry (w .own) j k (w .chained) (w .space) .size in
       put-length (at + 18) (le16 s) b₁ (omega (arith, w .beside .inside)) ∙ e
 
   spread-inside : Inside b₂ (pagesFor s) (byteAt b₂ (at + 17))
   spread-inside =
-      let g = gained-is version1 home N law k b (w .chained .size) (w .chained .aside) (w .space) in
+      let g = gained-is law k b (w .chained .size) (w .chained .aside) (w .space) in
       let u : Under N (chainAt version1 b entry j ++ On.gained version1 N k b) = under-append N (chainAt version1 b entry j) (On.gained version1 N k b) old-under (gained-under version1 N g) in
       λ q l. subst (Under N) (sym pages) u q (omega (arith, length-kept, l))
 
@@ -118,7 +118,7 @@ module _ {at start size from : ℕ} {v b : Bytes} (w : Writing at start size fro
             few = w .few;
             counted = omega (arith, w .counted, w .space);
             own = jointPage version1 b entry (w .own) j;
-            room = subst (λ (f : Field). Room version1 home N k f (jointPage version1 b entry (w .own) j) b) (sym joint) (chain-room version1 home N law b entry (w .own) j k (w .chained) (w .space));
+            room = subst (λ (f : Field). Room version1 home N k f (jointPage version1 b entry (w .own) j) b) (sym joint) (chain-room law b entry (w .own) j k (w .chained) (w .space));
           } in
           subst (λ (i : ℕ). Growing i (x - h) r b) (sym en) (subst (λ (m : ℕ). Growing N m r b) (sym more) g)
 

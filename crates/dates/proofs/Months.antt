@@ -4,13 +4,17 @@ use mathlib.Core.Bool.{Bool, true, false}
 use mathlib.Core.Logic.{_⊎_, inl, inr}
 use Prim.Native.Nat.{ℕ}
 use borrow.Author.Tests.{eq-eqb, ne-eqb}
-use Rattle.volume.specs.Bytes.{if_then_else_}
 use Rattle.volume.specs.Lists.{any}
 use Rattle.model.specs.Date.{isLeap, daysIn}
 
-pub february : (year month : ℕ) → month ≡ 2 → (leap : Bool) → leap ≡ isLeap year → (if leap then 29 else 28) ≡ daysIn year month
-unfolding daysIn
-february year month e leap h = rw (h, e)
+module _ (year month : ℕ) (e : month ≡ 2) (leap : Bool) (h : leap ≡ isLeap year) where
+  pub leap-february : leap ≡ true → 29 ≡ daysIn year month
+  unfolding daysIn
+  leap-february l = rw (e, ← h, l)
+
+  pub other-february : leap ≡ false → 28 ≡ daysIn year month
+  unfolding daysIn
+  other-february l = rw (e, ← h, l)
 
 pub short : (year month : ℕ) → (month ≡ 4) ⊎ ((month ≡ 6) ⊎ ((month ≡ 9) ⊎ (month ≡ 11))) → 30 ≡ daysIn year month
 unfolding daysIn any

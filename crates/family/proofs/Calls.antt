@@ -3,13 +3,12 @@
 use mathlib.Core.Path.{_≡_, refl, sym, ap, _∙_, subst}
 use mathlib.Core.Logic.{_⊎_, inl, inr}
 use Prim.Native.Nat.{_+_}
-use native.Mathlib.Omega.{arith}
 use mathlib.Core.Bool.{not}
 use mathlib.Core.List.{List, [], _∷_, _++_, append-assoc}
 use lib.Dec.{T, ltb, leb·suc-zero}
 use Rattle.volume.specs.Bytes.{Bytes}
 use Rattle.model.specs.Tree.{Row, Tree, needs, freeNumber, lookup}
-use Rattle.model.specs.Path.{Name, Path, below, pathOf, isNoPath, parents, names}
+use Rattle.model.specs.Path.{Name, Path, pathOf, isNoPath, parents, names}
 use Rattle.model.specs.Walk.{Walked, arrived, walk, nodeNamed, inWalked, walkTo, changeAt}
 use Rattle.model.specs.Call.{Call, find, list, read, makeFile, makeDirectory, write, removeFile, removeDirectory, setLock, bufferBefore, Refusal, refusal, refused, granted}
 use Rattle.model.specs.Refusal.{Line, pathLine, makeLines, earlier, later, wanted, refusals, settle, walkedDirectory}

@@ -35,8 +35,8 @@ module _ (family : Bytes) where
       → freeCount (after c b) + needs s′ ≡ freeCount b + needs s
   count-moved c b h s s′ e =
       let a = as-tree c b h in
-      let before = free-sum b (sound-facts b h) in
-      let later = free-sum (after c b) (sound-facts (after c b) (a .isSound)) in
+      let before = free-sum (sound-facts h) in
+      let later = free-sum (sound-facts (a .isSound)) in
       let tree = ap (λ (t : Tree). needs (t .root)) (a .means) in
       let long = ap (λ (n : ℕ). n / pageSize) (length-kept c b) in
       omega (arith, before, later, tree, long, e)
@@ -92,7 +92,7 @@ pub works-alike : WorksAlike
 works-alike family row b₁ b₂ h₁ h₂ free cs l rs₁ rs₂ after₁ after₂ run₁ run₂ =
     let r = all-alike family (Works family) (λ x y. freeCount x ≡ freeCount y)
     (λ c k s x₁ x₂ k₁ k₂ q.
-    let number = free-number x₁ (sound-facts x₁ (k₁ .isSound)) ∙ q ∙ sym (free-number x₂ (sound-facts x₂ (k₂ .isSound))) in
+    let number = free-number (sound-facts (k₁ .isSound)) ∙ q ∙ sym (free-number (sound-facts (k₂ .isSound))) in
     let a = step family c s x₁ x₂ k₁ k₂ (work family (k₁ .isPath) s (treeOf x₁) (treeOf x₂) (k₁ .leads) (k₂ .leads) number c k) in
     (a, a .free q))
     cs l row b₁ b₂ h₁ h₂ free rs₁ rs₂ after₁ after₂ run₁ run₂ in

@@ -2,15 +2,20 @@
 use mathlib.Core.Path.{_≡_, refl, sym, ap, subst, _∙_}
 use Prim.Native.Nat.{ℕ, zero, suc, _%_, _≤_}
 use native.Mathlib.Omega.{arith}
-use mathlib.Core.Bool.{true}
+use mathlib.Core.Bool.{Bool, true, false, not}
 use mathlib.Core.List.{List, [], _∷_}
 use lib.ListN.{length, take, replicate, length-replicate}
 use lib.Dec.{T, eqb, leb, leb→le}
 use Rattle.volume.specs.Bytes.{Bytes}
 use Rattle.volume.proofs.Tests.{conditions-cons}
-use Rattle.model.specs.Layout.{pageCount, validLength}
-use Rattle.model.specs.Judge.{Judged, thenJudge, judgeDirectory, judgeRest, judge}
+use Rattle.model.specs.Layout.{pageCount, validLength, validHeader, freeCount}
+use Rattle.model.specs.Judge.{Judged, fault, thenJudge, judgeDirectory, judgeRest, judgeWalk, judge}
+use Rattle.judge.specs.declared.Check.{Check}
+use Rattle.judge.specs.declared.Check.the-variants.{Clean, Faulty}
+use Rattle.judge.specs.declared.Fault.{Fault}
+use Rattle.judge.specs.Answers.{faultOf, outcome, badLength, badHeader, unsound, isSound, concluded, judgedAs}
 use Rattle.judge.specs.Walk.{Marked, zeros, unowned}
+use Rattle.judge.proofs.Marks.{told, untold, clean-of, fault-of}
 
 -- ---- the length
 
@@ -21,6 +26,9 @@ allowed n e =
     let y = conditions-cons (leb 2048 n) (leb n 65536 ∷ []) (x .1) in
     let z = conditions-cons (leb n 65536) [] (y .1) in
     (leb→le 2048 n (y .0), leb→le n 65536 (z .0))
+
+pub long-enough : {k n : ℕ} {valid : Bool} → valid ≡ validLength n → not valid ≡ false → k ≤ 2048 → k ≤ n
+long-enough {n = n} long t h = let e = allowed n (told long t) in omega arith
 
 -- ---- the marks at the beginning
 
@@ -63,7 +71,33 @@ judge-root b m j low start post = go (pageCount b) low start
     go zero l e = absurd (omega arith)
     go (suc n) l e = let u = ap unowned e ∙ unowned-all n in post n (omega arith) ∙ ap (judgeDirectory (suc n) b 0) e
 
--- a walk that ended clean is followed by the rest, and one that did not is all
-pub judge-rest-of : (b : Bytes) (j : Judged) → j ≡ judgeDirectory (pageCount b) b 0 (replicate (pageCount b) 0) → thenJudge j (judgeRest b) ≡ judge b
-unfolding judge
-judge-rest-of b j e = ap (λ (s : Judged). thenJudge s (judgeRest b)) e
+-- a walk that ended clean is followed by the rest, and one that did not is all; its answer is q
+module _ (b : Bytes) (q : Check) (m : List ℕ) (walked : outcome q m ≡ judgeWalk b) where
+  pub walk-faulty : (x : Fault) → q ≡ Faulty x → fault (faultOf x) ≡ judge b
+  unfolding judge thenJudge
+  walk-faulty x e = rw (← fault-of m walked e)
+
+  pub walk-clean : q ≡ Clean → (j : Judged) → j ≡ judgeRest b m → j ≡ judge b
+  unfolding judge thenJudge
+  walk-clean e j rest = rw (← clean-of walked e) rest
+
+-- ---- what any bytes are found to be
+
+module _ (b : Bytes) (valid : Bool) (long : valid ≡ validLength (length b)) where
+  pub found-length : not valid ≡ true → badLength ≡ judgedAs b
+  unfolding judgedAs
+  found-length t = rw (untold long t)
+
+  module _ (t : not valid ≡ false) (right : Bool) (header : right ≡ validHeader b) where
+    pub found-header : not right ≡ true → badHeader ≡ judgedAs b
+    unfolding judgedAs
+    found-header h = rw (told long t, untold header h)
+
+    module _ (h : not right ≡ false) (q : Check) (m : List ℕ) (judged : outcome q m ≡ judge b) where
+      pub found-fault : (x : Fault) → q ≡ Faulty x → unsound (faultOf x) ≡ judgedAs b
+      unfolding judgedAs concluded
+      found-fault x e = rw (told long t, told header h, ← fault-of m judged e)
+
+      pub found-sound : q ≡ Clean → (n free : ℕ) → n ≡ pageCount b → free ≡ freeCount b → isSound n free ≡ judgedAs b
+      unfolding judgedAs concluded
+      found-sound e n free pages count = rw (told long t, told header h, ← clean-of judged e, pages, count)

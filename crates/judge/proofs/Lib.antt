@@ -1,7 +1,7 @@
 pub mod Marks
 pub mod Names
-pub mod Walk
-pub mod Rest
 pub mod Image
 pub mod Placed
 pub mod Depth
+pub mod Walk
+pub mod Rest

@@ -1,23 +1,25 @@
 -- A page that gets an owner had none, so one page fewer has none; a chain is owned page by page.
 use mathlib.Core.Path.{_≡_, refl, sym, ap, _∙_}
-use Prim.Native.Nat.{ℕ, zero, suc, _+_, _-_, _≤_, _<_}
+use mathlib.Core.Logic.{_≢_}
+use Prim.Native.Nat.{ℕ, zero, suc, _+_, _*_, _-_, _≤_, _<_}
 use native.Mathlib.Nat.{le-refl, sub-zero}
 use native.Mathlib.Numerals.{add-one}
 use native.Mathlib.Omega.{arith}
-use mathlib.Core.Bool.{Bool, true, false, not, _&&_}
+use mathlib.Core.Bool.{Bool, true, false, _&&_}
 use mathlib.Core.List.{List, [], _∷_}
 use lib.ListN.{length, getD, set}
 use lib.Dec.{eqb, leb, ltb}
-use borrow.Author.Tests.{not-true, not-false, eqb-true, ltb-true, leb-true}
+use borrow.Author.Tests.{eq-eqb, ne-eqb, eqb-true, ltb-true, leb-true}
 use Rattle.volume.specs.Bytes.{Bytes, if_then_else_}
-use Rattle.model.specs.Layout.{pageCount, pageBit, link}
+use Rattle.model.specs.Layout.{pageSize, pageCount, pageBit, link}
 use Rattle.model.specs.Judge as Model
 use Rattle.model.specs.Judge.{Judged, fault, clean, thenJudge, judgePage, judgeChain, badChain, markedFree, ownedTwice}
+pub use Rattle.fields.proofs.Plain.{told, untold}
 use Rattle.judge.specs.declared.Check.{Check}
 use Rattle.judge.specs.declared.Check.the-variants.{Clean, Faulty}
 use Rattle.judge.specs.declared.Fault.{Fault}
 use Rattle.judge.specs.Answers.{faultOf, outcome}
-use Rattle.judge.specs.Walk.{zeros, unowned}
+use Rattle.judge.specs.Walk.{Marked, zeros, unowned}
 
 -- ---- answers that were taken apart
 
@@ -29,13 +31,6 @@ fault-of m e c = sym (ap (λ (s : Check). outcome s m) c) ∙ e
 
 pub never : {A : Type 0} {m : List ℕ} {f : Model.Fault} → clean m ≡ fault f → A
 never e = let z : _≡_ {A = ℕ} 0 1 = cc in absurd (omega arith)
-
--- a test, which is s, by an answer that was tested
-pub told : {r s : Bool} → r ≡ s → not r ≡ false → s ≡ true
-told {r} e h = sym e ∙ not-false r h
-
-pub untold : {r s : Bool} → r ≡ s → not r ≡ true → s ≡ false
-untold {r} e h = sym e ∙ not-true r h
 
 -- ---- how many pages have no owner
 
@@ -64,6 +59,15 @@ unowned-le [] p = le-refl _
 unowned-le (x ∷ m) zero = le-refl _
 unowned-le (x ∷ m) (suc p) = zeros-le m p
 
+pub unowned-most : (m : List ℕ) → unowned m ≤ length m
+unfolding unowned zeros
+unowned-most [] = omega arith
+unowned-most (x ∷ m) = omega (arith, most m)
+  where
+    most : (l : List ℕ) → zeros l ≤ length l
+    most [] = omega arith
+    most (y ∷ l) = omega (arith, most l)
+
 -- ---- one page
 
 pub record Made (m : List ℕ) (p : ℕ) (m′ : List ℕ) : Type 0 where
@@ -75,7 +79,8 @@ unfolding judgePage
 page-made b range p m m′ each e = go (leb 1 p) (ltb p (pageCount b)) (eqb (getD m p 0) 0) (eqb (pageBit b p) 1) refl refl refl e
   where
     go : (low high free marked : Bool) → leb 1 p ≡ low → ltb p (pageCount b) ≡ high → eqb (getD m p 0) 0 ≡ free
-        → clean m′ ≡ (if low && high then (if free then (if marked then clean (set m p 1) else fault (markedFree p)) else fault (ownedTwice p)) else fault range)
+        → clean m′
+        ≡ (if low && high then (if free then (if marked then clean (set m p 1) else fault (markedFree p)) else fault (ownedTwice p)) else fault range)
         → Made m p m′
     go true true true true l h f e′ =
         let k : p < length m = omega (arith, ltb-true p (pageCount b) h) in
@@ -88,15 +93,41 @@ page-made b range p m m′ each e = go (leb 1 p) (ltb p (pageCount b)) (eqb (get
 
 -- ---- a chain, of which some pages have passed
 
-pub chain-first : (b : Bytes) (d i k p : ℕ) (m : List ℕ) → judgeChain b d i k 0 p m ≡ judgeChain b d i (k - 0) 0 p m
-chain-first b d i k p m = rw (sub-zero k)
+-- What is left of a chain of k pages from p₀ on, begun at the marks m₀, is judged as all of it: it stands before page p at the marks m.
+pub record Chained (b : Bytes) (d i k p₀ : ℕ) (m₀ : List ℕ) (passed p : ℕ) (m : List ℕ) : Type 0 where
+  pub most : passed ≤ k
+  pub each : length m ≡ pageCount b
+  pub comes : judgeChain b d i k 0 p₀ m₀ ≡ judgeChain b d i (k - passed) passed p m
 
-module _ (b : Bytes) (d i k passed p : ℕ) (m : List ℕ) where
-  pub chain-next : passed < k → judgeChain b d i (k - passed) passed p m
+pub chained-first : {b : Bytes} {d i k p : ℕ} {m : List ℕ} → Marked b m → Chained b d i k p m 0 p m
+chained-first {k = k} marked = record { most = omega arith; each = marked .each; comes = rw (sub-zero k) }
+
+module _ {b : Bytes} {d i k p₀ passed p : ℕ} {m₀ m : List ℕ} (at : Chained b d i k p₀ m₀ passed p m) where
+  chain-next : passed < k → judgeChain b d i k 0 p₀ m₀
       ≡ thenJudge (judgePage b (badChain d i passed) p m) (judgeChain b d i (k - (passed + 1)) (passed + 1) (link b p))
   unfolding judgeChain
-  chain-next h = let e : k - passed ≡ suc (k - (passed + 1)) = omega arith in rw (e, ← add-one passed)
+  chain-next h = let e : k - passed ≡ suc (k - (passed + 1)) = omega arith in at .comes ∙ rw (e, ← add-one passed)
 
-  pub chain-end : k ≤ passed → judgeChain b d i (k - passed) passed p m ≡ (if eqb p 0 then clean m else fault (badChain d i passed))
+  chain-end : k ≤ passed → judgeChain b d i k 0 p₀ m₀ ≡ (if eqb p 0 then clean m else fault (badChain d i passed))
   unfolding judgeChain
-  chain-end h = let e : k - passed ≡ 0 = omega arith in rw e
+  chain-end h = let e : k - passed ≡ 0 = omega arith in at .comes ∙ rw e
+
+  -- one turn: the answer for page p is q, and it leaves the marks l
+  module _ (q : Check) (l : List ℕ) (page : outcome q l ≡ judgePage b (badChain d i passed) p m) where
+    pub chained-faulty : passed < k → {x : Fault} → q ≡ Faulty x → fault (faultOf x) ≡ judgeChain b d i k 0 p₀ m₀
+    unfolding thenJudge
+    chained-faulty more e = sym (chain-next more ∙ rw (← fault-of l page e))
+
+    pub chained-here : q ≡ Clean → pageSize * p < length b
+    chained-here e = let made = page-made b (badChain d i passed) p m l (at .each) (clean-of page e) in let each = at .each in omega arith
+
+    pub chained-next : passed < k → q ≡ Clean → length l ≡ length m → {next : ℕ} → next ≡ link b p → Chained b d i k p₀ m₀ (passed + 1) next l
+    unfolding thenJudge
+    chained-next more e long follows =
+        record { most = omega arith; each = long ∙ at .each; comes = chain-next more ∙ rw (← clean-of page e, follows) }
+
+  pub chained-last : k ≤ passed → p ≡ 0 → clean m ≡ judgeChain b d i k 0 p₀ m₀
+  chained-last h e = sym (chain-end h ∙ rw (eq-eqb _ _ e))
+
+  pub chained-on : k ≤ passed → p ≢ 0 → fault (badChain d i passed) ≡ judgeChain b d i k 0 p₀ m₀
+  chained-on h e = sym (chain-end h ∙ rw (ne-eqb _ _ e))

@@ -1,14 +1,16 @@
 -- A name is fresh if it is legal and the entries before it, looked at from the last to the first, have another.
-use mathlib.Core.Path.{_≡_, refl}
-use Prim.Native.Nat.{ℕ, zero, suc, _-_, _≤_, _<_}
+use mathlib.Core.Path.{_≡_, sym, ap, _∙_}
+use Prim.Native.Nat.{ℕ, suc, _-_, _≤_, _<_}
 use native.Mathlib.Omega.{arith}
-use mathlib.Core.Bool.{Bool, true, not, _&&_}
+use mathlib.Core.Bool.{Bool, true, false, not, _&&_}
 use Rattle.volume.specs.Bytes.{Bytes}
 use Rattle.volume.specs.Lists.{all}
-use Rattle.model.specs.Entry.{entryAt}
+use Rattle.model.specs.Entry.{nameAt, entryAt}
+use Rattle.model.specs.Name.{legalName}
+use Rattle.model.specs.Judge.{freshName}
 use Rattle.model.specs.Sound.{isNamed}
-use Rattle.fields.specs.declared.Entry.{Entry}
 use Rattle.judge.specs.Walk.{position, earlier}
+use Rattle.judge.proofs.Marks.{told, untold}
 
 -- ---- the entries before entry j
 
@@ -16,13 +18,27 @@ use Rattle.judge.specs.Walk.{position, earlier}
 abbrev pub apart : Bytes → Bytes → (d j : ℕ) → Bool
 apart b n d j = all (λ at. not (isNamed n (entryAt b at))) (earlier d j)
 
-module _ (b n : Bytes) (d : ℕ) where
-  pub apart-next : (j : ℕ) → 0 < j → apart b n d j ≡ (not (isNamed n (entryAt b (position d (j - 1)))) && apart b n d (j - 1))
-  unfolding all earlier
-  apart-next zero h = absurd (omega arith)
-  apart-next (suc j) h = let e : suc j - 1 ≡ j = omega arith in rw e
+-- the name of entry i of the directory on page d, which stands at `at`; it is legal or not, and so far apart from those before entry j
+module _ (b : Bytes) (d i j at : ℕ) (legal : Bool) (here : at ≡ position d i) (tested : legal ≡ legalName (nameAt b at)) where
+  pub illegal-name : not legal ≡ true → false ≡ freshName b (earlier d i) (nameAt b (position d i))
+  unfolding freshName
+  illegal-name t = rw (← here, untold tested t)
 
-  pub apart-end : (j : ℕ) → j ≤ 0 → apart b n d j ≡ true
-  unfolding all earlier
-  apart-end zero h = refl
-  apart-end (suc j) h = absurd (omega arith)
+  module _ (so-far : apart b (nameAt b (position d i)) d i ≡ apart b (nameAt b (position d i)) d j) where
+    next : 0 < j → apart b (nameAt b (position d i)) d i
+        ≡ (not (isNamed (nameAt b at) (entryAt b (position d (j - 1)))) && apart b (nameAt b (position d i)) d (j - 1))
+    unfolding all earlier
+    next h = let e : j ≡ suc (j - 1) = omega arith in rw here (so-far ∙ ap (apart b (nameAt b (position d i)) d) e)
+
+    -- one turn: the entry before j stands at `place`, and has the name or not
+    module _ (more : 0 < j) (place : ℕ) (there : place ≡ position d (j - 1)) (has : Bool) (asked : has ≡ isNamed (nameAt b at) (entryAt b place)) where
+      pub name-taken : not legal ≡ false → has ≡ true → false ≡ freshName b (earlier d i) (nameAt b (position d i))
+      unfolding freshName
+      name-taken t e = sym (rw (next more, ← there, ← asked, e, ← here, told tested t))
+
+      pub still-apart : has ≡ false → apart b (nameAt b (position d i)) d i ≡ apart b (nameAt b (position d i)) d (j - 1)
+      still-apart e = next more ∙ rw (← there, ← asked, e)
+
+    pub name-fresh : not legal ≡ false → j ≤ 0 → true ≡ freshName b (earlier d i) (nameAt b (position d i))
+    unfolding freshName all earlier
+    name-fresh t h = let e : j ≡ 0 = omega arith in sym (rw (so-far, e, ← here, told tested t))

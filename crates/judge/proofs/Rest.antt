@@ -9,16 +9,21 @@ use native.Mathlib.Decide.{decLt}
 use mathlib.Core.Bool.{Bool, true, false, _&&_}
 use mathlib.Core.Option.{Option, none, some}
 use mathlib.Core.List.{List}
-use lib.ListN.{getD}
+use lib.ListN.{length, getD}
 use lib.Dec.{eqb}
 use borrow.Author.Tests.{eq-eqb, ne-eqb}
 use Rattle.volume.specs.Bytes.{Bytes, if_then_else_}
 use Rattle.volume.specs.Lists.{first, countFrom}
 use Rattle.model.specs.Layout.{pageCount, freeCount, pageBit, zeroBits}
-use Rattle.model.specs.Judge.{Fault, badCount, Judged, fault, clean, lostOr, judgeRest}
+use Rattle.model.specs.Judge as Model
+use Rattle.model.specs.Judge.{badCount, lostPage, Judged, fault, clean, lostOr, judgeRest}
 use Rattle.bitmap.specs.Words.{Clear}
 use Rattle.judge.specs.Walk.{isLost}
-use Rattle.judge.proofs.Marks.{never}
+use Rattle.judge.specs.declared.Check.{Check}
+use Rattle.judge.specs.declared.Check.the-variants.{Clean, Faulty}
+use Rattle.judge.specs.declared.Fault.{Fault}
+use Rattle.judge.specs.Answers.{faultOf, outcome}
+use Rattle.judge.proofs.Marks.{clean-of, fault-of, never}
 
 -- the first of two answers
 abbrev pub orElse : Option ℕ → Option ℕ → Option ℕ
@@ -47,29 +52,45 @@ module _ (b : Bytes) (marks : List ℕ) where
   unfolding first countFrom
   turn n p c h l = let e : n - p ≡ suc (n - (p + 1)) = omega arith in rw (e, l, add-one p)
 
-  pub lost-here : (n p : ℕ) → p < n → getD marks p 0 ≡ 0 → pageBit b p ≡ 1 → lostFrom n p ≡ some p
+  lost-here : (n p : ℕ) → p < n → getD marks p 0 ≡ 0 → pageBit b p ≡ 1 → lostFrom n p ≡ some p
   lost-here n p h m k = turn n p true h (rw (eq-eqb _ _ m, eq-eqb _ _ k))
 
-  pub owned-here : (n p : ℕ) → p < n → getD marks p 0 ≢ 0 → lostFrom n p ≡ lostFrom n (p + 1)
+  owned-here : (n p : ℕ) → p < n → getD marks p 0 ≢ 0 → lostFrom n p ≡ lostFrom n (p + 1)
   owned-here n p h m = turn n p false h (rw (ne-eqb _ _ m))
 
-  pub free-here : (n p : ℕ) → p < n → getD marks p 0 ≡ 0 → pageBit b p ≢ 1 → lostFrom n p ≡ lostFrom n (p + 1)
+  free-here : (n p : ℕ) → p < n → getD marks p 0 ≡ 0 → pageBit b p ≢ 1 → lostFrom n p ≡ lostFrom n (p + 1)
   free-here n p h m k = turn n p false h (rw (eq-eqb _ _ m, ne-eqb _ _ k))
 
-  pub lost-none : (n p : ℕ) → n ≤ p → lostFrom n p ≡ none
+  lost-none : (n p : ℕ) → n ≤ p → lostFrom n p ≡ none
   unfolding first countFrom
   lost-none n p h = let e : n - p ≡ 0 = omega arith in rw e
 
   -- the lowest of some is the lowest of all, and where there is none the search goes on behind them
-  pub lost-on : (to n p : ℕ) → p ≤ to → to ≤ n → lostFrom n p ≡ orElse (lostFrom to p) (lostFrom n to)
+  lost-on : (to n p : ℕ) → p ≤ to → to ≤ n → lostFrom n p ≡ orElse (lostFrom to p) (lostFrom n to)
   lost-on to n p l h =
       let all : n - p ≡ (to - p) + (n - to) = omega arith in
       let end : p + (to - p) ≡ to = omega arith in
       ap (λ (k : ℕ). first (isLost b marks) (countFrom p k)) all ∙ first-split (isLost b marks) (to - p) (n - to) p
       ∙ ap (λ (i : ℕ). orElse (lostFrom to p) (first (isLost b marks) (countFrom i (n - to)))) end
 
+  -- the pages from `from` on, up to page p: the search goes on, or ends with page p, or with none
+  module _ (from to p : ℕ) (so-far : lostFrom to from ≡ lostFrom to p) where
+    pub page-lost : p < to → getD marks p 0 ≡ 0 → (set : ℕ) → set ≡ pageBit b p → set ≡ 1 → fault (lostPage p) ≡ lostOr (clean marks) (lostFrom to from)
+    unfolding lostOr
+    page-lost h m set e k = rw (so-far, lost-here to p h m (sym e ∙ k))
+
+    pub page-free : p < to → getD marks p 0 ≡ 0 → (set : ℕ) → set ≡ pageBit b p → set ≢ 1 → lostFrom to from ≡ lostFrom to (p + 1)
+    page-free h m set e k = so-far ∙ free-here to p h m (λ (o : pageBit b p ≡ 1). k (e ∙ o))
+
+    pub page-owned : p < to → getD marks p 0 ≢ 0 → lostFrom to from ≡ lostFrom to (p + 1)
+    page-owned h m = so-far ∙ owned-here to p h m
+
+    pub none-lost : to ≤ p → clean marks ≡ lostOr (clean marks) (lostFrom to from)
+    unfolding lostOr
+    none-lost h = rw (so-far, lost-none to p h)
+
   -- behind the pages of byte q of the bitmap: those of the next byte, or none
-  pub behind-byte : (n q : ℕ) → lostFrom n (min (8 * q + 8) n) ≡ lostFrom n (max 1 (8 * (q + 1)))
+  behind-byte : (n q : ℕ) → lostFrom n (min (8 * q + 8) n) ≡ lostFrom n (max 1 (8 * (q + 1)))
   behind-byte n q = elim (decLt (8 * q + 8) n) [
     | yes l ↦ let e : min (8 * q + 8) n ≡ max 1 (8 * (q + 1)) = omega (arith, l) in ap (lostFrom n) e
     | no l ↦ lost-none n (min (8 * q + 8) n) (omega (arith, l)) ∙ sym (lost-none n (max 1 (8 * (q + 1))) (omega (arith, l)))
@@ -92,7 +113,7 @@ module _ (b : Bytes) (marks : List ℕ) where
       unmarked-here n p (h p (omega arith) (omega arith)) ∙ unmarked-run k n (p + 1) (λ j l m. h j (omega arith) (omega arith)) ∙ ap (lostFrom n) next
 
   -- k bytes of the bitmap from byte q on that mark no page
-  pub unmarked-bytes : (n : ℕ) {q k : ℕ} → Clear b q k → lostFrom n (max 1 (8 * q)) ≡ lostFrom n (max 1 (8 * (q + k)))
+  unmarked-bytes : (n : ℕ) {q k : ℕ} → Clear b q k → lostFrom n (max 1 (8 * q)) ≡ lostFrom n (max 1 (8 * (q + k)))
   unmarked-bytes n {q} {k} h =
       let e : max 1 (8 * q) + (max 1 (8 * (q + k)) - max 1 (8 * q)) ≡ max 1 (8 * (q + k)) = omega arith in
       unmarked-run (max 1 (8 * (q + k)) - max 1 (8 * q)) n (max 1 (8 * q)) (λ j l m. h .each j (omega arith) (omega arith)) ∙ ap (lostFrom n) e
@@ -100,7 +121,7 @@ module _ (b : Bytes) (marks : List ℕ) where
 -- ---- a lost page decides, whatever the rest; without one the rest decides
 
 module _ (b : Bytes) (m : List ℕ) where
-  lost-faulty : {x : Fault} (rest : Judged) (l : Option ℕ) → fault x ≡ lostOr (clean m) l → fault x ≡ lostOr rest l
+  lost-faulty : {x : Model.Fault} (rest : Judged) (l : Option ℕ) → fault x ≡ lostOr (clean m) l → fault x ≡ lostOr rest l
   unfolding lostOr
   lost-faulty rest none e = never (sym e)
   lost-faulty rest (some p) e = e
@@ -111,24 +132,63 @@ module _ (b : Bytes) (m : List ℕ) where
   lost-clean rest (some p) e = never e
 
   -- the same of the first of two answers
-  pub some-faulty : {x : Fault} (l r : Option ℕ) → fault x ≡ lostOr (clean m) l → fault x ≡ lostOr (clean m) (orElse l r)
+  some-faulty : {x : Model.Fault} (l r : Option ℕ) → fault x ≡ lostOr (clean m) l → fault x ≡ lostOr (clean m) (orElse l r)
   unfolding lostOr
   some-faulty none r e = never (sym e)
   some-faulty (some p) r e = e
 
-  pub some-clean : (l r : Option ℕ) → clean m ≡ lostOr (clean m) l → orElse l r ≡ r
+  some-clean : (l r : Option ℕ) → clean m ≡ lostOr (clean m) l → orElse l r ≡ r
   unfolding lostOr
   some-clean none r e = refl
   some-clean (some p) r e = never e
 
-  -- bit 0 and the count
-  abbrev pub counted : Judged
-  counted = if eqb (pageBit b 0) 1 && eqb (freeCount b) (zeroBits b (pageCount b)) then clean m else fault badCount
+  -- the rest of the judge, where the answer of the search is q: bit 0 and the count
+  module _ (q : Check) (lost : outcome q m ≡ lostOr (clean m) (lostFrom b m (pageCount b) 1)) where
+    pub rest-faulty : (x : Fault) → q ≡ Faulty x → fault (faultOf x) ≡ judgeRest b m
+    unfolding judgeRest
+    rest-faulty x e = lost-faulty _ (lostFrom b m (pageCount b) 1) (fault-of m lost e)
 
-  pub rest-faulty : {x : Fault} → fault x ≡ lostOr (clean m) (lostFrom b m (pageCount b) 1) → fault x ≡ judgeRest b m
-  unfolding judgeRest
-  rest-faulty e = lost-faulty counted (lostFrom b m (pageCount b) 1) e
+    module _ (e : q ≡ Clean) (set : ℕ) (marked : set ≡ pageBit b 0) where
+      pub rest-unmarked : set ≢ 1 → fault badCount ≡ judgeRest b m
+      unfolding judgeRest
+      rest-unmarked h = rw (← lost-clean _ (lostFrom b m (pageCount b) 1) (clean-of lost e), ← marked, ne-eqb _ _ h)
 
-  pub rest-counted : clean m ≡ lostOr (clean m) (lostFrom b m (pageCount b) 1) → counted ≡ judgeRest b m
-  unfolding judgeRest
-  rest-counted e = lost-clean counted (lostFrom b m (pageCount b) 1) e
+      module _ (one : set ≡ 1) (each : length m ≡ pageCount b) (zeros : ℕ) (bits : zeros ≡ zeroBits b (length m)) (free : ℕ) (byte : free ≡ freeCount b) where
+        pub rest-miscounted : free ≢ zeros → fault badCount ≡ judgeRest b m
+        unfolding judgeRest
+        rest-miscounted h =
+            rw (← lost-clean _ (lostFrom b m (pageCount b) 1) (clean-of lost e), ← marked, eq-eqb _ _ one, ← each, ← bits, ← byte, ne-eqb _ _ h)
+
+        pub rest-clean : free ≡ zeros → clean m ≡ judgeRest b m
+        unfolding judgeRest
+        rest-clean h =
+            rw (← lost-clean _ (lostFrom b m (pageCount b) 1) (clean-of lost e), ← marked, eq-eqb _ _ one, ← each, ← bits, ← byte, eq-eqb _ _ h)
+
+-- ---- one byte of the bitmap a turn: the pages before byte `byte` have none that is lost
+
+module _ (b : Bytes) (m : List ℕ) (byte : ℕ) (so-far : lostFrom b m (length m) 1 ≡ lostFrom b m (length m) (max 1 (8 * byte))) where
+  -- the answer for the pages of that byte is q
+  module _ (more : 8 * byte < length m) (from to : ℕ) (low : from ≡ max 1 (8 * byte)) (high : to ≡ min (8 * byte + 8) (length m))
+      (q : Check) (here : outcome q m ≡ lostOr (clean m) (lostFrom b m to from)) where
+    split : lostFrom b m (length m) 1 ≡ orElse (lostFrom b m to from) (lostFrom b m (length m) to)
+    split = so-far ∙ rw (← low) (lost-on b m to (length m) from (omega arith) (omega arith))
+
+    pub byte-faulty : length m ≡ pageCount b → (x : Fault) → q ≡ Faulty x → fault (faultOf x) ≡ lostOr (clean m) (lostFrom b m (pageCount b) 1)
+    byte-faulty each x e = rw (← each, split) (some-faulty b m (lostFrom b m to from) (lostFrom b m (length m) to) (fault-of m here e))
+
+    pub byte-clean : q ≡ Clean → (clear step : ℕ) → clear ≡ 0 → step ≡ max 1 clear
+        → lostFrom b m (length m) 1 ≡ lostFrom b m (length m) (max 1 (8 * (byte + step)))
+    byte-clean e clear step c s =
+        let next : byte + 1 ≡ byte + step = omega arith in
+        split ∙ some-clean b m (lostFrom b m to from) (lostFrom b m (length m) to) (clean-of here e)
+        ∙ ap (lostFrom b m (length m)) high ∙ behind-byte b m (length m) byte ∙ ap (λ (k : ℕ). lostFrom b m (length m) (max 1 (8 * k))) next
+
+  pub bytes-clear : (clear step : ℕ) → Clear b byte clear → clear ≢ 0 → step ≡ max 1 clear
+      → lostFrom b m (length m) 1 ≡ lostFrom b m (length m) (max 1 (8 * (byte + step)))
+  bytes-clear clear step c n s =
+      let next : byte + clear ≡ byte + step = omega (arith, n) in
+      so-far ∙ unmarked-bytes b m (length m) c ∙ ap (λ (k : ℕ). lostFrom b m (length m) (max 1 (8 * k))) next
+
+  pub bytes-done : length m ≤ 8 * byte → length m ≡ pageCount b → clean m ≡ lostOr (clean m) (lostFrom b m (pageCount b) 1)
+  unfolding lostOr
+  bytes-done h each = rw (← each, so-far, lost-none b m (length m) (max 1 (8 * byte)) (omega arith))

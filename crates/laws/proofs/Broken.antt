@@ -16,7 +16,7 @@ use Rattle.volume.proofs.Tests.{and-both, both-and, member-occ, occ-member, occ
 use Rattle.model.specs.Layout.{pageCount, pagesFor, link}
 use Rattle.model.specs.Name.{legalName}
 use Rattle.model.specs.Entry.{entries, Entry, vacant, aFile, aDirectory, entryAt}
-use Rattle.model.specs.Sound.{pagesOf, pagesAt, goodEntry, isNamed, inDirectory, goodDirectory, reachedBy, reached, reachedEntries, inRange, sound}
+use Rattle.model.specs.Sound.{pagesOf, pagesAt, goodEntry, isNamed, inDirectory, goodDirectory, reachedBy, reached, reachedEntries, inRange}
 use Rattle.model.specs.Tree.{Row, Node, fileNode, directoryNode}
 use Rattle.model.specs.Path.{Name, Path, noPath, root, below, isRoot}
 use Rattle.model.specs.Image.{rowAt, treeOf}
@@ -54,17 +54,17 @@ reached-good (suc d) b p at g m =
     ]
 
 -- an entry that has a name, of a directory that names lead to, is reached
-self-reached : (b : Bytes) (at : ℕ) (g : ℕ → List ℕ) (e : Entry) (n : Bytes) → T (isNamed n e) → Mem at (reachedBy at g e)
+self-reached : (at : ℕ) (g : ℕ → List ℕ) (e : Entry) (n : Bytes) → T (isNamed n e) → Mem at (reachedBy at g e)
 unfolding reachedBy isNamed
-self-reached b at g vacant n h = absurd h
-self-reached b at g (aFile locked name date start size) n h = mem-head at []
-self-reached b at g (aDirectory name date start size) n h = mem-head at (g start)
+self-reached at g vacant n h = absurd h
+self-reached at g (aFile locked name date start size) n h = mem-head at []
+self-reached at g (aDirectory name date start size) n h = mem-head at (g start)
 
 leads-reached : (b : Bytes) (ns : List Name) (d p e t at : ℕ) → Leads b d p ns (suc e) t → Mem at (entries t) → (n : Bytes) → T (isNamed n (entryAt b at)) → Mem at (reached d b p)
 unfolding reached reachedBy
 leads-reached b [] d p e t at l m n h =
     let here : Mem at (reached (suc e) b t) =
-    omega (arith, self-reached b at (reached e b) (entryAt b at) n h, occ-flatMap-le (λ x. reachedBy x (reached e b) (entryAt b x)) (entries t) at at m) in
+    omega (arith, self-reached at (reached e b) (entryAt b at) n h, occ-flatMap-le (λ x. reachedBy x (reached e b) (entryAt b x)) (entries t) at at m) in
     subst (λ (q : ℕ). Mem at (reached q b p)) (sym (l .0)) (subst (λ (q : ℕ). Mem at (reached (suc e) b q)) (sym (l .1)) here)
 leads-reached b (k ∷ ns) zero p e t at l m n h = absurd l
 leads-reached b (k ∷ ns) (suc d) p e t at l m n h =
@@ -109,12 +109,12 @@ module _ (b : Bytes) (f : Facts b) where
     rows : ℕ → Row
     node : nodeOf b rows (entryAt b at) ≡ x
 
-  led : (path : Path) (x : Node) → walkTo path (treeOf b .root) ≡ arrived x → T (not (isRoot path)) → Led x (entryPosition b path)
+  led : (path : Path) {x : Node} → walkTo path (treeOf b .root) ≡ arrived x → T (not (isRoot path)) → Led x (entryPosition b path)
   unfolding walkTo treeOf isMissing isBlocked isRoot arrivedOr
-  led noPath x e h = absurd (subst (λ (w : Walked Node). T (isMissing w)) e tt)
-  led root x e h = absurd h
-  led (below ns n) x e h =
-      let w : Target b ns n = target b f ns n (subst (λ (w : Walked Node). T (not (isMissing w))) (sym e) tt) (subst (λ (w : Walked Node). T (not (isBlocked w))) (sym e) tt) in
+  led noPath e h = absurd (subst (λ (w : Walked Node). T (isMissing w)) e tt)
+  led root e h = absurd h
+  led (below ns n) {x} e h =
+      let w : Target b ns n = target f (subst (λ (w : Walked Node). T (not (isMissing w))) (sym e) tt) (subst (λ (w : Walked Node). T (not (isBlocked w))) (sym e) tt) in
       let r = named-found b (w .above .t) (n .bytes) (w .at) (w .found) in
       subst (Led x) (sym (w .position)) (record {
         isReached = occ-member (w .at) (reachedEntries b) (leads-reached b ns (pageCount b) 0 (w .above .e) (w .above .t) (w .at) (w .above .leads) (r .0) (n .bytes) (r .1));
@@ -126,7 +126,7 @@ module _ (b : Bytes) (f : Facts b) where
 
   to-file : (path : Path) (locked : Bool) (date content : Bytes) → walkTo path (treeOf b .root) ≡ arrived (fileNode locked date content) → WholeFile b (entryPosition b path) locked date content
   unfolding walkTo isRoot isNamed nodeOf pagesOf isDirectoryNode isLockedNode contentIn arrivedOr
-  to-file path locked date content e = whole (led path (fileNode locked date content) e (below-root path e))
+  to-file path locked date content e = whole (led path e (below-root path e))
     where
       below-root : (p : Path) → walkTo p (treeOf b .root) ≡ arrived (fileNode locked date content) → T (not (isRoot p))
       below-root noPath e = tt
@@ -152,7 +152,7 @@ module _ (b : Bytes) (f : Facts b) where
   to-directory : (path : Path) (date : Bytes) (r : Row) → walkTo path (treeOf b .root) ≡ arrived (directoryNode date r) → T (not (isRoot path))
       → WholeDirectory b (entryPosition b path) date
   unfolding isNamed nodeOf isDirectoryNode
-  to-directory path date r e h = whole (led path (directoryNode date r) e h)
+  to-directory path date r e h = whole (led path e h)
     where
       whole : Led (directoryNode date r) (entryPosition b path) → WholeDirectory b (entryPosition b path) date
       whole l = go (entryAt b (entryPosition b path)) refl (l .named) (l .node)
@@ -171,5 +171,5 @@ module _ (b : Bytes) (f : Facts b) where
 
 pub never-broken : Chains
 never-broken b h =
-    let f = sound-facts b h in
+    let f = sound-facts h in
     record { everyFile = every-file b f; everyDirectory = every-directory b f; toFile = to-file b f; toDirectory = to-directory b f }

@@ -104,7 +104,7 @@ shorter : (n : ℕ) (xs ys : List ℕ) → ((q : ℕ) → Mem q ys → q < n) �
 shorter n xs ys h le =
     omega (arith, sum-occ xs n (under-of-mem n xs (λ q m. h q (omega (arith, le q)))), sum-occ ys n (under-of-mem n ys h), sum-mono (λ q. occ q xs) (λ q. occ q ys) n (λ q l. le q))
 
-module _ (b : Bytes) (f : Facts b) (ns : List Name) (n : Name) (tg : Target b ns n) where
+module _ {b : Bytes} (f : Facts b) {ns : List Name} {n : Name} (tg : Target b ns n) where
   pages-owned : (q : ℕ) → occ q (pagesAt b (tg .at)) ≤ occ q (ownedPages b)
   pages-owned q =
       let e : ℕ = tg .above .e in
@@ -114,22 +114,22 @@ module _ (b : Bytes) (f : Facts b) (ns : List Name) (n : Name) (tg : Target b ns
 
   -- with the free pages they are fewer than N
   pages-count : freeCount b + length (pagesAt b (tg .at)) < pageCount b
-  pages-count = omega (arith, shorter (pageCount b) (pagesAt b (tg .at)) (ownedPages b) (λ q m. f .inside q m .1) pages-owned, count-owned b f, f .counted)
+  pages-count = omega (arith, shorter (pageCount b) (pagesAt b (tg .at)) (ownedPages b) (λ q m. f .inside q m .1) pages-owned, count-owned f, f .counted)
 
-numbers-fit : (b : Bytes) → Facts b → (i p : ℕ) → p < pageCount b → FitsIn (byte i) p
-numbers-fit b f i p l = omega (arith, sized b f .high)
+numbers-fit : {b : Bytes} → Facts b → (i p : ℕ) → p < pageCount b → FitsIn (byte i) p
+numbers-fit {b} f i p l = omega (arith, sized f .high)
 
 -- ---- remove
 
-small-removed : (b : Bytes) → Facts b → (path : Bytes) → Removes b path → Small b → Small (removed (pathOf path) b)
+small-removed : {b : Bytes} → Facts b → {path : Bytes} → Removes b path → Small b → Small (removed (pathOf path) b)
 unfolding removed
-small-removed b f path r s =
-    let tg = target b f (r .ns) (r .n) (r .reached) (r .entered) in
+small-removed {b} f r s =
+    let tg = target f (r .reached) (r .entered) in
     let freed : ℕ → Bytes = λ at. set (foldl (On.released version1) b (pagesAt b at)) at 0 in
     subst (λ (p : Path). Small (freed (entryPosition b p))) (sym (r .is)) (subst (λ (at : ℕ). Small (freed at)) (sym (tg .position))
     (small-set (foldl (On.released version1) b (pagesAt b (tg .at))) (tg .at) 0 (omega arith)
-    (small-freed version1 home (pageCount b) (lawful b f) (pagesAt b (tg .at)) b (sized b f .whole)
-    (λ q m. f .inside q (omega (arith, pages-owned b f (r .ns) (r .n) tg q)) .1) (omega (arith, pages-count b f (r .ns) (r .n) tg, sized b f .high)) s)))
+    (small-freed (lawful f) (pagesAt b (tg .at)) b (sized f .whole)
+    (λ q m. f .inside q (omega (arith, pages-owned f tg q)) .1) (omega (arith, pages-count f tg, sized f .high)) s)))
 
 -- ---- write
 
@@ -148,10 +148,10 @@ module _ (b : Bytes) (f : Facts b) (path : Bytes) (from : ℕ) (v : Bytes) (w : 
   pages-fit =
       let many : pagesFor (size path (treeOf b)) ≡ length (pagesAt b (tg .at)) =
       ap pagesFor same-size ∙ sym (ap length (file-pages b f (w .ns) (w .n) tg isFile) ∙ chain-length (link b) (pagesFor (sizeAt b (tg .at))) (startAt b (tg .at))) in
-      omega (arith, w .space, many, pages-count b f (w .ns) (w .n) tg, f .counted)
+      omega (arith, w .space, many, pages-count f tg, f .counted)
 
   size-fits : max (size path (treeOf b)) (from + length v) ≤ 65025
-  size-fits = omega (arith, fill-up (max (size path (treeOf b)) (from + length v)), pages-fit, sized b f .high)
+  size-fits = omega (arith, fill-up (max (size path (treeOf b)) (from + length v)), pages-fit, sized f .high)
 
   small-rewritten : Small v → Small b → Small (rewritten (tg .at) from v b)
   small-rewritten hv hb =
@@ -159,8 +159,8 @@ module _ (b : Bytes) (f : Facts b) (path : Bytes) (from : ℕ) (v : Bytes) (w : 
       let hf : from ≤ s₀ = write-begins b f path from v w in
       let space : pagesFor (max s₀ (from + length v)) - pagesFor s₀ ≤ zeroBits b (pageCount b) = write-space b f path from v w in
       subst Small (sym (rewritten-is b f (w .ns) (w .n) tg isFile from v hf space))
-      (small-written version1 home (pageCount b) (lawful b f) b (byte (tg .at + 17)) (tg .above .t) (pagesFor s₀) (pagesFor (max s₀ (from + length v)) - pagesFor s₀)
-      (tg .at + 18) (le16 (max s₀ (from + length v))) from v (file-chained b f (w .ns) (w .n) tg isFile) space (numbers-fit b f (tg .at + 17)) (λ q. numbers-fit b f (256 * q))
+      (small-written (lawful f) b (byte (tg .at + 17)) (tg .above .t) (pagesFor s₀) (pagesFor (max s₀ (from + length v)) - pagesFor s₀)
+      (tg .at + 18) (le16 (max s₀ (from + length v))) from v (file-chained b f (w .ns) (w .n) tg isFile) space (numbers-fit f (tg .at + 17)) (λ q. numbers-fit f (256 * q))
       (small-size (max s₀ (from + length v)) (omega (arith, size-fits, same-size))) hv hb)
 
   small-write : Small v → Small b → Small (written (pathOf path) from v b)
@@ -174,15 +174,15 @@ module _ (b : Bytes) (f : Facts b) (path : Bytes) (from : ℕ) (v : Bytes) (w : 
 pub write-fits : (path : Bytes) (from : ℕ) (v b : Bytes) → T (sound b) → Passes (refusals (write path from v) (treeOf b))
     → (pagesFor (max (size path (treeOf b)) (from + length v)) < pageCount b) × (max (size path (treeOf b)) (from + length v) ≤ 65025)
 write-fits path from v b h e =
-    let f = sound-facts b h in
-    let w = write-passed b f path from v e in
+    let f = sound-facts h in
+    let w = write-passed f v e in
     (pages-fit b f path from v w, size-fits b f path from v w)
 
 -- ---- make
 
 module _ (b : Bytes) (f : Facts b) (path date : Bytes) (fl z k : ℕ) (m : Makes b path date k) where
   abbrev place : Place b (m .ns) (m .n .bytes) date k
-  place = make-place b f path date k m
+  place = make-place f path m
 
   small-entry : fl < 256 → z < 65536 → Small (newEntry fl (m .n .bytes) 0 z date)
   unfolding newEntry
@@ -197,15 +197,15 @@ module _ (b : Bytes) (f : Facts b) (path date : Bytes) (fl z k : ℕ) (m : Makes
       let at : ℕ = place .at in
       let w : Bytes = newEntry fl (m .n .bytes) 0 z date in
       let l : length w ≡ 32 = new-length fl (m .n .bytes) z date (m .clear .long) (m .clear .dated) in
-      let held = place-held b f (m .ns) (m .n .bytes) date fl z k place in
-      small-grown version1 home (pageCount b) (lawful b f) k (byte (at + 17)) (place .above .t) (put at w b)
-      (made-room version1 home (pageCount b) (lawful b f) b at (place .above .t) w (byte (at + 17)) k (sized b f .whole) (header-marked b f) (omega (arith, sized b f .low))
+      let held = place-held f (m .ns) (m .n .bytes) date fl z k place in
+      small-grown (lawful f) k (byte (at + 17)) (place .above .t) (put at w b)
+      (made-room (lawful f) b at (place .above .t) w (byte (at + 17)) k (sized f .whole) (header-marked f) (omega (arith, sized f .low))
       held (omega arith) (omega arith)
       (put-in at w b (held .inside) 17 (omega arith) ∙ new-start fl (m .n .bytes) z date (m .clear .long) (m .clear .dated)) (m .clear .space))
-      (numbers-fit b f (at + 17)) (λ q. numbers-fit b f (256 * q)) (small-put at w b (small-entry hf hz) hb)
+      (numbers-fit f (at + 17)) (λ q. numbers-fit f (256 * q)) (small-put at w b (small-entry hf hz) hb)
 
   small-made : fl < 256 → z < 65536 → Small b → Small (made fl z k (pathOf path) date b)
-  small-made hf hz hb = subst Small (sym (make-image b f path date k m fl z)) (small-at hf hz hb)
+  small-made hf hz hb = subst Small (sym (make-image f path m fl z)) (small-at hf hz hb)
 
 -- ---- every call
 
@@ -232,24 +232,24 @@ small-effect (list path i) b s h e = s
 small-effect (read path at room) b s h e = s
 small-effect (makeFile path date) b s h e =
     let g = sound-passed (makeFile path date) b tt e in
-    let f = sound-facts b (g .0) in
-    small-made b f path date 0x80 0 (pagesFor 0) (make-passed b f path date (pagesFor 0) (refusal 10) (g .1)) (omega arith) (omega arith) s
+    let f = sound-facts (g .0) in
+    small-made b f path date 0x80 0 (pagesFor 0) (make-passed f (refusal 10) (g .1)) (omega arith) (omega arith) s
 small-effect (makeDirectory path date) b s h e =
     let g = sound-passed (makeDirectory path date) b tt e in
-    let f = sound-facts b (g .0) in
-    small-made b f path date 0x81 0x0100 1 (make-passed b f path date 1 (refusal 10) (g .1)) (omega arith) (omega arith) s
+    let f = sound-facts (g .0) in
+    small-made b f path date 0x81 0x0100 1 (make-passed f (refusal 10) (g .1)) (omega arith) (omega arith) s
 small-effect (write path from v) b s h e =
     let g = sound-passed (write path from v) b tt e in
-    let f = sound-facts b (g .0) in
-    small-write b f path from v (write-passed b f path from v (g .1)) h s
+    let f = sound-facts (g .0) in
+    small-write b f path from v (write-passed f v (g .1)) h s
 small-effect (removeFile path) b s h e =
     let g = sound-passed (removeFile path) b tt e in
-    let f = sound-facts b (g .0) in
-    small-removed b f path (remove-file-passed b f path (g .1)) s
+    let f = sound-facts (g .0) in
+    small-removed f (remove-file-passed f (g .1)) s
 small-effect (removeDirectory path) b s h e =
     let g = sound-passed (removeDirectory path) b tt e in
-    let f = sound-facts b (g .0) in
-    small-removed b f path (remove-directory-passed b f path (g .1)) s
+    let f = sound-facts (g .0) in
+    small-removed f (remove-directory-passed f (g .1)) s
 small-effect (setLock locked path) b s h e =
     let at = entryPosition b (pathOf path) in small-set b at (withLock locked (byteAt b at)) (lock-small locked (byteAt b at) (s at)) s
 

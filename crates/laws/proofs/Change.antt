@@ -40,15 +40,15 @@ pub record Balance (b b′ : Bytes) (gone fresh : List ℕ) : Type 0 where
   pub count : freeCount b′ + length fresh ≡ freeCount b + length gone
   pub fresh-in : (q : ℕ) → Mem q fresh → (1 ≤ q) × (q < pageCount b)
 
-sound-after : (b b′ : Bytes) (gone fresh : List ℕ) → Facts b
+sound-after : {b b′ : Bytes} {gone fresh : List ℕ} → Facts b
     → length b′ ≡ length b → ((i : ℕ) → i < 3 → byteAt b′ i ≡ byteAt b i)
     → T (goodDirectory (pageCount b) b′ 0)
     → ((q : ℕ) → occ q (owned (pageCount b) b′ 0) + occ q gone ≡ occ q (ownedPages b) + occ q fresh)
     → ((q : ℕ) → Mem q gone → (1 ≤ q) × (q < pageCount b))
     → Balance b b′ gone fresh
     → T (sound b′)
-sound-after b b′ gone fresh f len head good own gone-in bal =
-    facts-sound b′ (subst (λ (n : ℕ). FactsTo n b′) (sym pages) (record {
+sound-after {b} {b′} {gone} {fresh} f len head good own gone-in bal =
+    facts-sound (subst (λ (n : ℕ). FactsTo n b′) (sym pages) (record {
       fits = subst (λ (m : ℕ). T (validLength m)) (sym len) (f .fits);
       headed = header-same b b′ len head (f .headed);
       bit-zero =
@@ -92,7 +92,7 @@ pub record Works (b b′ : Bytes) (e t at : ℕ) (op : Row → Row) (test : Entr
   pub below : T (inDirectory true (goodDirectory e b′) (entryAt b′ at))
   pub name : (x : ℕ) → Mem x (entries t) → x ≢ at → T (not (sameName (entryAt b′ at) (entryAt b x)))
 
-module _ (b b′ : Bytes) (f : Facts b) (names : List Name) (e t at : ℕ) (touched : List ℕ)
+module _ {b : Bytes} (b′ : Bytes) (f : Facts b) (names : List Name) (e t at : ℕ) (touched : List ℕ)
     (leads : Leads b (pageCount b) 0 names (suc e) t) (entry : Mem at (entries t)) (c : Change b b′ at touched)
     (mine : (q : ℕ) → Mem q touched → (1 ≤ q) × (Mem q (ownedPages b) → Mem q (own e b (entryAt b at)))) where
   sub : (q : ℕ) → occ q (t ∷ owned (suc e) b t) ≤ occ q (0 ∷ ownedPages b)
@@ -107,7 +107,7 @@ module _ (b b′ : Bytes) (f : Facts b) (names : List Name) (e t at : ℕ) (touc
       let w = mine t k in
       let p1 = w .0 in
       let s = sub t in
-      let one = root-once b f t in
+      let one = root-once f t in
       let h = hit-refl t in
       let z = hit-ne t 0 (λ u. omega (arith, p1, u)) in
       let o = w .1 (omega (arith, s, h, z)) in
@@ -130,7 +130,7 @@ module _ (b b′ : Bytes) (f : Facts b) (names : List Name) (e t at : ℕ) (touc
       (λ q k.
       let two = own-two e b t x at q ne m entry in
       let s = sub q in
-      let one = root-once b f q in
+      let one = root-once f q in
       let own1 : occ q (owned (suc e) b t) ≡ 1 = omega (arith, two, k, s, one) in
       let nt : q ≢ t = λ w. omega (arith, own1, s, one, hit-refl q, ap (hit q) w) in
       let oq : Mem q (ownedPages b) = omega (arith, own1, leads-owned b names (pageCount b) 0 (suc e) t q leads) in
@@ -152,9 +152,9 @@ module _ (b b′ : Bytes) (f : Facts b) (names : List Name) (e t at : ℕ) (touc
   changed op test good w bal =
       let row = level-row e b b′ t at others op test (w .skip) (w .work) (w .found) in
       let good′ = level-good e b b′ t at others good (w .good) (w .below) (w .name) in
-      let whole = focus b b′ (c .len) op (suc e) t row good′ names (pageCount b) 0 (f .formed) (root-once b f) (λ q k. f .inside q k .0) leads frame in
+      let whole = focus b b′ (c .len) op (suc e) t row good′ names (pageCount b) 0 (f .formed) (root-once f) (λ q k. f .inside q k .0) leads frame in
       let pages : pageCount b′ ≡ pageCount b = ap (λ (m : ℕ). m / 256) (c .len) in (
-        sound-after b b′ (own e b (entryAt b at)) (own e b′ (entryAt b′ at)) f (c .len) (c .head) (whole .isGood)
+        sound-after f (c .len) (c .head) (whole .isGood)
             (λ q. omega (arith, whole .owns q, level-owned e b b′ t at others entry q))
             (λ q k. f .inside q (omega (arith, k, entry-sub q, leads-owned b names (pageCount b) 0 (suc e) t q leads)))
             bal,

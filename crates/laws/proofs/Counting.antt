@@ -31,8 +31,8 @@ unfolding On.zeroBits
 zeros-marked b xs zero h = refl
 zeros-marked b xs (suc n) h = omega (arith, zeros-marked b xs n (λ q l. h q (omega arith)), h n (omega arith), bit-low version1 b n)
 
-count-to : (d : ℕ) (b : Bytes) → FactsTo d b → zeroBits b (pageCount b) + 1 + length (owned d b 0) ≡ pageCount b
-count-to d b f =
+count-to : {d : ℕ} {b : Bytes} → FactsTo d b → zeroBits b (pageCount b) + 1 + length (owned d b 0) ≡ pageCount b
+count-to {d} {b} f =
     let pages : List ℕ = owned d b 0 in
     let z = zeros-marked b (0 ∷ pages) (pageCount b) (λ q l. elim (hit-cases q 0) [
       | inl e ↦
@@ -44,15 +44,15 @@ count-to d b f =
     (under-cons (pageCount b) 0 pages (omega (arith, valid-sized b (f .fits) .low)) (under-of-mem (pageCount b) pages (λ q m. f .inside q m .1))) in
     omega (arith, z, s)
 
-pub count-owned : (b : Bytes) → Facts b → zeroBits b (pageCount b) + 1 + length (ownedPages b) ≡ pageCount b
-count-owned b f = count-to (pageCount b) b f
+pub count-owned : {b : Bytes} → Facts b → zeroBits b (pageCount b) + 1 + length (ownedPages b) ≡ pageCount b
+count-owned {b} f = count-to f
 
 -- An image that is sound with its directories read to any depth is sound: N is deep enough.
 pub depth-enough : (d : ℕ) (b : Bytes) → T (soundTo d b) → T (sound b)
 depth-enough d b h =
-    let f = soundTo-facts d b h in
-    let s = depth-count d (pageCount b) b 0 (f .formed) (omega (arith, count-to d b f)) in
-    facts-sound b (record {
+    let f = soundTo-facts h in
+    let s = depth-count (pageCount b) (f .formed) (omega (arith, count-to f)) in
+    facts-sound (record {
       fits = f .fits;
       headed = f .headed;
       bit-zero = f .bit-zero;
@@ -112,13 +112,13 @@ owned-needs (suc d) b p h =
 
 -- ---- the free number
 
-pub owned-in : (b : Bytes) → Facts b → InImage b (ownedPages b)
-owned-in b f q m = let r = f .inside q m in omega (arith, r .1)
+pub owned-in : {b : Bytes} → Facts b → InImage b (ownedPages b)
+owned-in f q m = let r = f .inside q m in omega (arith, r .1)
 
-pub free-sum : (b : Bytes) → Facts b → freeCount b + 1 + needs (treeOf b .root) ≡ pageCount b
+pub free-sum : {b : Bytes} → Facts b → freeCount b + 1 + needs (treeOf b .root) ≡ pageCount b
 unfolding treeOf
-free-sum b f = omega (arith, count-owned b f, owned-needs (pageCount b) b 0 (owned-in b f), f .counted)
+free-sum {b} f = omega (arith, count-owned f, owned-needs (pageCount b) b 0 (owned-in f), f .counted)
 
-pub free-number : (b : Bytes) → Facts b → freeNumber (treeOf b) ≡ freeCount b
+pub free-number : {b : Bytes} → Facts b → freeNumber (treeOf b) ≡ freeCount b
 unfolding freeNumber treeOf
-free-number b f = omega (arith, count-owned b f, owned-needs (pageCount b) b 0 (owned-in b f), f .counted)
+free-number {b} f = omega (arith, count-owned f, owned-needs (pageCount b) b 0 (owned-in f), f .counted)

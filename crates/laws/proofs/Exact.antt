@@ -57,7 +57,7 @@ unpadded-text (c ∷ v) k h =
 
 pub unpadded-padded : (v : Bytes) → T (legalText v) → unpadded (padded v) ≡ v
 unfolding padded
-unpadded-padded v h = unpadded-text v (16 - length v) (text-facts v h .legal)
+unpadded-padded v h = unpadded-text v (16 - length v) (text-facts h .legal)
 
 pub padded-apart : (v w : Bytes) → T (legalText v) → T (legalText w) → padded v ≡ padded w → v ≡ w
 padded-apart v w h k e = sym (unpadded-padded v h) ∙ ap unpadded e ∙ unpadded-padded w k
@@ -153,7 +153,8 @@ unfolding entryAt isNamed
 named-exact b n at h = go (occupied b at) (isDirectory b at) h
   where
     go : (o d : Bool)
-        → T (isNamed n (if o then (if d then aDirectory (nameAt b at) (dateAt b at) (startAt b at) (sizeAt b at) else aFile (isLocked b at) (nameAt b at) (dateAt b at) (startAt b at) (sizeAt b at)) else vacant))
+        → T (isNamed n (if o then (if d then aDirectory (nameAt b at) (dateAt b at) (startAt b at) (sizeAt b at)
+        else aFile (isLocked b at) (nameAt b at) (dateAt b at) (startAt b at) (sizeAt b at)) else vacant))
         → T o × (nameAt b at ≡ n)
     go true true k = (tt, same-true (nameAt b at) n k)
     go true false k = (tt, same-true (nameAt b at) n k)
@@ -167,8 +168,8 @@ found-exact b page n at e = named-exact b n at (named-found b page n at e .1)
 found-same : (b : Bytes) (page : ℕ) (n m : Bytes) (at : ℕ) → entryNamed b page n ≡ some at → entryNamed b page m ≡ some at → n ≡ m
 found-same b page n m at e u = sym (found-exact b page n at e .1) ∙ found-exact b page m at u .1
 
-directory-page : (b : Bytes) (at s s′ : ℕ) → DirectoryAt b at s → DirectoryAt b at s′ → s ≡ s′
-directory-page b at s s′ h k = let u = h .is in let v = k .is in cc
+directory-page : {b : Bytes} {at s s′ : ℕ} → DirectoryAt b at s → DirectoryAt b at s′ → s ≡ s′
+directory-page h k = let u = h .is in let v = k .is in cc
 
 -- no names lead from a directory back to it
 no-return : (b : Bytes) (n : Name) (ns : List Name) (d p e t : ℕ) → ((q : ℕ) → occ q (p ∷ owned (suc d) b p) ≤ 1) → p ≡ t → Leads b (suc d) p (n ∷ ns) e t → ⊥
@@ -201,24 +202,24 @@ leads-once b (n ∷ ns) (m ∷ ms) (suc d) p e e′ t one l k =
         one t,
       ))
     ] in
-    let s : l .1 ≡ k .1 = directory-page b (l .0) (l .1) (k .1) (l .3) (subst (λ (x : ℕ). DirectoryAt b x (k .1)) (sym at) (k .3)) in
+    let s : l .1 ≡ k .1 = directory-page (l .3) (subst (λ (x : ℕ). DirectoryAt b x (k .1)) (sym at) (k .3)) in
     let name : n .bytes ≡ m .bytes = found-same b p (n .bytes) (m .bytes) (l .0) (l .2) (k .2 ∙ ap some (sym at)) in
     let rest = leads-once b ns ms d (l .1) e e′ t (λ q. omega (arith, directory-le d b p (l .0) (l .1) q here (l .3), one q)) (l .4)
     (subst (λ (x : ℕ). Leads b d x ms e′ t) (sym s) (k .4)) in
     ap₂ {C = List Bytes} (λ (x : Bytes) (xs : List Bytes). x ∷ xs) (ap unpadded name) rest
 
-module _ (b : Bytes) (f : Facts b) where
+module _ {b : Bytes} (f : Facts b) where
   within : {ns : List Name} {n : Name} (g : Target b ns n) → Within (g .above .t) (g .at)
   within {ns} {n} g = entry-within (g .above .t) (g .at) (named-found b (g .above .t) (n .bytes) (g .at) (g .found) .0)
 
   -- names that lead to one entry
-  names-once : (ns : List Name) (n : Name) (ms : List Name) (m : Name) (g : Target b ns n) (h : Target b ms m) → g .at ≡ h .at
+  names-once : {ns : List Name} {n : Name} {ms : List Name} {m : Name} (g : Target b ns n) (h : Target b ms m) → g .at ≡ h .at
       → map plain (ns ++ (n ∷ [])) ≡ map plain (ms ++ (m ∷ []))
-  names-once ns n ms m g h e =
+  names-once {ns} {n} {ms} {m} g h e =
       let u = within g in
       let v = within h in
       let page : g .above .t ≡ h .above .t = omega (arith, e, u .low, u .high, v .low, v .high) in
-      let l = leads-once b ns ms (pageCount b) 0 (suc (g .above .e)) (suc (h .above .e)) (g .above .t) (root-once b f) (g .above .leads)
+      let l = leads-once b ns ms (pageCount b) 0 (suc (g .above .e)) (suc (h .above .e)) (g .above .t) (root-once f) (g .above .leads)
       (subst (λ (x : ℕ). Leads b (pageCount b) 0 ms (suc (h .above .e)) x) (sym page) (h .above .leads)) in
       let name : n .bytes ≡ m .bytes = found-same b (g .above .t) (n .bytes) (m .bytes) (g .at) (g .found)
       (subst (λ (x : ℕ). entryNamed b x (m .bytes) ≡ some (g .at)) (sym page) (h .found ∙ ap some (sym e))) in
@@ -237,7 +238,7 @@ module _ (b : Bytes) (f : Facts b) where
           → (pathOf p ≡ root) ⊎ ((ns : List Name) × (n : Name) × (pathOf p ≡ below ns n) × Target b ns n)
       go noPath q u v w = absurd u
       go root q u v w = inl q
-      go (below ns n) q u v w = inr (ns, n, q, target b f ns n v w)
+      go (below ns n) q u v w = inr (ns, n, q, target f v w)
 
   -- no entry has an empty name, so the root has no position
   root-position : entryPosition b root ≡ 0
@@ -252,8 +253,8 @@ module _ (b : Bytes) (f : Facts b) where
           let l : length (nameAt b at) ≡ 16 = part-length (at + 1) 16 b (omega (arith, w .high, s .whole, s .low)) in
           absurd (omega (arith, l, ap length (found-exact b 0 [] at e .1)))
 
-  root-apart : (ns : List Name) (n : Name) → Target b ns n → entryPosition b root ≡ entryPosition b (below ns n) → ⊥
-  root-apart ns n g e = omega (arith, e, root-position, g .position, within g .far)
+  root-apart : {ns : List Name} {n : Name} → Target b ns n → entryPosition b root ≡ entryPosition b (below ns n) → ⊥
+  root-apart g e = omega (arith, e, root-position, g .position, within g .far)
 
 paths-exact : (b : Bytes) → T (sound b) → (p q : Bytes) (x y : Found) → answer (find p) b ≡ granted x → answer (find q) b ≡ granted y
     → entryPosition b (pathOf p) ≡ entryPosition b (pathOf q) → p ≡ q
@@ -261,21 +262,21 @@ unfolding answer isFormat
 paths-exact b h p q x y u v e = elim (leads p x u) [
   | inl r ↦ elim (leads q y v) [
     | inl s ↦ root-bytes p r ∙ sym (root-bytes q s)
-    | inr t ↦ absurd (root-apart b f (t .0) (t .1) (t .3) (ap (entryPosition b) (sym r) ∙ e ∙ ap (entryPosition b) (t .2)))
+    | inr t ↦ absurd (root-apart f (t .3) (ap (entryPosition b) (sym r) ∙ e ∙ ap (entryPosition b) (t .2)))
   ]
   | inr g ↦ elim (leads q y v) [
-    | inl s ↦ absurd (root-apart b f (g .0) (g .1) (g .3) (ap (entryPosition b) (sym s) ∙ sym e ∙ ap (entryPosition b) (g .2)))
+    | inl s ↦ absurd (root-apart f (g .3) (ap (entryPosition b) (sym s) ∙ sym e ∙ ap (entryPosition b) (g .2)))
     | inr t ↦
         let at : g .3 .at ≡ t .3 .at = sym (g .3 .position) ∙ ap (entryPosition b) (sym (g .2)) ∙ e ∙ ap (entryPosition b) (t .2) ∙ t .3 .position in
-        path-bytes p (g .0) (g .1) (g .2) ∙ ap slashed (names-once b f (g .0) (g .1) (t .0) (t .1) (g .3) (t .3) at) ∙ sym (path-bytes q (t .0) (t .1) (t .2))
+        path-bytes p (g .0) (g .1) (g .2) ∙ ap slashed (names-once f (g .3) (t .3) at) ∙ sym (path-bytes q (t .0) (t .1) (t .2))
   ]
 ]
   where
     f : Facts b
-    f = sound-facts b h
+    f = sound-facts h
 
     leads : (p : Bytes) (x : Found) → answer (find p) b ≡ granted x → (pathOf p ≡ root) ⊎ ((ns : List Name) × (n : Name) × (pathOf p ≡ below ns n) × Target b ns n)
-    leads p x u = find-leads b f p (sound-passed (find p) b tt (granted-passed (lines (find p) b) (told (find p) (treeOf b)) x u) .1)
+    leads p x u = find-leads f p (sound-passed (find p) b tt (granted-passed (lines (find p) b) (told (find p) (treeOf b)) x u) .1)
 
 pub exact-names : ExactNames
 exact-names = record { apart = names-apart; padding = padded-apart; inTree = lookup-exact; inBytes = found-exact; paths = paths-exact }

@@ -87,20 +87,20 @@ exact-agrees b pages q e = beq-both (eqb (pageBit b q) 1) (member q pages)
     (λ m. let one : pageBit b q ≡ 1 = omega (arith, member-occ q pages m, bit-low version1 b q) in eq-eqb one)
 
 -- each page is owned at most once
-pub once : (d : ℕ) (b : Bytes) → FactsTo d b → (q : ℕ) → occ q (owned d b 0) ≤ 1
-once d b f q = elim (mem-or-not q (owned d b 0)) [
+pub once : {d : ℕ} {b : Bytes} → FactsTo d b → (q : ℕ) → occ q (owned d b 0) ≤ 1
+once {d} {b} f q = elim (mem-or-not q (owned d b 0)) [
   | inl m ↦ let r = f .inside q m in omega (arith, f .exact q (r .0) (r .1), bit-low version1 b q)
   | inr z ↦ omega arith
 ]
 
 -- the root's page and the owned ones
-pub root-once : (b : Bytes) → Facts b → (q : ℕ) → occ q (0 ∷ owned (pageCount b) b 0) ≤ 1
-root-once b f q = elim (hit-cases q 0) [
+pub root-once : {b : Bytes} → Facts b → (q : ℕ) → occ q (0 ∷ owned (pageCount b) b 0) ≤ 1
+root-once {b} f q = elim (hit-cases q 0) [
   | inl w ↦ omega (arith, w .1, not-mem q (owned (pageCount b) b 0) (λ k. omega (arith, w .0, f .inside q k .0)))
-  | inr w ↦ omega (arith, w .1, once (pageCount b) b f q)
+  | inr w ↦ omega (arith, w .1, once f q)
 ]
 
-module _ (depth : ℕ) (b : Bytes) where
+module _ {depth : ℕ} {b : Bytes} where
   to-facts : T (soundTo depth b) → FactsTo depth b
   unfolding soundTo
   to-facts h =
@@ -133,19 +133,19 @@ module _ (depth : ℕ) (b : Bytes) where
       (cons-conditions _ _
       (occ-all (inRange (pageCount b)) (owned depth b 0) (λ q m.
       let r = f .inside q m in both-and (leb 1 q) (ltb q (pageCount b)) (le→leb 1 q (r .0)) (lt→ltb q (pageCount b) (r .1))))
-      (cons-conditions _ _ (occ-distinct (owned depth b 0) (once depth b f))
+      (cons-conditions _ _ (occ-distinct (owned depth b 0) (once f))
       (cons-conditions _ []
       (occ-all (agrees b (owned depth b 0)) (countFrom 1 (pageCount b - 1)) (λ q m.
       let r = countFrom-occ 1 (pageCount b - 1) q m in exact-agrees b (owned depth b 0) q (f .exact q (r .0) (omega (arith, r .0, r .1)))))
       no-conditions)))))))
 
-pub sound-facts : (b : Bytes) → T (sound b) → Facts b
+pub sound-facts : {b : Bytes} → T (sound b) → Facts b
 unfolding sound
-sound-facts b h = to-facts (pageCount b) b h
+sound-facts {b} h = to-facts h
 
-pub facts-sound : (b : Bytes) → Facts b → T (sound b)
+pub facts-sound : {b : Bytes} → Facts b → T (sound b)
 unfolding sound
-facts-sound b f = from-facts (pageCount b) b f
+facts-sound {b} f = from-facts f
 
-pub soundTo-facts : (depth : ℕ) (b : Bytes) → T (soundTo depth b) → FactsTo depth b
-soundTo-facts depth b h = to-facts depth b h
+pub soundTo-facts : {depth : ℕ} {b : Bytes} → T (soundTo depth b) → FactsTo depth b
+soundTo-facts {depth} {b} h = to-facts h

@@ -89,7 +89,7 @@ module _ (b : Bytes) (v : T (validLength (length b))) where
       let empty : (x : ℕ) → Mem x (entries 0) → entryAt b′ x ≡ vacant = λ x m.
       let w = entry-within 0 x m in zero-vacant b′ x (zero-from x (omega (arith, w .far)) (omega (arith, w .high))) in
       let none-owned : (q : ℕ) → occ q (owned (suc d) b′ 0) ≡ 0 = λ q. ap (occ q) (vacant-owns b′ d 0 empty) in (
-        facts-sound b′ (subst (λ (n : ℕ). FactsTo n b′) (sym deep) (record {
+        facts-sound (subst (λ (n : ℕ). FactsTo n b′) (sym deep) (record {
           fits = subst (λ (n : ℕ). T (validLength n)) (sym formatted-length) v;
           headed = headed;
           bit-zero = bits 0 (omega arith) ∙ hit-refl 0;

@@ -97,31 +97,31 @@ module _ (b b′ : Bytes) (d e : ℕ) where
   entry-below (aFile locked name date start size) s = refl
   entry-below (aDirectory name date start size) s = s .good
 
-  pub same-row : (x : ℕ) → SameEntry b b′ d e x → (rest : Row) → entryRow b′ (rowAt e b′) (entryAt b′ x) rest ≡ entryRow b (rowAt d b) (entryAt b x) rest
-  same-row x s rest = ap (λ (y : Entry). entryRow b′ (rowAt e b′) y rest) (s .fields) ∙ entry-row (entryAt b x) (s .pages) (s .below) rest
+  pub same-row : {x : ℕ} → SameEntry b b′ d e x → (rest : Row) → entryRow b′ (rowAt e b′) (entryAt b′ x) rest ≡ entryRow b (rowAt d b) (entryAt b x) rest
+  same-row {x} s rest = ap (λ (y : Entry). entryRow b′ (rowAt e b′) y rest) (s .fields) ∙ entry-row (entryAt b x) (s .pages) (s .below) rest
 
-  pub same-own : (x : ℕ) → SameEntry b b′ d e x → own e b′ (entryAt b′ x) ≡ own d b (entryAt b x)
-  same-own x s = ap (own e b′) (s .fields) ∙ entry-own (entryAt b x) (s .pages) (s .below)
+  pub same-own : {x : ℕ} → SameEntry b b′ d e x → own e b′ (entryAt b′ x) ≡ own d b (entryAt b x)
+  same-own {x} s = ap (own e b′) (s .fields) ∙ entry-own (entryAt b x) (s .pages) (s .below)
 
-  pub same-good : (x : ℕ) → SameEntry b b′ d e x → goodEntry b′ (entryAt b′ x) ≡ goodEntry b (entryAt b x)
-  same-good x s = ap (goodEntry b′) (s .fields) ∙ s .pages .good
+  pub same-good : {x : ℕ} → SameEntry b b′ d e x → goodEntry b′ (entryAt b′ x) ≡ goodEntry b (entryAt b x)
+  same-good s = ap (goodEntry b′) (s .fields) ∙ s .pages .good
 
-  pub same-below : (x : ℕ) → SameEntry b b′ d e x → inDirectory true (goodDirectory e b′) (entryAt b′ x) ≡ inDirectory true (goodDirectory d b) (entryAt b x)
-  same-below x s = ap (inDirectory true (goodDirectory e b′)) (s .fields) ∙ entry-below (entryAt b x) (s .below)
+  pub same-below : {x : ℕ} → SameEntry b b′ d e x → inDirectory true (goodDirectory e b′) (entryAt b′ x) ≡ inDirectory true (goodDirectory d b) (entryAt b x)
+  same-below {x} s = ap (inDirectory true (goodDirectory e b′)) (s .fields) ∙ entry-below (entryAt b x) (s .below)
 
-  pub same-directory : (p : ℕ) → ((x : ℕ) → Mem x (entries p) → SameEntry b b′ d e x) → SameDirectory b b′ (suc d) (suc e) p
+  pub same-directory : {p : ℕ} → ((x : ℕ) → Mem x (entries p) → SameEntry b b′ d e x) → SameDirectory b b′ (suc d) (suc e) p
   unfolding rowAt reached goodDirectory all
-  same-directory p h = record {
-    row = rows-same b b′ (rowAt d b) (rowAt e b′) (entries p) (λ x m. same-row x (h x m));
+  same-directory {p} h = record {
+    row = rows-same b b′ (rowAt d b) (rowAt e b′) (entries p) (λ x m. same-row (h x m));
     reach = flatMap-same (λ x. reachedBy x (reached e b′) (entryAt b′ x)) (λ x. reachedBy x (reached d b) (entryAt b x)) (entries p) (λ x m.
         ap (reachedBy x (reached e b′)) (h x m .fields) ∙ entry-reach x (entryAt b x) (h x m .below));
     owns = owned-entries e b′ p
-        ∙ flatMap-same (λ x. own e b′ (entryAt b′ x)) (λ x. own d b (entryAt b x)) (entries p) (λ x m. same-own x (h x m))
+        ∙ flatMap-same (λ x. own e b′ (entryAt b′ x)) (λ x. own d b (entryAt b x)) (entries p) (λ x m. same-own (h x m))
         ∙ sym (owned-entries d b p);
     good =
         ap₂ (λ (c f : Bool). c && (namesApart b′ (entries p) && (f && true)))
-        (all-same (λ x. goodEntry b′ (entryAt b′ x)) (λ x. goodEntry b (entryAt b x)) (entries p) (λ x m. same-good x (h x m)))
-        (all-same (λ x. inDirectory true (goodDirectory e b′) (entryAt b′ x)) (λ x. inDirectory true (goodDirectory d b) (entryAt b x)) (entries p) (λ x m. same-below x (h x m)))
+        (all-same (λ x. goodEntry b′ (entryAt b′ x)) (λ x. goodEntry b (entryAt b x)) (entries p) (λ x m. same-good (h x m)))
+        (all-same (λ x. inDirectory true (goodDirectory e b′) (entryAt b′ x)) (λ x. inDirectory true (goodDirectory d b) (entryAt b x)) (entries p) (λ x m. same-below (h x m)))
         ∙ ap (λ (c : Bool). all (λ x. goodEntry b (entryAt b x)) (entries p) && (c && (all (λ x. inDirectory true (goodDirectory d b) (entryAt b x)) (entries p) && true)))
         (apart-same b b′ (entries p) (λ x m. h x m .fields));
   }
@@ -162,25 +162,25 @@ module _ (b b′ : Bytes) (len : length b′ ≡ length b) where
       frame start (h start (mem-head start (owned d b start)) .1) (λ q m. h q (mem-tail q start (owned d b start) m))
 
   -- an entry with its 32 bytes, its pages and those below it kept
-  entry-kept : (d x : ℕ) → ((p : ℕ) → SamePage b b′ p → Kept b b′ (owned d b p) → SameDirectory b b′ d d p)
+  entry-kept : {d x : ℕ} → ((p : ℕ) → SamePage b b′ p → Kept b b′ (owned d b p) → SameDirectory b b′ d d p)
       → entryAt b′ x ≡ entryAt b x → Kept b b′ (own d b (entryAt b x)) → SameEntry b b′ d d x
-  entry-kept d x frame f h = record {
+  entry-kept {d} {x} frame f h = record {
     fields = f;
     pages = kept-pages (entryAt b x) (λ q c. h q (omega (arith, pages-own d b (entryAt b x) q)));
     below = kept-below d (entryAt b x) frame h;
   }
 
-  pub directory-frame : (d p : ℕ) → SamePage b b′ p → Kept b b′ (owned d b p) → SameDirectory b b′ d d p
+  pub directory-frame : {d : ℕ} (p : ℕ) → SamePage b b′ p → Kept b b′ (owned d b p) → SameDirectory b b′ d d p
   unfolding rowAt reached goodDirectory flatMap
-  directory-frame zero p h k = record { row = refl; reach = refl; owns = refl; good = refl }
-  directory-frame (suc d) p h k = same-directory b b′ d d p (λ x m.
+  directory-frame {d = zero} p h k = record { row = refl; reach = refl; owns = refl; good = refl }
+  directory-frame {d = suc d} p h k = same-directory b b′ d d (λ x m.
       let w = entry-within p x m in
-      entry-kept d x (directory-frame d)
+      entry-kept (directory-frame)
       (entry-same b b′ x len (λ i l u. h i (within-page p x w i l u) (omega (arith, w .far))))
       (λ q c. k q (omega (arith, own-le d b p x q m))))
 
   pub entry-frame : (d x : ℕ) → entryAt b′ x ≡ entryAt b x → Kept b b′ (own d b (entryAt b x)) → SameEntry b b′ d d x
-  entry-frame d x = entry-kept d x (directory-frame d)
+  entry-frame d x = entry-kept (directory-frame)
 
 -- ---- two depths
 
@@ -200,20 +200,20 @@ below-deeper b d e vacant h f = tt
 below-deeper b d e (aFile locked name date start size) h f = tt
 below-deeper b d e (aDirectory name date start size) h f = f start h (omega arith)
 
-deeper : (b : Bytes) (d e p : ℕ) → ((x : ℕ) → Mem x (entries p) → inDirectory (Unit {0}) (SameDirectory b b d e) (entryAt b x)) → SameDirectory b b (suc d) (suc e) p
-deeper b d e p h = same-directory b b d e p (λ x m. record { fields = refl; pages = record { pages = refl; content = refl; good = refl }; below = h x m })
+deeper : {b : Bytes} {d e p : ℕ} → ((x : ℕ) → Mem x (entries p) → inDirectory (Unit {0}) (SameDirectory b b d e) (entryAt b x)) → SameDirectory b b (suc d) (suc e) p
+deeper {b} {d} {e} {p} h = same-directory b b d e (λ x m. record { fields = refl; pages = record { pages = refl; content = refl; good = refl }; below = h x m })
 
 -- more depth than enough changes nothing
-pub depth : (d e : ℕ) (b : Bytes) (p : ℕ) → T (goodDirectory d b p) → d ≤ e → SameDirectory b b d e p
+pub depth : {d e : ℕ} {b : Bytes} {p : ℕ} → T (goodDirectory d b p) → d ≤ e → SameDirectory b b d e p
 unfolding goodDirectory
-depth zero e b p g l = absurd g
-depth (suc d) zero b p g l = absurd (omega arith)
-depth (suc d) (suc e) b p g l = deeper b d e p (λ x m. below-deeper b d e (entryAt b x) (good-below d b p x g m) (λ s k u. depth d e b s k (omega arith)))
+depth {d = zero} g l = absurd g
+depth {d = suc d} {e = zero} g l = absurd (omega arith)
+depth {d = suc d} {e = suc e} {b} {p} g l = deeper (λ x m. below-deeper b d e (entryAt b x) (good-below d b p x g m) (λ s k u. depth k (omega arith)))
 
 -- a depth above the number of owned pages is enough
-pub depth-count : (d e : ℕ) (b : Bytes) (p : ℕ) → T (goodDirectory d b p) → length (owned d b p) < e → SameDirectory b b d e p
+pub depth-count : {d : ℕ} (e : ℕ) {b : Bytes} {p : ℕ} → T (goodDirectory d b p) → length (owned d b p) < e → SameDirectory b b d e p
 unfolding goodDirectory
-depth-count zero e b p g l = absurd g
-depth-count (suc d) zero b p g l = absurd (omega arith)
-depth-count (suc d) (suc e) b p g l =
-    deeper b d e p (λ x m. below-deeper b d e (entryAt b x) (good-below d b p x g m) (λ s k u. depth-count d e b s k (omega (arith, own-length d b p x m))))
+depth-count {d = zero} e g l = absurd g
+depth-count {d = suc d} zero g l = absurd (omega arith)
+depth-count {d = suc d} (suc e) {b} {p} g l =
+    deeper (λ x m. below-deeper b d e (entryAt b x) (good-below d b p x g m) (λ s k u. depth-count e k (omega (arith, own-length d b p x m))))

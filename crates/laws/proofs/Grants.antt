@@ -25,32 +25,32 @@ use Rattle.laws.proofs.Passed.{make-passed, write-passed, Removes, remo
 abbrev Says : Bytes → Path → (Row → Row) → Bytes → Type 0
 Says b p f b′ = T (sound b′) × (treeOf b′ ≡ inParent p f (treeOf b))
 
-removal : (b : Bytes) → T (sound b) → (path : Bytes) → Removes b path → Says b (pathOf path) (vacate (lastName (pathOf path))) (removed (pathOf path) b)
+removal : {b : Bytes} → T (sound b) → {path : Bytes} → Removes b path → Says b (pathOf path) (vacate (lastName (pathOf path))) (removed (pathOf path) b)
 unfolding inParent treeOf
-removal b h path r =
+removal {b} h r =
     subst (λ (p : Path). Says b p (vacate (lastName p)) (removed p b)) (sym (r .is))
-    (removed-tree b (sound-facts b h) (r .ns) (r .n) (r .reached) (r .entered) (r .empty))
+    (removed-tree (sound-facts h) (r .ns) (r .n) (r .reached) (r .entered) (r .empty))
 
 pub granted-law : (c : Call) (b : Bytes) → T (sound b) → Passes (refusals c (treeOf b)) → T (sound (effect c b)) × (treeOf (effect c b) ≡ changed c (treeOf b))
 unfolding effect changed inParent refusals earlier later wanted treeOf
-granted-law format b h e = fresh b (sound-facts b h .fits)
+granted-law format b h e = fresh b (sound-facts h .fits)
 granted-law verdict b h e = (h, refl)
 granted-law (find path) b h e = (h, refl)
 granted-law (list path i) b h e = (h, refl)
 granted-law (read path at room) b h e = (h, refl)
 granted-law (makeFile path date) b h e =
-    let m = make-passed b (sound-facts b h) path date (pagesFor 0) (refusal 10) e in
-    subst (λ (p : Path). Says b p (fill (file false (lastName p) date [])) (fileMade p date b)) (sym (m .is)) (file-tree b (sound-facts b h) (m .ns) (m .n) date (m .clear))
+    let m = make-passed (sound-facts h) (refusal 10) e in
+    subst (λ (p : Path). Says b p (fill (file false (lastName p) date [])) (fileMade p date b)) (sym (m .is)) (file-tree (sound-facts h) (m .clear))
 granted-law (makeDirectory path date) b h e =
-    let m = make-passed b (sound-facts b h) path date 1 (refusal 10) e in
-    subst (λ (p : Path). Says b p (fill (dir (lastName p) date (emptyRow 8))) (directoryMade p date b)) (sym (m .is)) (directory-tree b (sound-facts b h) (m .ns) (m .n) date (m .clear))
+    let m = make-passed (sound-facts h) (refusal 10) e in
+    subst (λ (p : Path). Says b p (fill (dir (lastName p) date (emptyRow 8))) (directoryMade p date b)) (sym (m .is)) (directory-tree (sound-facts h) (m .clear))
 granted-law (write path from v) b h e =
-    let w = write-passed b (sound-facts b h) path from v e in
+    let w = write-passed (sound-facts h) v e in
     subst (λ (p : Path). Says b p (rewrite (lastName p) (put from v (contentIn (node path (treeOf b))))) (written p from v b)) (sym (w .is))
-    (written-tree b (sound-facts b h) (w .ns) (w .n) from v (w .reached) (w .entered) (node path (treeOf b)) (w .leads) (w .isFile) (w .begins) (w .space))
-granted-law (removeFile path) b h e = removal b h path (remove-file-passed b (sound-facts b h) path e)
-granted-law (removeDirectory path) b h e = removal b h path (remove-directory-passed b (sound-facts b h) path e)
+    (written-tree (sound-facts h) (w .ns) (w .n) from v (w .reached) (w .entered) (node path (treeOf b)) (w .leads) (w .isFile) (w .begins) (w .space))
+granted-law (removeFile path) b h e = removal h (remove-file-passed (sound-facts h) e)
+granted-law (removeDirectory path) b h e = removal h (remove-directory-passed (sound-facts h) e)
 granted-law (setLock locked path) b h e =
-    let r = lock-passed b (sound-facts b h) locked path e in
+    let r = lock-passed (sound-facts h) locked e in
     subst (λ (p : Path). Says b p (relock (lastName p) locked) (relocked p locked b)) (sym (r .is))
-    (locked-tree b (sound-facts b h) (r .ns) (r .n) locked (r .reached) (r .entered) (r .isFile))
+    (locked-tree (sound-facts h) (r .ns) (r .n) locked (r .reached) (r .entered) (r .isFile))

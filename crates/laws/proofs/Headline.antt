@@ -1,4 +1,5 @@
--- The theorems. Their statements are in crates/model/specs/Demands.antt; none has a condition that its statement does not show.
+-- The theorems, each put together from the laws of the files before. Their statements are in crates/model/specs/Demands.antt; none has a condition that
+-- its statement does not show.
 use mathlib.Core.Path.{sym, ap, _∙_, subst}
 use lib.Dec.{T}
 use Rattle.volume.specs.Bytes.{Bytes}

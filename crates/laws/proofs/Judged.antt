@@ -201,9 +201,9 @@ module _ (b : Bytes) where
   abbrev unmarked : List ℕ
   unmarked = replicate (pageCount b) 0
 
-  rest-told : (s : List ℕ) → Adds (ownedPages b) unmarked s → Tells (T (eqb (pageBit b 0) 1 && counted) × NoneLost) [] s (judgeRest b s)
+  rest-told : {s : List ℕ} → Adds (ownedPages b) unmarked s → Tells (T (eqb (pageBit b 0) 1 && counted) × NoneLost) [] s (judgeRest b s)
   unfolding judgeRest lostOr
-  rest-told s c = go (test-told (eqb (pageBit b 0) 1 && counted) badCount s) (first lost pages) refl
+  rest-told {s} c = go (test-told (eqb (pageBit b 0) 1 && counted) badCount s) (first lost pages) refl
     where
       pages : List ℕ
       pages = countFrom 1 (pageCount b - 1)
@@ -239,7 +239,9 @@ module _ (b : Bytes) where
 
   judge-told : Tells Right (ownedPages b) unmarked (judge b)
   unfolding judge
-  judge-told = subst (λ (ps : List ℕ). Tells Right ps unmarked (judge b)) (append-nil (ownedPages b)) (tells-then (directory-told (pageCount b) 0 unmarked (length-replicate {A = ℕ} (pageCount b) 0)) (λ s g c. rest-told s c))
+  judge-told =
+      subst (λ (ps : List ℕ). Tells Right ps unmarked (judge b)) (append-nil (ownedPages b))
+      (tells-then (directory-told (pageCount b) 0 unmarked (length-replicate {A = ℕ} (pageCount b) 0)) (λ s g c. rest-told c))
 
   right-facts : T (validLength (length b)) → T (validHeader b) → Right → Ownable (ownedPages b) unmarked → Facts b
   right-facts v w g o =
@@ -265,8 +267,8 @@ module _ (b : Bytes) where
 
   told-sound : {j : Judged} → Tells Right (ownedPages b) unmarked j → T (validLength (length b)) → T (validHeader b) → isClean j ≡ sound b
   unfolding isClean
-  told-sound (refuted n) v w = bool-ext false (sound b) (λ h. absurd h) (λ h. let r = facts-right (sound-facts b h) in n (r .0) (r .1))
-  told-sound (proved s g o c) v w = bool-ext true (sound b) (λ h. facts-sound b (right-facts v w g o)) (λ h. tt)
+  told-sound (refuted n) v w = bool-ext false (sound b) (λ h. absurd h) (λ h. let r = facts-right (sound-facts h) in n (r .0) (r .1))
+  told-sound (proved s g o c) v w = bool-ext true (sound b) (λ h. facts-sound (right-facts v w g o)) (λ h. tt)
 
   told-marks : {s : List ℕ} → Tells Right (ownedPages b) unmarked (clean s) → (q : ℕ) → q < pageCount b → getD s q 0 ≡ occ q (ownedPages b)
   told-marks (proved s g o c) q l = omega (arith, c .each q l, getD-replicate {A = ℕ} (pageCount b) q 0 0 l)
@@ -307,8 +309,8 @@ module _ (b : Bytes) where
   told-clean (proved s g o c) w = tt
 
   -- a walk that ends clean has given its owner mark to each owned page, and to no other
-  pub walk-clean : (marks : List ℕ) → walk ≡ clean marks → Walkable b × ((q : ℕ) → q < pageCount b → getD marks q 0 ≡ occ q (ownedPages b))
-  walk-clean marks e = told-walkable (subst (Tells b (T (goodDirectory (pageCount b) b 0)) (ownedPages b) (replicate (pageCount b) 0)) e walk-told)
+  pub walk-clean : {marks : List ℕ} → walk ≡ clean marks → Walkable b × ((q : ℕ) → q < pageCount b → getD marks q 0 ≡ occ q (ownedPages b))
+  walk-clean e = told-walkable (subst (Tells b (T (goodDirectory (pageCount b) b 0)) (ownedPages b) (replicate (pageCount b) 0)) e walk-told)
 
   pub walkable-clean : Walkable b → T (isClean walk)
   walkable-clean w = told-clean walk-told w

@@ -132,7 +132,7 @@ module _ (d : ℕ) (b b′ : Bytes) (p at : ℕ) (others : (x : ℕ) → Mem x (
       → op (rowAt (suc d) b p) ≡ rowAt (suc d) b′ p
   unfolding rowAt
   level-row op test skip work found =
-      change-row b b′ (rowAt d b) (rowAt d b′) at op test skip work (entries p) found (nodup-entries p) (λ x m ne. same-row b b′ d d x (others x m ne))
+      change-row b b′ (rowAt d b) (rowAt d b′) at op test skip work (entries p) found (nodup-entries p) (λ x m ne. same-row b b′ d d (others x m ne))
 
   pub level-owned : Mem at (entries p) → (q : ℕ)
       → occ q (owned (suc d) b′ p) + occ q (own d b (entryAt b at)) ≡ occ q (owned (suc d) b p) + occ q (own d b′ (entryAt b′ at))
@@ -140,7 +140,7 @@ module _ (d : ℕ) (b b′ : Bytes) (p at : ℕ) (others : (x : ℕ) → Mem x (
       let x : occ q (owned (suc d) b p) ≡ occ q (flatMap (λ y. own d b (entryAt b y)) (entries p)) = ap (occ q) (owned-entries d b p) in
       let x′ : occ q (owned (suc d) b′ p) ≡ occ q (flatMap (λ y. own d b′ (entryAt b′ y)) (entries p)) = ap (occ q) (owned-entries d b′ p) in
       let c = occ-flatMap-change (λ y. own d b (entryAt b y)) (λ y. own d b′ (entryAt b′ y)) (entries p) at q (nodup-entries p) m
-      (λ y k ne. sym (same-own b b′ d d y (others y k ne))) in
+      (λ y k ne. sym (same-own b b′ d d (others y k ne))) in
       omega (arith, x, x′, c)
 
   pub level-good : T (goodDirectory (suc d) b p)
@@ -154,7 +154,7 @@ module _ (d : ℕ) (b b′ : Bytes) (p at : ℕ) (others : (x : ℕ) → Mem x (
       good-join d b′ p (record {
         each = λ x m. elim (ℕ-discrete x at) [
           | yes e ↦ subst (λ (y : ℕ). T (goodEntry b′ (entryAt b′ y))) (sym e) good
-          | no ne ↦ subst (λ (c : Bool). T c) (sym (same-good b b′ d d x (others x m ne))) (g .each x m)
+          | no ne ↦ subst (λ (c : Bool). T c) (sym (same-good b b′ d d (others x m ne))) (g .each x m)
         ];
         apart = λ x y m k ne. elim (ℕ-discrete x at) [
           | yes e ↦ subst (λ (z : ℕ). T (not (sameName (entryAt b′ z) (entryAt b′ y)))) (sym e) (new y k (λ f. ne (e ∙ sym f)))
@@ -168,6 +168,6 @@ module _ (d : ℕ) (b b′ : Bytes) (p at : ℕ) (others : (x : ℕ) → Mem x (
         ];
         below = λ x m. elim (ℕ-discrete x at) [
           | yes e ↦ subst (λ (y : ℕ). T (inDirectory true (goodDirectory d b′) (entryAt b′ y))) (sym e) below
-          | no ne ↦ subst (λ (c : Bool). T c) (sym (same-below b b′ d d x (others x m ne))) (g .below x m)
+          | no ne ↦ subst (λ (c : Bool). T c) (sym (same-below b b′ d d (others x m ne))) (g .below x m)
         ];
       })

@@ -54,9 +54,9 @@ keep-one f p (x ∷ xs) h = go (member p (f x)) (member-occ p (f x)) refl (keep-
         let z : occ p (f x) ≡ 0 = not-mem p (f x) (λ k. subst (λ (c : Bool). T c) e (occ-member p (f x) k)) in
         next (omega (arith, z, occ-append p (f x) (flatMap f xs)))
 
-pub page-owned : (b : Bytes) → Facts b → (p : ℕ) → 1 ≤ p → p < pageCount b → Owned b p
+pub page-owned : {b : Bytes} → Facts b → (p : ℕ) → 1 ≤ p → p < pageCount b → Owned b p
 unfolding owners
-page-owned b f p l u = elim (bit-cases version1 b p) [
+page-owned {b} f p l u = elim (bit-cases version1 b p) [
   | inl z ↦ isFree z (keep-none (pagesAt b) p (reachedEntries b) (f .exact p l u ∙ z))
   | inr o ↦ let r = keep-one (pagesAt b) p (reachedEntries b) (f .exact p l u ∙ o) in isOwned (r .0) o (r .1)
 ]
@@ -73,16 +73,16 @@ tree-pages b = refl
 
 pub account : (b : Bytes) → T (sound b) → Account b (treeOf b)
 account b h =
-    let f = sound-facts b h in
+    let f = sound-facts h in
     record {
       isSound = h;
       means = refl;
-      counted = free-sum b f ∙ sym (tree-pages b);
+      counted = free-sum f ∙ sym (tree-pages b);
       zeros = sym (f .counted);
       told = as-tree verdict b h .answered ∙ verdict-told (treeOf b)
-          ∙ ap {B = Answer Verdict} (λ n. granted (record { pages = treeOf b .pages; free = n })) (free-number b f);
-      number = free-number b f;
-      pages = page-owned b f;
+          ∙ ap {B = Answer Verdict} (λ n. granted (record { pages = treeOf b .pages; free = n })) (free-number f);
+      number = free-number f;
+      pages = page-owned f;
     }
 
 -- ---- the length is kept
@@ -104,7 +104,7 @@ changed-pages (setLock locked path) t = refl
 -- sound images of as many pages are as long
 sound-length : (b b′ : Bytes) → T (sound b) → T (sound b′) → treeOf b′ .pages ≡ treeOf b .pages → length b′ ≡ length b
 unfolding treeOf
-sound-length b b′ h h′ e = omega (arith, valid-sized b (sound-facts b h .fits) .whole, valid-sized b′ (sound-facts b′ h′ .fits) .whole)
+sound-length b b′ h h′ e = omega (arith, valid-sized b (sound-facts h .fits) .whole, valid-sized b′ (sound-facts h′ .fits) .whole)
 
 pub length-kept : (c : Call) (b : Bytes) → length (after c b) ≡ length b
 unfolding after lines isFormat effect

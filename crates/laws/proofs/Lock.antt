@@ -75,8 +75,11 @@ entry-relocked : (b b′ : Bytes) (at : ℕ) (k : Bool) → T (W.isFileEntry (en
 unfolding entryAt W.isFileEntry
 entry-relocked b b′ at k h o d l n a s z = rw (o, d, l, n, a, s, z) (go (occupied b at) (isDirectory b at) h)
   where
-    go : (o c : Bool) → T (W.isFileEntry (if o then (if c then aDirectory (nameAt b at) (dateAt b at) (startAt b at) (sizeAt b at) else aFile (isLocked b at) (nameAt b at) (dateAt b at) (startAt b at) (sizeAt b at)) else vacant))
-        → (if o then (if c then aDirectory (nameAt b at) (dateAt b at) (startAt b at) (sizeAt b at) else aFile k (nameAt b at) (dateAt b at) (startAt b at) (sizeAt b at)) else vacant)
+    go : (o c : Bool)
+        → T (W.isFileEntry (if o then (if c then aDirectory (nameAt b at) (dateAt b at) (startAt b at) (sizeAt b at)
+        else aFile (isLocked b at) (nameAt b at) (dateAt b at) (startAt b at) (sizeAt b at)) else vacant))
+        → (if o then (if c then aDirectory (nameAt b at) (dateAt b at) (startAt b at) (sizeAt b at)
+        else aFile k (nameAt b at) (dateAt b at) (startAt b at) (sizeAt b at)) else vacant)
         ≡ aFile k (nameAt b at) (dateAt b at) (startAt b at) (sizeAt b at)
     go true true h = absurd h
     go true false h = refl
@@ -148,8 +151,10 @@ module _ (b : Bytes) (f : Facts b) (ns : List Name) (n : Name) (tg : Target b ns
   pages-kept : Kept b b′ (chain (link b) (pagesFor s₀) (startAt b at))
   pages-kept q m =
       let c = W.file-chained b f ns n tg isFile in
-      let home : at / 256 ≡ t = within-page t at (slot .within) at (omega arith) (omega arith) in
-      (W.file-owned b f ns n tg isFile .inside q m .0, λ i l u. lock-rest i (λ w. omega (arith, m, c .apart, ap (λ (x : ℕ). occ x (chain (link b) (pagesFor s₀) (startAt b at))) (sym l ∙ ap (λ (x : ℕ). x / 256) w ∙ home))))
+      let home : at / 256 ≡ t = within-page t at (slot .within) at (omega arith) (omega arith) in (
+        W.file-owned b f ns n tg isFile .inside q m .0,
+        λ i l u. lock-rest i (λ w. omega (arith, m, c .apart, ap (λ (x : ℕ). occ x (chain (link b) (pagesFor s₀) (startAt b at))) (sym l ∙ ap (λ (x : ℕ). x / 256) w ∙ home))),
+      )
 
   same-pages : SamePages b b′ (aFile k (nameAt b at) (dateAt b at) (startAt b at) s₀)
   unfolding pagesOf
@@ -161,7 +166,8 @@ module _ (b : Bytes) (f : Facts b) (ns : List Name) (n : Name) (tg : Target b ns
     skip = relock-skip b (rowAt e b) (n .bytes) k;
     work = λ rest.
         ap (λ (x : Entry). relock (n .bytes) k (entryRow b (rowAt e b) x rest)) is
-        ∙ relock-work b (rowAt e b) (n .bytes) k (isLocked b at) (nameAt b at) (dateAt b at) (startAt b at) s₀ (subst (λ (x : Entry). T (isNamed (n .bytes) x)) is (W.found b f ns n tg isFile .1)) rest
+        ∙ relock-work b (rowAt e b) (n .bytes) k (isLocked b at) (nameAt b at) (dateAt b at) (startAt b at) s₀
+        (subst (λ (x : Entry). T (isNamed (n .bytes) x)) is (W.found b f ns n tg isFile .1)) rest
         ∙ ap (λ (v : Bytes). file k (nameAt b at) (dateAt b at) (take s₀ v) rest) (sym (same-pages .content))
         ∙ ap (λ (ps : List ℕ). file k (nameAt b at) (dateAt b at) (contentOf b′ s₀ ps) rest) (sym (same-pages .pages))
         ∙ ap (λ (x : Entry). entryRow b′ (rowAt e b′) x rest) (sym is′);
@@ -179,13 +185,13 @@ module _ (b : Bytes) (f : Facts b) (ns : List Name) (n : Name) (tg : Target b ns
       let far = slot .within .far in
       let mine′ : own e b′ (entryAt b′ at) ≡ own e b (entryAt b at) = ap (own e b′) is′ ∙ same-pages .pages ∙ sym (W.mine b f ns n tg isFile) in
       let low : (i : ℕ) → i < 36 → byteAt b′ i ≡ byteAt b i = λ i l. lock-rest i (λ q. omega (arith, q, far, l)) in
-      changed b b′ f ns e t at [] (tg .above .leads) (W.found b f ns n tg isFile .0)
+      changed b′ f ns e t at [] (tg .above .leads) (W.found b f ns n tg isFile .0)
       (record { len = long; head = λ i l. lock-rest i (λ q. omega (arith, q, far)); rest = λ i l u z. lock-rest i (λ q. omega (arith, q, u (omega (arith, q)))) })
       (λ q k. absurd (omega arith))
       (relock (n .bytes) k) (isNamed (n .bytes)) (tg .above .good) works
       (record {
         bits = λ q l.
-            let s : pageBit b′ q ≡ pageBit b q = ap (λ (x : ℕ). bit (q % 8) x) (low (4 + q / 8) (omega (arith, l, size b f .high))) in
+            let s : pageBit b′ q ≡ pageBit b q = ap (λ (x : ℕ). bit (q % 8) x) (low (4 + q / 8) (omega (arith, l, size f .high))) in
             omega (arith, s, ap (occ q) mine′);
         count = omega (arith, low 3 (omega arith), ap length mine′);
         fresh-in = λ q m. let r = W.file-owned b f ns n tg isFile .inside q (subst (Mem q) (mine′ ∙ W.mine b f ns n tg isFile) m) in (r .0, r .1);
@@ -194,19 +200,19 @@ module _ (b : Bytes) (f : Facts b) (ns : List Name) (n : Name) (tg : Target b ns
 -- ---- the call
 
 -- the entry of a path that leads to no directory is a file's
-pub target-file : (b : Bytes) → Facts b → (ns : List Name) (n : Name) (tg : Target b ns n)
+pub target-file : {b : Bytes} {ns : List Name} {n : Name} (tg : Target b ns n)
     → ((x : Node) → walkTo (below ns n) (rowAt (pageCount b) b 0) ≡ arrived x → T (not (isDirectoryNode x))) → T (W.isFileEntry (entryAt b (tg .at)))
-target-file b f ns n tg isFile =
+target-file {b} {n} tg isFile =
     W.node-file b (rowAt (tg .above .e) b) (n .bytes) (entryAt b (tg .at)) (named-found b (tg .above .t) (n .bytes) (tg .at) (tg .found) .1) (isFile _ (tg .node))
 
-pub locked-tree : (b : Bytes) → Facts b → (ns : List Name) (n : Name) (k : Bool)
+pub locked-tree : {b : Bytes} → Facts b → (ns : List Name) (n : Name) (k : Bool)
     → T (not (isMissing (walkTo (below ns n) (rowAt (pageCount b) b 0)))) → T (not (isBlocked (walkTo (below ns n) (rowAt (pageCount b) b 0))))
     → ((x : Node) → walkTo (below ns n) (rowAt (pageCount b) b 0) ≡ arrived x → T (not (isDirectoryNode x)))
     → T (sound (relocked (below ns n) k b)) × (treeOf (relocked (below ns n) k b) ≡ record { pages = pageCount b; root = changeAt ns (relock (n .bytes) k) (rowAt (pageCount b) b 0) })
 unfolding relocked
-locked-tree b f ns n k u v isFile =
-    let tg = target b f ns n u v in
-    let is = target-file b f ns n tg isFile in
+locked-tree {b} f ns n k u v isFile =
+    let tg = target f u v in
+    let is = target-file tg isFile in
     subst (λ (at : ℕ). let b′ = set b at (withLock k (byteAt b at)) in
     T (sound b′) × (treeOf b′ ≡ record { pages = pageCount b; root = changeAt ns (relock (n .bytes) k) (rowAt (pageCount b) b 0) }))
     (sym (tg .position)) (locked-sound b f ns n tg is k)

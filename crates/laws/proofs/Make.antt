@@ -112,7 +112,7 @@ pub record Place (b : Bytes) (ns : List Name) (name date : Bytes) (k : ℕ) : Ty
 abbrev pub madeAt : (flags size k : ℕ) (name date : Bytes) (at : ℕ) → Bytes → Bytes
 madeAt flags size k name date at b = On.grown version1 (pageCount b) k (byte (at + 17)) (put at (newEntry flags name 0 size date) b)
 
-module _ (b : Bytes) (f : Facts b) (ns : List Name) (name date : Bytes) (fl z k : ℕ) (w : Place b ns name date k) where
+module _ {b : Bytes} (f : Facts b) (ns : List Name) (name date : Bytes) (fl z k : ℕ) (w : Place b ns name date k) where
   e : ℕ
   e = w .above .e
 
@@ -120,19 +120,19 @@ module _ (b : Bytes) (f : Facts b) (ns : List Name) (name date : Bytes) (fl z k 
   spot = first-found (λ x. isVacant (entryAt b x)) (entries (w .above .t)) (w .at) (w .found)
 
   pub place-slot : Slot b (w .above .t) (w .at)
-  place-slot = slot b f ns (suc (w .above .e)) (w .above .t) (w .at) (w .above .leads) (spot .0)
+  place-slot = slot f ns (suc (w .above .e)) (w .above .t) (w .at) (w .above .leads) (spot .0)
 
   pub place-held : Held version1 home (pageCount b) (w .at) (length (newEntry fl name 0 z date)) (w .above .t) b
   place-held =
       let l = new-length fl name z date (w .long) (w .dated) in
-      let h = held b f (w .above .t) (w .at) place-slot 0 32 (omega arith) in
+      let h = held f place-slot 0 32 (omega arith) in
       record { inside = omega (arith, place-slot .inside); bytes = λ i u v. h .bytes i (omega arith) (omega arith); page = h .page; marked = h .marked }
 
   pub made-bytes : Made version1 home (pageCount b) b (madeAt fl z k name date (w .at) b) (w .at) (newEntry fl name 0 z date) (byte (w .at + 17)) k (On.gained version1 (pageCount b) k b)
   made-bytes =
       let l = new-length fl name z date (w .long) (w .dated) in
-      made-is version1 home (pageCount b) (lawful b f) b (w .at) (w .above .t) (newEntry fl name 0 z date) (byte (w .at + 17)) k (size b f .whole) (header-marked b f)
-      (omega (arith, size b f .low)) place-held (omega arith) (omega arith)
+      made-is (lawful f) b (w .at) (w .above .t) (newEntry fl name 0 z date) (byte (w .at + 17)) k (size f .whole) (header-marked f)
+      (omega (arith, size f .low)) place-held (omega arith) (omega arith)
       (put-in (w .at) (newEntry fl name 0 z date) b (place-held .inside) 17 (omega arith) ∙ new-start fl name z date (w .long) (w .dated))
       (w .space)
 
@@ -141,13 +141,13 @@ module _ (b : Bytes) (f : Facts b) (ns : List Name) (name date : Bytes) (fl z k 
       → byteAt (madeAt fl z k name date (w .at) b) i ≡ byteAt b i
   made-stays i o e =
       let l = new-length fl name z date (w .long) (w .dated) in
-      Stays.made-stays version1 home (pageCount b) (lawful b f) b (w .at) (w .above .t) (newEntry fl name 0 z date) (byte (w .at + 17)) k (size b f .whole) (header-marked b f)
-      (omega (arith, size b f .low)) place-held (omega arith) (omega arith)
+      Stays.made-stays (lawful f) b (w .at) (w .above .t) (newEntry fl name 0 z date) (byte (w .at + 17)) k (size f .whole) (header-marked f)
+      (omega (arith, size f .low)) place-held (omega arith) (omega arith)
       (put-in (w .at) (newEntry fl name 0 z date) b (place-held .inside) 17 (omega arith) ∙ new-start fl name z date (w .long) (w .dated))
       (w .space) i (λ u. omega (arith, l, o u)) e
 
   pub made-gained : Gained version1 (pageCount b) k b
-  made-gained = gained-is version1 home (pageCount b) (lawful b f) k b (size b f .whole) (header-marked b f) (w .space)
+  made-gained = gained-is (lawful f) k b (size f .whole) (header-marked f) (w .space)
 
   -- the entry's bytes but its start page
   pub made-there : (i : ℕ) → i < 32 → i ≢ 17 → byteAt (madeAt fl z k name date (w .at) b) (w .at + i) ≡ byteAt (newEntry fl name 0 z date) i
@@ -171,12 +171,12 @@ module _ (b : Bytes) (f : Facts b) (ns : List Name) (name date : Bytes) (fl z k 
       let new = made-gained .new in
       let l = new-length fl name z date (w .long) (w .dated) in
       let zero-out : occ 0 qs ≡ 0 = not-mem 0 qs (λ c. omega (arith, new 0 c .0)) in
-      changed b b′ f ns (w .above .e) (w .above .t) (w .at) qs (w .above .leads) (spot .0)
+      changed b′ f ns (w .above .e) (w .above .t) (w .at) qs (w .above .leads) (spot .0)
       (record {
         len = m .size;
         head = λ i u. let z : i / 256 ≡ 0 = omega arith in
-            m .rest i (head-kept b f i u) (λ v. omega (arith, place-slot .within .far)) (subst (λ (y : ℕ). occ y qs ≡ 0) (sym z) zero-out);
-        rest = λ i u v c. m .rest i (rest-kept b f i u) (λ y. omega (arith, v y)) c;
+            m .rest i (head-kept f i u) (λ v. omega (arith, place-slot .within .far)) (subst (λ (y : ℕ). occ y qs ≡ 0) (sym z) zero-out);
+        rest = λ i u v c. m .rest i (rest-kept f i u) (λ y. omega (arith, v y)) c;
       })
       (λ q c. let r = new q c in (r .0, λ o. absurd (omega (arith, r .2, f .exact q (r .0) (r .1)))))
       (fill h) isVacant (w .above .good)
@@ -197,15 +197,15 @@ module _ (b : Bytes) (f : Facts b) (ns : List Name) (name date : Bytes) (fl z k 
 
 -- ---- a file: its pages are those that size 0 wants, whatever their number
 
-module _ (b : Bytes) (f : Facts b) (ns : List Name) (name date : Bytes) (w : Place b ns name date (pagesFor 0)) where
+module _ {b : Bytes} (f : Facts b) {ns : List Name} {name date : Bytes} (w : Place b ns name date (pagesFor 0)) where
   file-sound : let b′ = madeAt 0x80 0 (pagesFor 0) name date (w .at) b in
       T (sound b′) × (treeOf b′ ≡ record { pages = pageCount b; root = changeAt ns (fill (file false name date [])) (rowAt (pageCount b) b 0) })
   unfolding own pagesOf goodEntry sameName entryRow contentOf
   file-sound =
       let b′ : Bytes = madeAt 0x80 0 (pagesFor 0) name date (w .at) b in
-      let m = made-bytes b f ns name date 0x80 0 (pagesFor 0) w in
-      let is = is-file 0x80 name 0 date (w .long) (w .dated) b′ (w .at) (made-inside b f ns name date 0x80 0 (pagesFor 0) w) (made-there b f ns name date 0x80 0 (pagesFor 0) w) refl in
-      made-sound b f ns name date 0x80 0 (pagesFor 0) w (file false name date []) (aFile false name date (startAt b′ (w .at)) 0) is
+      let m = made-bytes f ns name date 0x80 0 (pagesFor 0) w in
+      let is = is-file 0x80 name 0 date (w .long) (w .dated) b′ (w .at) (made-inside f ns name date 0x80 0 (pagesFor 0) w) (made-there f ns name date 0x80 0 (pagesFor 0) w) refl in
+      made-sound f ns name date 0x80 0 (pagesFor 0) w (file false name date []) (aFile false name date (startAt b′ (w .at)) 0) is
       (m .pages)
       (both-and (legalName name) (eqb (beyond (link b′) (pagesFor 0) (startAt b′ (w .at))) 0) (w .legal) (eq-eqb (m .ends)))
       tt (λ y h. h) (λ rest. refl)
@@ -221,7 +221,7 @@ leads-many b (n ∷ ns) (suc d) p e t l =
     let o : length (own d b (entryAt b (l .0))) ≡ suc (length (owned d b (l .1))) = ap (λ (x : Entry). length (own d b x)) (l .3 .is) in
     omega (arith, leads-many b ns d (l .1) e t (l .4), own-length d b p (l .0) m, o)
 
-module _ (b : Bytes) (f : Facts b) (ns : List Name) (name date : Bytes) (w : Place b ns name date 1) where
+module _ {b : Bytes} (f : Facts b) {ns : List Name} {name date : Bytes} (w : Place b ns name date 1) where
   directory-sound : let b′ = madeAt 0x81 0x0100 1 name date (w .at) b in
       T (sound b′) × (treeOf b′ ≡ record { pages = pageCount b; root = changeAt ns (fill (dir name date (emptyRow 8))) (rowAt (pageCount b) b 0) })
   unfolding own goodEntry sameName entryRow chain beyond
@@ -231,7 +231,7 @@ module _ (b : Bytes) (f : Facts b) (ns : List Name) (name date : Bytes) (w : Pla
       b′ = madeAt 0x81 0x0100 1 name date (w .at) b
 
       m : Made version1 home (pageCount b) b (madeAt 0x81 0x0100 1 name date (w .at) b) (w .at) (newEntry 0x81 name 0 0x0100 date) (byte (w .at + 17)) 1 (On.gained version1 (pageCount b) 1 b)
-      m = made-bytes b f ns name date 0x81 0x0100 1 w
+      m = made-bytes f ns name date 0x81 0x0100 1 w
 
       s : ℕ
       s = startAt (madeAt 0x81 0x0100 1 name date (w .at) b) (w .at)
@@ -240,7 +240,7 @@ module _ (b : Bytes) (f : Facts b) (ns : List Name) (name date : Bytes) (w : Pla
       mem = subst (λ (ps : List ℕ). Mem s ps) (m .pages) (omega (arith, hit-refl s))
 
       low : 1 ≤ s
-      low = made-gained b f ns name date 0x81 0x0100 1 w .new s mem .0
+      low = made-gained f ns name date 0x81 0x0100 1 w .new s mem .0
 
       zeros : (i : ℕ) → i / 256 ≡ s → byteAt b′ i ≡ 0
       zeros i h = elim (ℕ-discrete i (256 * s)) [
@@ -256,15 +256,15 @@ module _ (b : Bytes) (f : Facts b) (ns : List Name) (name date : Bytes) (w : Pla
         arith,
         leads-depth b ns (pageCount b) 0 (suc (w .above .e)) (w .above .t) (w .above .leads),
         leads-many b ns (pageCount b) 0 (suc (w .above .e)) (w .above .t) (w .above .leads),
-        count-owned b f,
+        count-owned f,
         w .space,
       )
 
       go : (e : ℕ) → w .above .e ≡ e → T (sound b′) × (treeOf b′ ≡ record { pages = pageCount b; root = changeAt ns (fill (dir name date (emptyRow 8))) (rowAt (pageCount b) b 0) })
       go zero q = absurd (omega (arith, q, deep))
       go (suc e) q =
-          let is = is-directory 0x81 name 0x0100 date (w .long) (w .dated) b′ (w .at) (made-inside b f ns name date 0x81 0x0100 1 w) (made-there b f ns name date 0x81 0x0100 1 w) refl in
-          made-sound b f ns name date 0x81 0x0100 1 w (dir name date (emptyRow 8)) (aDirectory name date s 0x0100) is
+          let is = is-directory 0x81 name 0x0100 date (w .long) (w .dated) b′ (w .at) (made-inside f ns name date 0x81 0x0100 1 w) (made-there f ns name date 0x81 0x0100 1 w) refl in
+          made-sound f ns name date 0x81 0x0100 1 w (dir name date (emptyRow 8)) (aDirectory name date s 0x0100) is
           (ap (λ (d : ℕ). s ∷ owned d b′ s) q ∙ ap (λ (l : List ℕ). s ∷ l) (vacant-owns b′ e s vacants) ∙ m .pages)
           (both-and (legalName name) true (w .legal) tt)
           (subst (λ (d : ℕ). T (goodDirectory d b′ s)) (sym q) (vacant-good b′ e s vacants))
@@ -284,9 +284,9 @@ pub record Clear (b : Bytes) (ns : List Name) (n : Name) (date : Bytes) (k : ℕ
   pub dated : length date ≡ 8
   pub space : k ≤ zeroBits b (pageCount b)
 
-pub place-of : (b : Bytes) → Facts b → (ns : List Name) (n : Name) (date : Bytes) (k : ℕ) → Clear b ns n date k → Place b ns (n .bytes) date k
-place-of b f ns n date k c =
-    let p = parent b f ns (c .reached) (c .entered) in
+pub place-of : {b : Bytes} → Facts b → {ns : List Name} {n : Name} {date : Bytes} {k : ℕ} → Clear b ns n date k → Place b ns (n .bytes) date k
+place-of {b} f {ns} {n} c =
+    let p = parent f (c .reached) (c .entered) in
     let r = c .new (rowAt (suc (p .e)) b (p .t)) (p .row) in
     record {
       above = p;
@@ -299,25 +299,25 @@ place-of b f ns n date k c =
       space = c .space;
     }
 
-pub made-position : (b : Bytes) (ns : List Name) (n : Name) (date : Bytes) (fl z k : ℕ) (p : Parent b ns)
+pub made-position : {b : Bytes} {ns : List Name} (n : Name) (date : Bytes) (fl z k : ℕ) (p : Parent b ns)
     → made fl z k (below ns n) date b ≡ madeAt fl z k (n .bytes) date (lowestVacant b (p .t)) b
 unfolding made arrivedOr
-made-position b ns n date fl z k p = ap (λ (v : Walked ℕ). madeAt fl z k (n .bytes) date (lowestVacant b (arrivedOr 0 v)) b) (p .page)
+made-position {b} n date fl z k p = ap (λ (v : Walked ℕ). madeAt fl z k (n .bytes) date (lowestVacant b (arrivedOr 0 v)) b) (p .page)
 
-pub file-tree : (b : Bytes) → Facts b → (ns : List Name) (n : Name) (date : Bytes) → Clear b ns n date (pagesFor 0)
+pub file-tree : {b : Bytes} → Facts b → {ns : List Name} {n : Name} {date : Bytes} → Clear b ns n date (pagesFor 0)
     → T (sound (fileMade (below ns n) date b))
     × (treeOf (fileMade (below ns n) date b) ≡ record { pages = pageCount b; root = changeAt ns (fill (file false (n .bytes) date [])) (rowAt (pageCount b) b 0) })
 unfolding place-of
-file-tree b f ns n date c =
+file-tree {b} f {ns} {n} {date} c =
     subst (λ (b′ : Bytes). T (sound b′) × (treeOf b′ ≡ record { pages = pageCount b; root = changeAt ns (fill (file false (n .bytes) date [])) (rowAt (pageCount b) b 0) }))
-    (sym (made-position b ns n date 0x80 0 (pagesFor 0) (parent b f ns (c .reached) (c .entered))))
-    (file-sound b f ns (n .bytes) date (place-of b f ns n date (pagesFor 0) c))
+    (sym (made-position n date 0x80 0 (pagesFor 0) (parent f (c .reached) (c .entered))))
+    (file-sound f (place-of f c))
 
-pub directory-tree : (b : Bytes) → Facts b → (ns : List Name) (n : Name) (date : Bytes) → Clear b ns n date 1
+pub directory-tree : {b : Bytes} → Facts b → {ns : List Name} {n : Name} {date : Bytes} → Clear b ns n date 1
     → T (sound (directoryMade (below ns n) date b))
     × (treeOf (directoryMade (below ns n) date b) ≡ record { pages = pageCount b; root = changeAt ns (fill (dir (n .bytes) date (emptyRow 8))) (rowAt (pageCount b) b 0) })
 unfolding place-of
-directory-tree b f ns n date c =
+directory-tree {b} f {ns} {n} {date} c =
     subst (λ (b′ : Bytes). T (sound b′) × (treeOf b′ ≡ record { pages = pageCount b; root = changeAt ns (fill (dir (n .bytes) date (emptyRow 8))) (rowAt (pageCount b) b 0) }))
-    (sym (made-position b ns n date 0x81 0x0100 1 (parent b f ns (c .reached) (c .entered))))
-    (directory-sound b f ns (n .bytes) date (place-of b f ns n date 1 c))
+    (sym (made-position n date 0x81 0x0100 1 (parent f (c .reached) (c .entered))))
+    (directory-sound f (place-of f c))

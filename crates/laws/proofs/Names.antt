@@ -21,9 +21,9 @@ pub record LegalText (v : Bytes) : Type 0 where
   pub short : length v ≤ 16
   pub legal : T (all legalByte v)
 
-pub text-facts : (v : Bytes) → T (legalText v) → LegalText v
+pub text-facts : {v : Bytes} → T (legalText v) → LegalText v
 unfolding legalText
-text-facts v h =
+text-facts {v} h =
     let x = conditions-cons (leb 1 (length v)) _ h in
     let y = conditions-cons (leb (length v) 16) _ (x .1) in
     record { some-byte = leb→le 1 (length v) (x .0); short = leb→le (length v) 16 (y .0); legal = conditions-cons (all legalByte v) [] (y .1) .0 }
@@ -52,15 +52,15 @@ rest-padded (c ∷ v) k h =
 
 pub padded-legal : (v : Bytes) → T (legalText v) → T (legalName (padded v))
 unfolding padded legalName all
-padded-legal [] h = let f = text-facts [] h .some-byte in absurd (omega arith)
+padded-legal [] h = let f = text-facts h .some-byte in absurd (omega arith)
 padded-legal (c ∷ v) h =
-    let r = and-both (legalByte c) (all legalByte v) (text-facts (c ∷ v) h .legal) in
+    let r = and-both (legalByte c) (all legalByte v) (text-facts h .legal) in
     both-and (legalByte c) (legalRest (v ++ replicate (16 - suc (length v)) 0)) (r .0) (rest-padded v (16 - suc (length v)) (r .1))
 
 pub padded-length : (v : Bytes) → T (legalText v) → length (padded v) ≡ 16
 unfolding padded
 padded-length v h =
-    length-append v (replicate (16 - length v) 0) ∙ omega (arith, text-facts v h .short, length-replicate {A = ℕ} (16 - length v) 0)
+    length-append v (replicate (16 - length v) 0) ∙ omega (arith, text-facts h .short, length-replicate {A = ℕ} (16 - length v) 0)
 
 -- ---- the names of a path
 
@@ -106,9 +106,6 @@ path-legal (c ∷ d ∷ r) = go (eqb c 0x2F && all legalText (texts (d ∷ r))) 
     go : (z : Bool) → (T z → T (all legalText (texts (d ∷ r)))) → LegalPath (if z then pathTo (namesFrom 1 (texts (d ∷ r))) else noPath)
     go true h = pathTo-legal (namesFrom 1 (texts (d ∷ r))) (names-legal 1 (texts (d ∷ r)) (h tt))
     go false h = tt
-
-pub parents-legal : (bytes : Bytes) (ns : List Name) (n : Name) → pathOf bytes ≡ below ns n → AllLegal ns
-parents-legal bytes ns n e = subst LegalPath e (path-legal bytes) .0
 
 pub last-legal : (bytes : Bytes) (ns : List Name) (n : Name) → pathOf bytes ≡ below ns n → T (legalName (n .bytes)) × (length (n .bytes) ≡ 16)
 last-legal bytes ns n e = subst LegalPath e (path-legal bytes) .1

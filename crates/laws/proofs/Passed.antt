@@ -110,14 +110,14 @@ unfolding isDirectoryNode rowIn held
 file-empty (fileNode l d v) h = omega arith
 file-empty (directoryNode d r) h = absurd h
 
-module _ (b : Bytes) (f : Facts b) where
+module _ {b : Bytes} (f : Facts b) where
   -- the free number is the number of zero bits
   space-free : (k : ℕ) → T (not (ltb (freeNumber (treeOf b)) k)) → k ≤ zeroBits b (pageCount b)
-  space-free k h = omega (arith, nltb→le (freeNumber (treeOf b)) k h, free-number b f, f .counted)
+  space-free k h = omega (arith, nltb→le (freeNumber (treeOf b)) k h, free-number f, f .counted)
 
-  pub make-passed : (path date : Bytes) (k : ℕ) (r : Refusal) → Passes (makeLines path date (treeOf b) ++ ((ltb (freeNumber (treeOf b)) k, r) ∷ [])) → Makes b path date k
+  pub make-passed : {path date : Bytes} {k : ℕ} (r : Refusal) → Passes (makeLines path date (treeOf b) ++ ((ltb (freeNumber (treeOf b)) k, r) ∷ [])) → Makes b path date k
   unfolding makeLines treeOf arrivedOr
-  make-passed path date k r e =
+  make-passed {path} {date} {k} r e =
       let p1 = passed _ _ e in
       let p2 = passed _ _ (p1 .1) in
       let p3 = passed _ _ (p2 .1) in
@@ -151,9 +151,9 @@ module _ (b : Bytes) (f : Facts b) where
         };
       }
 
-  pub write-passed : (path : Bytes) (from : ℕ) (v : Bytes) → Passes (refusals (write path from v) (treeOf b)) → Writes b path from v
+  pub write-passed : {path : Bytes} {from : ℕ} (v : Bytes) → Passes (refusals (write path from v) (treeOf b)) → Writes b path from v
   unfolding refusals earlier later wanted treeOf
-  write-passed path from v e =
+  write-passed {path} {from} v e =
       let p1 = passed _ _ e in
       let p2 = passed _ _ (p1 .1) in
       let p3 = passed _ _ (p2 .1) in
@@ -175,9 +175,9 @@ module _ (b : Bytes) (f : Facts b) where
         space = space-free (wanted (write path from v) (treeOf b)) (p7 .0);
       }
 
-  pub remove-file-passed : (path : Bytes) → Passes (refusals (removeFile path) (treeOf b)) → Removes b path
+  pub remove-file-passed : {path : Bytes} → Passes (refusals (removeFile path) (treeOf b)) → Removes b path
   unfolding refusals earlier later treeOf arrivedOr
-  remove-file-passed path e =
+  remove-file-passed {path} e =
       let p1 = passed _ _ e in
       let p2 = passed _ _ (p1 .1) in
       let p3 = passed _ _ (p2 .1) in
@@ -196,9 +196,9 @@ module _ (b : Bytes) (f : Facts b) where
             (subst (λ (p : Path). T (not (isDirectoryNode (arrivedOr (directoryNode [] end) (walkTo p top))))) (w .2) (p5 .0)));
       }
 
-  pub remove-directory-passed : (path : Bytes) → Passes (refusals (removeDirectory path) (treeOf b)) → Removes b path
+  pub remove-directory-passed : {path : Bytes} → Passes (refusals (removeDirectory path) (treeOf b)) → Removes b path
   unfolding refusals earlier later treeOf isMissing isBlocked rowIn
-  remove-directory-passed path e =
+  remove-directory-passed {path} e =
       let p1 = passed _ _ e in
       let p2 = passed _ _ (p1 .1) in
       let p3 = passed _ _ (p2 .1) in
@@ -220,9 +220,9 @@ module _ (b : Bytes) (f : Facts b) where
             subst (λ (y : Node). held (rowIn y) ≤ 0) q (nltb→le 0 (held s) (p6 .0));
       }
 
-  pub lock-passed : (locked : Bool) (path : Bytes) → Passes (refusals (setLock locked path) (treeOf b)) → Locks b path
+  pub lock-passed : (locked : Bool) {path : Bytes} → Passes (refusals (setLock locked path) (treeOf b)) → Locks b path
   unfolding refusals earlier later treeOf arrivedOr
-  lock-passed locked path e =
+  lock-passed locked {path} e =
       let p1 = passed _ _ e in
       let p2 = passed _ _ (p1 .1) in
       let p3 = passed _ _ (p2 .1) in
@@ -241,9 +241,9 @@ module _ (b : Bytes) (f : Facts b) where
 
 -- ---- where make and write work
 
-module _ (b : Bytes) (f : Facts b) (path date : Bytes) (k : ℕ) (m : Makes b path date k) where
+module _ {b : Bytes} (f : Facts b) (path : Bytes) {date : Bytes} {k : ℕ} (m : Makes b path date k) where
   pub make-place : Place b (m .ns) (m .n .bytes) date k
-  make-place = place-of b f (m .ns) (m .n) date k (m .clear)
+  make-place = place-of f (m .clear)
 
   pub make-position : lowestVacant b (parentPage b (pathOf path)) ≡ make-place .at
   unfolding lowestVacant arrivedOr
@@ -259,7 +259,7 @@ module _ (b : Bytes) (f : Facts b) (path date : Bytes) (k : ℕ) (m : Makes b pa
 
 module _ (b : Bytes) (f : Facts b) (path : Bytes) (from : ℕ) (v : Bytes) (w : Writes b path from v) where
   pub write-target : Target b (w .ns) (w .n)
-  write-target = target b f (w .ns) (w .n) (w .reached) (w .entered)
+  write-target = target f (w .reached) (w .entered)
 
   abbrev at : ℕ
   at = write-target .at

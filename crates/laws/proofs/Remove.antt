@@ -83,7 +83,7 @@ vacant-works b b′ e t at n found v = record {
 
 -- ---- the call
 
-module _ (b : Bytes) (f : Facts b) (ns : List Name) (n : Name) (tg : Target b ns n)
+module _ {b : Bytes} (f : Facts b) {ns : List Name} {n : Name} (tg : Target b ns n)
     (empty : held (rowIn (nodeOf b (rowAt (tg .above .e) b) (entryAt b (tg .at)))) ≤ 0) where
   pub removed-bytes : Removed version1 (pageCount b) b (set (foldl (On.released version1) b (pagesAt b (tg .at))) (tg .at) 0) (tg .at) (pagesAt b (tg .at))
   removed-bytes =
@@ -91,9 +91,9 @@ module _ (b : Bytes) (f : Facts b) (ns : List Name) (n : Name) (tg : Target b ns
       let t : ℕ = tg .above .t in
       let at : ℕ = tg .at in
       let m : Mem at (entries t) = named-found b t (n .bytes) at (tg .found) .0 in
-      let s : Slot b t at = slot b f ns (suc e) t at (tg .above .leads) m in
-      let o : Owned b (pagesAt b at) = subst (Owned b) (entry-pages e b (entryAt b at) empty) (entry-owned b f ns e t at (tg .above .leads) m) in
-      removed-is version1 home (pageCount b) (lawful b f) b at (pagesAt b at) (size b f .whole) (omega (arith, s .inside)) (rest-kept b f at (omega (arith, s .within .far)))
+      let s : Slot b t at = slot f ns (suc e) t at (tg .above .leads) m in
+      let o : Owned b (pagesAt b at) = subst (Owned b) (entry-pages e b (entryAt b at) empty) (entry-owned f ns e t at (tg .above .leads) m) in
+      removed-is (lawful f) b at (pagesAt b at) (size f .whole) (omega (arith, s .inside)) (rest-kept f at (omega (arith, s .within .far)))
       (λ q k. (o .inside q k .1, o .inside q k .2)) (o .once)
 
   removed-sound : let b′ = set (foldl (On.released version1) b (pagesAt b (tg .at))) (tg .at) 0 in
@@ -107,15 +107,15 @@ module _ (b : Bytes) (f : Facts b) (ns : List Name) (n : Name) (tg : Target b ns
       let b′ : Bytes = set (foldl (On.released version1) b ps) at 0 in
       let m : Mem at (entries t) = named-found b t (n .bytes) at (tg .found) .0 in
       let mine : own e b (entryAt b at) ≡ ps = entry-pages e b (entryAt b at) empty in
-      let s : Slot b t at = slot b f ns (suc e) t at (tg .above .leads) m in
+      let s : Slot b t at = slot f ns (suc e) t at (tg .above .leads) m in
       let r = removed-bytes in
       let v : entryAt b′ at ≡ vacant = zero-vacant b′ at (r .flag) in
       let none-left : own e b′ (entryAt b′ at) ≡ [] = ap (own e b′) v in
-      changed b b′ f ns e t at [] (tg .above .leads) m
+      changed b′ f ns e t at [] (tg .above .leads) m
       (record {
         len = r .size;
-        head = λ i l. r .rest i (head-kept b f i l) (omega (arith, s .within .far));
-        rest = λ i l u z. r .rest i (rest-kept b f i l) (λ w. omega (arith, u (omega arith)));
+        head = λ i l. r .rest i (head-kept f i l) (omega (arith, s .within .far));
+        rest = λ i l u z. r .rest i (rest-kept f i l) (λ w. omega (arith, u (omega arith)));
       })
       (λ q k. absurd (omega arith))
       (vacate (n .bytes)) (isNamed (n .bytes)) (tg .above .good)
@@ -126,13 +126,13 @@ module _ (b : Bytes) (f : Facts b) (ns : List Name) (n : Name) (tg : Target b ns
         fresh-in = λ q k. absurd (omega (arith, ap (occ q) none-left));
       })
 
-pub removed-tree : (b : Bytes) → Facts b → (ns : List Name) (n : Name)
+pub removed-tree : {b : Bytes} → Facts b → (ns : List Name) (n : Name)
     → T (not (isMissing (walkTo (below ns n) (rowAt (pageCount b) b 0)))) → T (not (isBlocked (walkTo (below ns n) (rowAt (pageCount b) b 0))))
     → ((x : Node) → walkTo (below ns n) (rowAt (pageCount b) b 0) ≡ arrived x → held (rowIn x) ≤ 0)
     → T (sound (removed (below ns n) b)) × (treeOf (removed (below ns n) b) ≡ record { pages = pageCount b; root = changeAt ns (vacate (n .bytes)) (rowAt (pageCount b) b 0) })
 unfolding removed
-removed-tree b f ns n u v empty =
-    let tg = target b f ns n u v in
+removed-tree {b} f ns n u v empty =
+    let tg = target f u v in
     subst (λ (at : ℕ). let b′ = set (foldl (On.released version1) b (pagesAt b at)) at 0 in
     T (sound b′) × (treeOf b′ ≡ record { pages = pageCount b; root = changeAt ns (vacate (n .bytes)) (rowAt (pageCount b) b 0) }))
-    (sym (tg .position)) (removed-sound b f ns n tg (empty _ (tg .node)))
+    (sym (tg .position)) (removed-sound f tg (empty _ (tg .node)))

@@ -21,7 +21,7 @@ use Rattle.laws.proofs.Focus.{Leads, leads-sub, leads-owned}
 
 -- ---- version 1
 
-module _ (b : Bytes) (f : Facts b) where
+module _ {b : Bytes} (f : Facts b) where
   pub size : Sized b
   size = valid-sized b (f .fits)
 
@@ -46,25 +46,25 @@ pub record Slot (b : Bytes) (t at : ℕ) : Type 0 where
   pub marked : pageBit b t ≡ 1
   pub inside : at + 32 ≤ length b
 
-module _ (b : Bytes) (f : Facts b) (ns : List Name) (e t at : ℕ) (leads : Leads b (pageCount b) 0 ns e t) where
+module _ {b : Bytes} (f : Facts b) (ns : List Name) (e t at : ℕ) (leads : Leads b (pageCount b) 0 ns e t) where
   page-marked : (t < pageCount b) × (pageBit b t ≡ 1)
   page-marked =
       let m : Mem t (0 ∷ ownedPages b) = omega (arith, hit-refl t, leads-sub b ns (pageCount b) 0 e t t leads) in
       elim (mem-cons t 0 (ownedPages b) m) [
-        | inl z ↦ (omega (arith, z, size b f .low), ap (pageBit b) z ∙ f .bit-zero)
-        | inr k ↦ let r = f .inside t k in (r .1, omega (arith, f .exact t (r .0) (r .1), once (pageCount b) b f t))
+        | inl z ↦ (omega (arith, z, size f .low), ap (pageBit b) z ∙ f .bit-zero)
+        | inr k ↦ let r = f .inside t k in (r .1, omega (arith, f .exact t (r .0) (r .1), once f t))
       ]
 
   pub slot : Mem at (entries t) → Slot b t at
   slot m =
       let w = entry-within t at m in
-      record { within = w; page = page-marked .0; marked = page-marked .1; inside = omega (arith, w .high, page-marked .0, size b f .whole) }
+      record { within = w; page = page-marked .0; marked = page-marked .1; inside = omega (arith, w .high, page-marked .0, size f .whole) }
 
 -- n bytes of the entry, from its byte i on
-pub held : (b : Bytes) → Facts b → (t at : ℕ) → Slot b t at → (i n : ℕ) → i + n ≤ 32 → Held version1 home (pageCount b) (at + i) n t b
-held b f t at s i n h = record {
+pub held : {b : Bytes} → Facts b → {t at : ℕ} → Slot b t at → (i n : ℕ) → i + n ≤ 32 → Held version1 home (pageCount b) (at + i) n t b
+held {b} f {t} {at} s i n h = record {
   inside = omega (arith, s .inside);
-  bytes = λ j l u. (within-page t at (s .within) j (omega arith) (omega arith), rest-kept b f j (omega (arith, s .within .far)));
+  bytes = λ j l u. (within-page t at (s .within) j (omega arith) (omega arith), rest-kept f j (omega (arith, s .within .far)));
   page = s .page;
   marked = s .marked;
 }
@@ -74,24 +74,24 @@ pub record Owned (b : Bytes) (ps : List ℕ) : Type 0 where
   pub inside : (q : ℕ) → Mem q ps → (1 ≤ q) × (q < pageCount b) × (pageBit b q ≡ 1)
   pub once : Nodup ps
 
-pub entry-owned : (b : Bytes) → Facts b → (ns : List Name) (e t at : ℕ) → Leads b (pageCount b) 0 ns (suc e) t → Mem at (entries t) → Owned b (own e b (entryAt b at))
-entry-owned b f ns e t at leads m = record {
+pub entry-owned : {b : Bytes} → Facts b → (ns : List Name) (e t at : ℕ) → Leads b (pageCount b) 0 ns (suc e) t → Mem at (entries t) → Owned b (own e b (entryAt b at))
+entry-owned {b} f ns e t at leads m = record {
   inside = λ q k.
       let o : Mem q (ownedPages b) = omega (arith, le q) in
       let r = f .inside q o in
-      (r .0, r .1, omega (arith, f .exact q (r .0) (r .1), once (pageCount b) b f q));
-  once = λ q. omega (arith, le q, once (pageCount b) b f q);
+      (r .0, r .1, omega (arith, f .exact q (r .0) (r .1), once f q));
+  once = λ q. omega (arith, le q, once f q);
 }
   where
     le : (q : ℕ) → occ q (own e b (entryAt b at)) ≤ occ q (ownedPages b)
     le q = omega (arith, own-le e b t at q m, leads-owned b ns (pageCount b) 0 (suc e) t q leads)
 
 -- the directory's own page is none of them
-pub entry-apart : (b : Bytes) → Facts b → (ns : List Name) (e t at : ℕ) → Leads b (pageCount b) 0 ns (suc e) t → Mem at (entries t) → occ t (own e b (entryAt b at)) ≡ 0
-entry-apart b f ns e t at leads m =
+pub entry-apart : {b : Bytes} → Facts b → (ns : List Name) (e t at : ℕ) → Leads b (pageCount b) 0 ns (suc e) t → Mem at (entries t) → occ t (own e b (entryAt b at)) ≡ 0
+entry-apart {b} f ns e t at leads m =
     let s = leads-sub b ns (pageCount b) 0 (suc e) t t leads in
     let l = own-le e b t at t m in
-    let o = once (pageCount b) b f t in
+    let o = once f t in
     elim (mem-cons t 0 (ownedPages b) (omega (arith, hit-refl t, s))) [
       | inl z ↦
           let n : occ 0 (ownedPages b) ≡ 0 = not-mem 0 (ownedPages b) (λ k. omega (arith, f .inside 0 k .0)) in

@@ -53,8 +53,8 @@ record Stayed (b b′ : Bytes) (positions pages : List ℕ) : Type 0 where
   bits : (p : ℕ) → p < pageCount b → occ p pages ≡ 0 → pageBit b′ p ≡ pageBit b p
   header : (i : ℕ) → i < 64 → i ≢ 3 → (4 ≤ i → 4 + pageCount b / 8 ≤ i) → byteAt b′ i ≡ byteAt b i
 
-unchanged : (b : Bytes) (positions pages : List ℕ) → Stayed b b positions pages
-unchanged b positions pages = record { bytes = λ i z. refl; bits = λ p l z. refl; header = λ i l n o. refl }
+unchanged : {b : Bytes} {positions pages : List ℕ} → Stayed b b positions pages
+unchanged = record { bytes = λ i z. refl; bits = λ p l z. refl; header = λ i l n o. refl }
 
 -- ---- positions that stand in no list
 
@@ -90,38 +90,38 @@ elsewhere ps i z w p m =
     record { marks = unmarked ps i z p m; link = λ l. omega (arith, page l); page = page }
 
 -- byte i of the header is neither the count nor in the first N/8 of the bitmap
-kept : (b : Bytes) → Facts b → (i : ℕ) → i ≢ 3 → (4 ≤ i → 4 + pageCount b / 8 ≤ i) → Kept version1 (pageCount b) i
-kept b f i n o = record { count = λ l. omega (arith, n); map = λ q k u. omega (arith, o (omega (arith, u)), u, k, sized b f .eights) }
+kept : {b : Bytes} → Facts b → (i : ℕ) → i ≢ 3 → (4 ≤ i → 4 + pageCount b / 8 ≤ i) → Kept version1 (pageCount b) i
+kept {b} f i n o = record { count = λ l. omega (arith, n); map = λ q k u. omega (arith, o (omega (arith, u)), u, k, sized f .eights) }
 
 -- ---- make
 
-made-stayed : (b : Bytes) → Facts b → (path date : Bytes) (fl z k : ℕ) → Makes b path date k
+made-stayed : {b : Bytes} → Facts b → {path date : Bytes} (fl z : ℕ) {k : ℕ} → Makes b path date k
     → Stayed b (made fl z k (pathOf path) date b) (byMake (lowestVacant b (parentPage b (pathOf path))) (On.gained version1 (pageCount b) k b)) (On.gained version1 (pageCount b) k b)
 unfolding byMake
-made-stayed b f path date fl z k m =
-    subst (λ (b′ : Bytes). Stayed b b′ (byMake (lowestVacant b (parentPage b (pathOf path))) qs) qs) (sym (make-image b f path date k m fl z))
-    (subst (λ (x : ℕ). Stayed b (madeAt fl z k (m .n .bytes) date (w .at) b) (byMake x qs) qs) (sym (make-position b f path date k m)) stayed)
+made-stayed {b} f {path} {date} fl z {k} m =
+    subst (λ (b′ : Bytes). Stayed b b′ (byMake (lowestVacant b (parentPage b (pathOf path))) qs) qs) (sym (make-image f path m fl z))
+    (subst (λ (x : ℕ). Stayed b (madeAt fl z k (m .n .bytes) date (w .at) b) (byMake x qs) qs) (sym (make-position f path m)) stayed)
   where
     qs : List ℕ
     qs = On.gained version1 (pageCount b) k b
 
     w : Place b (m .ns) (m .n .bytes) date k
-    w = make-place b f path date k m
+    w = make-place f path m
 
     zero-out : (i : ℕ) → i < 64 → occ (i / 256) qs ≡ 0
-    zero-out i l = not-mem (i / 256) qs (λ c. omega (arith, l, made-gained b f (m .ns) (m .n .bytes) date fl z k w .new (i / 256) c .0))
+    zero-out i l = not-mem (i / 256) qs (λ c. omega (arith, l, made-gained f (m .ns) (m .n .bytes) date fl z k w .new (i / 256) c .0))
 
     stayed : Stayed b (madeAt fl z k (m .n .bytes) date (w .at) b) (byMake (w .at) qs) qs
     stayed =
-        let r = made-bytes b f (m .ns) (m .n .bytes) date fl z k w in
-        let far = place-slot b f (m .ns) (m .n .bytes) date fl z k w .within .far in
+        let r = made-bytes f (m .ns) (m .n .bytes) date fl z k w in
+        let far = place-slot f (m .ns) (m .n .bytes) date fl z k w .within .far in
         record {
           bytes = λ i o.
               let x = occ-append i (countFrom (w .at) 32 ++ account qs) (bytesOn qs) in
               let y = occ-append i (countFrom (w .at) 32) (account qs) in
-              made-stays b f (m .ns) (m .n .bytes) date fl z k w i (off-count i (w .at) 32 (omega (arith, o, x, y))) (elsewhere qs i (omega (arith, o, x, y)) (omega (arith, o, x, y)));
+              made-stays f (m .ns) (m .n .bytes) date fl z k w i (off-count i (w .at) 32 (omega (arith, o, x, y))) (elsewhere qs i (omega (arith, o, x, y)) (omega (arith, o, x, y)));
           bits = λ p l o. omega (arith, r .bits p l, o);
-          header = λ i l n o. r .rest i (kept b f i n o) (λ u. omega (arith, far, l, u)) (zero-out i l);
+          header = λ i l n o. r .rest i (kept f i n o) (λ u. omega (arith, far, l, u)) (zero-out i l);
         }
 
 -- ---- write
@@ -183,7 +183,7 @@ module _ (b : Bytes) (f : Facts b) (path : Bytes) (from : ℕ) (v : Bytes) (w : 
             (elsewhere qs i (omega (arith, o, x, y, z, u)) (omega (arith, o, x, y, z)))
             (λ n l h. off-map place (countFrom from (length v)) i (omega (arith, o, x)) n (occ-countFrom from (length v) n l h));
         bits = λ p l o. omega (arith, r .bits p l, o);
-        header = λ i l n o. r .rest i (kept b f i n o) (λ u. omega (arith, far, l, u)) (λ u. omega (arith, far, l, u)) (zero-out i l);
+        header = λ i l n o. r .rest i (kept f i n o) (λ u. omega (arith, far, l, u)) (λ u. omega (arith, far, l, u)) (zero-out i l);
       })
     where
       zero-out : (i : ℕ) → i < 64 → occ (i / 256) (ps ++ qs) ≡ 0
@@ -199,7 +199,7 @@ module _ (b : Bytes) (f : Facts b) (path : Bytes) (from : ℕ) (v : Bytes) (w : 
           (byWrite (entryPosition b (pathOf path)) from (length v) (pagesAt b (entryPosition b (pathOf path)))
           (On.gained version1 (pageCount b) (pagesFor (max (size path (treeOf b)) (from + length v)) - pagesFor (size path (treeOf b))) b))
           (On.gained version1 (pageCount b) (pagesFor (max (size path (treeOf b)) (from + length v)) - pagesFor (size path (treeOf b))) b)
-      go true = unchanged b _ _
+      go true = unchanged
       go false =
           let taken : ℕ → List ℕ = λ m. On.gained version1 (pageCount b) (pagesFor (max m (from + length v)) - pagesFor m) b in
           subst (λ (m : ℕ). Stayed b (rewritten (entryPosition b (pathOf path)) from v b)
@@ -209,16 +209,16 @@ module _ (b : Bytes) (f : Facts b) (path : Bytes) (from : ℕ) (v : Bytes) (w : 
 
 -- ---- remove
 
-removed-stayed : (b : Bytes) → Facts b → (path : Bytes) → Removes b path
+removed-stayed : {b : Bytes} → Facts b → {path : Bytes} → Removes b path
     → Stayed b (removed (pathOf path) b) (byRemoval (entryPosition b (pathOf path)) (pagesAt b (entryPosition b (pathOf path)))) (pagesAt b (entryPosition b (pathOf path)))
 unfolding removed byRemoval
-removed-stayed b f path r =
-    let tg : Target b (r .ns) (r .n) = target b f (r .ns) (r .n) (r .reached) (r .entered) in
+removed-stayed {b} f {path} r =
+    let tg : Target b (r .ns) (r .n) = target f (r .reached) (r .entered) in
     let position : entryPosition b (pathOf path) ≡ tg .at = ap (entryPosition b) (r .is) ∙ tg .position in
     let at : ℕ = tg .at in
     let ps : List ℕ = pagesAt b at in
     let b₁ : Bytes = foldl (On.released version1) b ps in
-    let x = removed-bytes b f (r .ns) (r .n) tg (r .empty _ (tg .node)) in
+    let x = removed-bytes f tg (r .empty _ (tg .node)) in
     let far = entry-within (tg .above .t) at (named-found b (tg .above .t) (r .n .bytes) at (tg .found) .0) .far in
     subst (λ (y : ℕ). Stayed b (set (foldl (On.released version1) b (pagesAt b y)) y 0) (countFrom y 1 ++ account (pagesAt b y)) (pagesAt b y)) (sym position)
     (record {
@@ -227,63 +227,63 @@ removed-stayed b f path r =
           let off = off-count i at 1 (omega (arith, o, both)) in
           getD-set-other b₁ at i 0 0 (λ e. omega (arith, e, off (omega (arith, e)))) ∙ released-stays version1 ps b i (unmarked ps i (omega (arith, o, both)));
       bits = λ p l o. omega (arith, x .bits p l, o);
-      header = λ i l n o. x .rest i (kept b f i n o) (λ e. omega (arith, e, far, l));
+      header = λ i l n o. x .rest i (kept f i n o) (λ e. omega (arith, e, far, l));
     })
 
 -- ---- lock
 
-locked-stayed : (b : Bytes) → Facts b → (path : Bytes) (locked : Bool) → Locks b path → Stayed b (relocked (pathOf path) locked b) (countFrom (entryPosition b (pathOf path)) 1) []
+locked-stayed : {b : Bytes} → Facts b → {path : Bytes} (locked : Bool) → Locks b path → Stayed b (relocked (pathOf path) locked b) (countFrom (entryPosition b (pathOf path)) 1) []
 unfolding relocked On.pageBit
-locked-stayed b f path locked r =
-    let tg : Target b (r .ns) (r .n) = target b f (r .ns) (r .n) (r .reached) (r .entered) in
+locked-stayed {b} f {path} locked r =
+    let tg : Target b (r .ns) (r .n) = target f (r .reached) (r .entered) in
     let position : entryPosition b (pathOf path) ≡ tg .at = ap (entryPosition b) (r .is) ∙ tg .position in
     let at : ℕ = entryPosition b (pathOf path) in
     let far : 64 ≤ at = omega (arith, position, entry-within (tg .above .t) (tg .at) (named-found b (tg .above .t) (r .n .bytes) (tg .at) (tg .found) .0) .far) in
     let other : (i : ℕ) → i ≢ at → byteAt (set b at (withLock locked (byteAt b at))) i ≡ byteAt b i = λ i ne. getD-set-other b at i (withLock locked (byteAt b at)) 0 ne in
     record {
       bytes = λ i o. let off = off-count i at 1 o in other i (λ e. omega (arith, e, off (omega (arith, e))));
-      bits = λ p l o. ap (bit (p % 8)) (other (4 + p / 8) (λ e. omega (arith, e, far, l, sized b f .high)));
+      bits = λ p l o. ap (bit (p % 8)) (other (4 + p / 8) (λ e. omega (arith, e, far, l, sized f .high)));
       header = λ i l n o. other i (λ e. omega (arith, e, far, l));
     }
 
 -- ---- every call, on any image
 
-effect-stayed : (c : Call) (b : Bytes) → T (not (isFormat c)) → Passes (lines c b) → Stayed b (effect c b) (touched c b) (moved c b)
+effect-stayed : (c : Call) {b : Bytes} → T (not (isFormat c)) → Passes (lines c b) → Stayed b (effect c b) (touched c b) (moved c b)
 unfolding effect isFormat refusals earlier later wanted touched moved written
-effect-stayed format b n e = absurd n
-effect-stayed verdict b n e = unchanged b [] []
-effect-stayed (find path) b n e = unchanged b [] []
-effect-stayed (list path entry) b n e = unchanged b [] []
-effect-stayed (read path position room) b n e = unchanged b [] []
-effect-stayed (makeFile path date) b n e =
+effect-stayed format n e = absurd n
+effect-stayed verdict {b} n e = unchanged
+effect-stayed (find path) {b} n e = unchanged
+effect-stayed (list path entry) {b} n e = unchanged
+effect-stayed (read path position room) {b} n e = unchanged
+effect-stayed (makeFile path date) {b} n e =
     let g = sound-passed (makeFile path date) b tt e in
-    let f = sound-facts b (g .0) in
-    made-stayed b f path date 0x80 0 (pagesFor 0) (make-passed b f path date (pagesFor 0) (refusal 10) (g .1))
-effect-stayed (makeDirectory path date) b n e =
+    let f = sound-facts (g .0) in
+    made-stayed f 0x80 0 (make-passed f (refusal 10) (g .1))
+effect-stayed (makeDirectory path date) {b} n e =
     let g = sound-passed (makeDirectory path date) b tt e in
-    let f = sound-facts b (g .0) in
-    made-stayed b f path date 0x81 0x0100 1 (make-passed b f path date 1 (refusal 10) (g .1))
-effect-stayed (write path from []) b n e = unchanged b _ _
-effect-stayed (write path from (x ∷ v)) b n e =
+    let f = sound-facts (g .0) in
+    made-stayed f 0x81 0x0100 (make-passed f (refusal 10) (g .1))
+effect-stayed (write path from []) {b} n e = unchanged
+effect-stayed (write path from (x ∷ v)) {b} n e =
     let g = sound-passed (write path from (x ∷ v)) b tt e in
-    let f = sound-facts b (g .0) in
-    written-stayed b f path from (x ∷ v) (write-passed b f path from (x ∷ v) (g .1))
-effect-stayed (removeFile path) b n e =
+    let f = sound-facts (g .0) in
+    written-stayed b f path from (x ∷ v) (write-passed f (x ∷ v) (g .1))
+effect-stayed (removeFile path) {b} n e =
     let g = sound-passed (removeFile path) b tt e in
-    let f = sound-facts b (g .0) in
-    removed-stayed b f path (remove-file-passed b f path (g .1))
-effect-stayed (removeDirectory path) b n e =
+    let f = sound-facts (g .0) in
+    removed-stayed f (remove-file-passed f (g .1))
+effect-stayed (removeDirectory path) {b} n e =
     let g = sound-passed (removeDirectory path) b tt e in
-    let f = sound-facts b (g .0) in
-    removed-stayed b f path (remove-directory-passed b f path (g .1))
-effect-stayed (setLock locked path) b n e =
+    let f = sound-facts (g .0) in
+    removed-stayed f (remove-directory-passed f (g .1))
+effect-stayed (setLock locked path) {b} n e =
     let g = sound-passed (setLock locked path) b tt e in
-    let f = sound-facts b (g .0) in
-    locked-stayed b f path locked (lock-passed b f locked path (g .1))
+    let f = sound-facts (g .0) in
+    locked-stayed f locked (lock-passed f locked (g .1))
 
 stayed : (c : Call) (b : Bytes) → T (not (isFormat c)) → Stayed b (after c b) (touched c b) (moved c b)
 unfolding after
-stayed c b n = settle-both (λ (x y : Bytes). Stayed b x (touched c b) (moved c b)) (lines c b) (λ r. b) (effect c b) (λ r. b) b (λ r. unchanged b _ _) (effect-stayed c b n)
+stayed c b n = settle-both (λ (x y : Bytes). Stayed b x (touched c b) (moved c b)) (lines c b) (λ r. b) (effect c b) (λ r. b) b (λ r. unchanged) (effect-stayed c n)
 
 -- format writes page 0
 format-bytes : (b : Bytes) (i : ℕ) → occ i (touched format b) ≡ 0 → byteAt (after format b) i ≡ byteAt b i

@@ -29,12 +29,12 @@ use Rattle.laws.proofs.Lines.{settle-skip, settle-both, settle-refused,
 
 module _ {A : Type 0} (b : Bytes) (h : T (sound b)) (f : Refusal → A) (x : A) where
   length-skip : (ls : List Line) → settle ((not (validLength (length b)), refusal 1) ∷ ls) f x ≡ settle ls f x
-  length-skip ls = settle-skip f (not (validLength (length b))) (refusal 1) ls x (not-not-of (validLength (length b)) (sound-facts b h .fits))
+  length-skip ls = settle-skip f (not (validLength (length b))) (refusal 1) ls x (not-not-of (validLength (length b)) (sound-facts h .fits))
 
   pub image-skip : (ls : List Line) → settle (imageLines b ++ ls) f x ≡ settle ls f x
   image-skip ls =
       length-skip ((not (validHeader b), refusal 2) ∷ soundLine b ∷ ls)
-      ∙ settle-skip f (not (validHeader b)) (refusal 2) (soundLine b ∷ ls) x (not-not-of (validHeader b) (sound-facts b h .headed))
+      ∙ settle-skip f (not (validHeader b)) (refusal 2) (soundLine b ∷ ls) x (not-not-of (validHeader b) (sound-facts h .headed))
       ∙ settle-skip f (not (sound b)) (firstFault (judge b)) ls x (not-not-of (sound b) h)
 
   pub settled : (c : Call) → settle (lines c b) f x ≡ settle (refusals c (treeOf b)) f x

@@ -111,10 +111,10 @@ effect-twice : (k : Bool) (path b : Bytes) → Passes (lines (setLock k path) b)
 unfolding effect isFormat relocked
 effect-twice k path b e =
     let g = sound-passed (setLock k path) b tt e in
-    let f = sound-facts b (g .0) in
-    let r = lock-passed b f k path (g .1) in
-    let tg = target b f (r .ns) (r .n) (r .reached) (r .entered) in
-    let is = L.target-file b f (r .ns) (r .n) tg (r .isFile) in
+    let f = sound-facts (g .0) in
+    let r = lock-passed f k (g .1) in
+    let tg = target f (r .reached) (r .entered) in
+    let is = L.target-file tg (r .isFile) in
     subst (λ (p : Path). relocked p k (relocked p k b) ≡ relocked p k b) (sym (r .is))
     (subst (λ (at : ℕ). relocked (below (r .ns) (r .n)) k (set b at (withLock k (byteAt b at))) ≡ set b at (withLock k (byteAt b at)))
     (sym (tg .position)) (locked-twice b f (r .ns) (r .n) tg is k))

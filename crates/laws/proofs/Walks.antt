@@ -61,11 +61,11 @@ Mirrors b d p ns (arrived t) w = (e : ℕ) × Leads b d p ns e t × (w ≡ arriv
 Mirrors b d p ns (missing i) w = w ≡ missing i
 Mirrors b d p ns (blocked i) w = w ≡ blocked i
 
-mirrors-further : (b : Bytes) (d p : ℕ) (n : Name) (ns : List Name) (at s : ℕ) → entryNamed b p (n .bytes) ≡ some at → DirectoryAt b at s
+mirrors-further : {b : Bytes} (d p : ℕ) (n : Name) (ns : List Name) {at s : ℕ} → entryNamed b p (n .bytes) ≡ some at → DirectoryAt b at s
     → (v : Walked ℕ) (w : Walked Row) → Mirrors b d s ns v w → Mirrors b (suc d) p (n ∷ ns) v w
-mirrors-further b d p n ns at s e h (arrived t) w m = (m .0, (at, s, e, h, m .1), m .2, m .3)
-mirrors-further b d p n ns at s e h (missing i) w m = m
-mirrors-further b d p n ns at s e h (blocked i) w m = m
+mirrors-further d p n ns {at} {s} e h (arrived t) w m = (m .0, (at, s, e, h, m .1), m .2, m .3)
+mirrors-further d p n ns e h (missing i) w m = m
+mirrors-further d p n ns e h (blocked i) w m = m
 
 pub walk-mirrors : (b : Bytes) (ns : List Name) (d p : ℕ) → T (goodDirectory d b p) → Mirrors b d p ns (walkOn b ns p) (walk ns (rowAt d b p))
 unfolding walkOn walk goodDirectory enterOn enter isNamed nodeOf
@@ -82,7 +82,7 @@ walk-mirrors b (n ∷ ns) (suc d) p h =
     at-entry at e vacant q named sub next = absurd named
     at-entry at e (aFile locked name date start size) q named sub next = refl
     at-entry at e (aDirectory name date start size) q named sub next =
-        mirrors-further b d p n ns at start e (record { name = name; date = date; size = size; is = q }) (walkOn b ns start) (walk ns (rowAt d b start)) (next start sub)
+        mirrors-further d p n ns e (record { name = name; date = date; size = size; is = q }) (walkOn b ns start) (walk ns (rowAt d b start)) (next start sub)
 
     go : (o : Option ℕ) → entryNamed b p (n .bytes) ≡ o
         → ((s : ℕ) → T (goodDirectory d b s) → Mirrors b d s ns (walkOn b ns s) (walk ns (rowAt d b s)))
@@ -98,13 +98,13 @@ mapWalked f (arrived x) = arrived (f x)
 mapWalked f (missing i) = missing i
 mapWalked f (blocked i) = blocked i
 
-pub walk-bytes : (b : Bytes) → Facts b → (ns : List Name) → walk ns (treeOf b .root) ≡ mapWalked (rowAt (pageCount b) b) (walkOn b ns 0)
+pub walk-bytes : {b : Bytes} → Facts b → (ns : List Name) → walk ns (treeOf b .root) ≡ mapWalked (rowAt (pageCount b) b) (walkOn b ns 0)
 unfolding treeOf mapWalked
-walk-bytes b f ns = go (walkOn b ns 0) (walk-mirrors b ns (pageCount b) 0 (f .formed))
+walk-bytes {b} f ns = go (walkOn b ns 0) (walk-mirrors b ns (pageCount b) 0 (f .formed))
   where
     go : (v : Walked ℕ) → Mirrors b (pageCount b) 0 ns v (walk ns (rowAt (pageCount b) b 0)) → walk ns (rowAt (pageCount b) b 0) ≡ mapWalked (rowAt (pageCount b) b) v
     go (arrived t) m =
-        m .2 ∙ ap {B = Walked Row} (λ r. arrived r) (sym (depth (m .0) (pageCount b) b t (m .3) (omega (arith, leads-depth b ns (pageCount b) 0 (m .0) t (m .1))) .row))
+        m .2 ∙ ap {B = Walked Row} (λ r. arrived r) (sym (depth (m .3) (omega (arith, leads-depth b ns (pageCount b) 0 (m .0) t (m .1))) .row))
     go (missing i) m = m
     go (blocked i) m = m
 
@@ -118,10 +118,10 @@ pub record Parent (b : Bytes) (ns : List Name) : Type 0 where
   pub page : walkOn b ns 0 ≡ arrived t
   pub row : walk ns (rowAt (pageCount b) b 0) ≡ arrived (rowAt (suc e) b t)
 
-pub parent : (b : Bytes) → Facts b → (ns : List Name)
+pub parent : {b : Bytes} → Facts b → {ns : List Name}
     → T (not (isMissing (walk ns (rowAt (pageCount b) b 0)))) → T (not (isBlocked (walk ns (rowAt (pageCount b) b 0)))) → Parent b ns
 unfolding isMissing isBlocked goodDirectory
-parent b f ns u v = go (walkOn b ns 0) refl (walk-mirrors b ns (pageCount b) 0 (f .formed))
+parent {b} f {ns} u v = go (walkOn b ns 0) refl (walk-mirrors b ns (pageCount b) 0 (f .formed))
   where
     some-depth : (e t : ℕ) → Leads b (pageCount b) 0 ns e t → walk ns (rowAt (pageCount b) b 0) ≡ arrived (rowAt e b t) → T (goodDirectory e b t) → walkOn b ns 0 ≡ arrived t → Parent b ns
     some-depth zero t l w g q = absurd g
@@ -141,10 +141,10 @@ pub record Target (b : Bytes) (ns : List Name) (n : Name) : Type 0 where
   pub node : walkTo (below ns n) (rowAt (pageCount b) b 0) ≡ arrived (nodeOf b (rowAt (above .e) b) (entryAt b at))
   pub position : Option·getD (entryNamed b (arrivedOr 0 (walkOn b ns 0)) (n .bytes)) 0 ≡ at
 
-walked-last : (b : Bytes) (ns : List Name) (n : Name) (p : Parent b ns)
+walked-last : {b : Bytes} {ns : List Name} (n : Name) (p : Parent b ns)
     → walkTo (below ns n) (rowAt (pageCount b) b 0) ≡ nodeNamed n (Option·map (λ at. nodeOf b (rowAt (p .e) b) (entryAt b at)) (entryNamed b (p .t) (n .bytes)))
 unfolding walkTo inWalked
-walked-last b ns n p =
+walked-last {b} n p =
     ap (λ (w : Walked Row). inWalked w (λ s. nodeNamed n (lookup (n .bytes) s))) (p .row)
     ∙ ap (nodeNamed n) (lookup-named b (p .e) (p .t) (n .bytes))
 
@@ -185,23 +185,23 @@ last-entered (m ∷ ns) n r s e = go (lookup (m .bytes) r) e (λ u. last-entered
     go (some (fileNode l d v)) q next = absurd (subst (λ (w : Walked Row). T (isBlocked w)) q tt)
     go (some (directoryNode d u)) q next = next u q
 
-pub target : (b : Bytes) → Facts b → (ns : List Name) (n : Name)
+pub target : {b : Bytes} → Facts b → {ns : List Name} {n : Name}
     → T (not (isMissing (walkTo (below ns n) (rowAt (pageCount b) b 0)))) → T (not (isBlocked (walkTo (below ns n) (rowAt (pageCount b) b 0)))) → Target b ns n
 unfolding isMissing nodeNamed arrivedOr
-target b f ns n u v = go (entryNamed b (p .t) (n .bytes)) refl
+target {b} f {ns} {n} u v = go (entryNamed b (p .t) (n .bytes)) refl
   where
     r : Row
     r = rowAt (pageCount b) b 0
 
     p : Parent b ns
-    p = parent b f ns (inner-missing ns n (rowAt (pageCount b) b 0) u) (inner-blocked ns n (rowAt (pageCount b) b 0) v)
+    p = parent f (inner-missing ns n (rowAt (pageCount b) b 0) u) (inner-blocked ns n (rowAt (pageCount b) b 0) v)
 
     go : (o : Option ℕ) → entryNamed b (p .t) (n .bytes) ≡ o → Target b ns n
-    go none e = absurd (subst (λ (w : Walked Node). T (not (isMissing w))) (walked-last b ns n p ∙ ap (λ (o : Option ℕ). nodeNamed n (Option·map (λ at. nodeOf b (rowAt (p .e) b) (entryAt b at)) o)) e) u)
+    go none e = absurd (subst (λ (w : Walked Node). T (not (isMissing w))) (walked-last n p ∙ ap (λ (o : Option ℕ). nodeNamed n (Option·map (λ at. nodeOf b (rowAt (p .e) b) (entryAt b at)) o)) e) u)
     go (some at) e = record {
       above = p;
       at = at;
       found = e;
-      node = walked-last b ns n p ∙ ap (λ (o : Option ℕ). nodeNamed n (Option·map (λ at. nodeOf b (rowAt (p .e) b) (entryAt b at)) o)) e;
+      node = walked-last n p ∙ ap (λ (o : Option ℕ). nodeNamed n (Option·map (λ at. nodeOf b (rowAt (p .e) b) (entryAt b at)) o)) e;
       position = ap (λ (w : Walked ℕ). Option·getD (entryNamed b (arrivedOr 0 w) (n .bytes)) 0) (p .page) ∙ ap (λ (o : Option ℕ). Option·getD o 0) e;
     }

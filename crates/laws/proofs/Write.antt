@@ -136,17 +136,17 @@ module _ (b : Bytes) (f : Facts b) (ns : List Name) (n : Name) (tg : Target b ns
       (r .0, eqb→eq (beyond (link b) (pagesFor s₀) (startAt b at)) 0 (r .1))
 
   pub file-owned : Owned b ps
-  file-owned = subst (Owned b) mine (entry-owned b f ns e t at (tg .above .leads) (found .0))
+  file-owned = subst (Owned b) mine (entry-owned f ns e t at (tg .above .leads) (found .0))
 
   pub file-slot : Slot b t at
-  file-slot = slot b f ns (suc e) t at (tg .above .leads) (found .0)
+  file-slot = slot f ns (suc e) t at (tg .above .leads) (found .0)
 
   pub file-chained : Chained version1 home (pageCount b) b (byte (at + 17)) t (pagesFor s₀)
   file-chained = record {
-    size = size b f .whole;
-    aside = header-marked b f;
-    held = held b f t at file-slot 17 1 (omega arith);
-    apart = ap (occ t) (sym mine) ∙ entry-apart b f ns e t at (tg .above .leads) (found .0);
+    size = size f .whole;
+    aside = header-marked f;
+    held = held f file-slot 17 1 (omega arith);
+    apart = ap (occ t) (sym mine) ∙ entry-apart f ns e t at (tg .above .leads) (found .0);
     pages = file-owned .inside;
     once = file-owned .once;
     ends = file-good .1;
@@ -154,7 +154,7 @@ module _ (b : Bytes) (f : Facts b) (ns : List Name) (n : Name) (tg : Target b ns
 
   pub file-beside : Beside version1 home (pageCount b) (byte (at + 17)) t (at + 18) 2 b
   file-beside =
-      let h = held b f t at file-slot 18 2 (omega arith) in
+      let h = held f file-slot 18 2 (omega arith) in
       record { inside = h .inside; bytes = λ i l u. (h .bytes i l u .0, h .bytes i l u .1, λ x. omega arith) }
 
   pub file-content : contentIn (nodeOf b (rowAt e b) (entryAt b at)) ≡ content
@@ -162,7 +162,7 @@ module _ (b : Bytes) (f : Facts b) (ns : List Name) (n : Name) (tg : Target b ns
   file-content = ap (λ (x : Entry). contentIn (nodeOf b (rowAt e b) x)) is
 
   pub file-size : length content ≡ s₀
-  file-size = content-length b (startAt b at) s₀ (λ q m. let r = file-owned .inside q m in omega (arith, r .1, size b f .whole))
+  file-size = content-length b (startAt b at) s₀ (λ q m. let r = file-owned .inside q m in omega (arith, r .1, size f .whole))
 
   -- what the entry must be afterwards: a file of the same name and date, with these bytes
   works : (b′ : Bytes) (start s : ℕ) (w : Bytes) → entryAt b′ at ≡ aFile (isLocked b at) (nameAt b at) (dateAt b at) start s
@@ -186,7 +186,7 @@ module _ (b : Bytes) (f : Facts b) (ns : List Name) (n : Name) (tg : Target b ns
   -- a write of no bytes
   unchanged : T (sound b) × (treeOf b ≡ record { pages = pageCount b; root = changeAt ns (rewrite (n .bytes) content) (rowAt (pageCount b) b 0) })
   unchanged =
-      changed b b f ns e t at [] (tg .above .leads) (found .0)
+      changed b f ns e t at [] (tg .above .leads) (found .0)
       (record { len = refl; head = λ i l. refl; rest = λ i l u z. refl }) (λ q k. absurd (omega arith))
       (rewrite (n .bytes) content) (isNamed (n .bytes)) (tg .above .good)
       (works b (startAt b at) s₀ content is refl (file-good .1))
@@ -210,16 +210,16 @@ module _ (b : Bytes) (f : Facts b) (ns : List Name) (n : Name) (tg : Target b ns
     whole = pages-rise s₀ s (omega arith)
 
     pub write-gained : Gained version1 (pageCount b) k b
-    write-gained = gained-is version1 home (pageCount b) (lawful b f) k b (size b f .whole) (header-marked b f) space
+    write-gained = gained-is (lawful f) k b (size f .whole) (header-marked f) space
 
     pub write-bytes : Written version1 home (pageCount b) b b′ (byte (at + 17)) t (at + 18) (le16 s) from v s₀ s ps qs
-    write-bytes = written-is version1 home (pageCount b) (lawful b f) b (byte (at + 17)) t (pagesFor s₀) k (at + 18) (le16 s) from v s₀ s
+    write-bytes = written-is (lawful f) b (byte (at + 17)) t (pagesFor s₀) k (at + 18) (le16 s) from v s₀ s
         file-chained file-beside hf (fill-up s₀) refl (subst (λ (m : ℕ). s ≤ 255 * m) (sym whole) (fill-up s)) space
 
     -- every byte but the size's, those that hold or count the pages gained, the link to them, and those of the content where v goes
     pub write-stays : (i : ℕ) → (1 ≤ k → Off (On.jointOf version1 (byte (at + 17)) ps) i) → (at + 18 ≤ i → at + 18 + 2 ≤ i) → ((p : ℕ) → Mem p qs → Elsewhere version1 p i)
         → ((m : ℕ) → from ≤ m → m < from + length v → i ≢ along (On.content version1) 255 (ps ++ qs) m) → byteAt b′ i ≡ byteAt b i
-    write-stays = written-stays version1 home (pageCount b) (lawful b f) b (byte (at + 17)) t (pagesFor s₀) k (at + 18) (le16 s) from v file-chained file-beside space
+    write-stays = written-stays (lawful f) b (byte (at + 17)) t (pagesFor s₀) k (at + 18) (le16 s) from v file-chained file-beside space
 
     many : length (ps ++ qs) ≡ pagesFor s
     many = length-append ps qs ∙ ap₂ (λ (x y : ℕ). x + y) (chain-length (link b) (pagesFor s₀) (startAt b at)) (write-gained .many) ∙ whole
@@ -227,7 +227,7 @@ module _ (b : Bytes) (f : Facts b) (ns : List Name) (n : Name) (tg : Target b ns
     -- the entry's bytes but its start page and size
     entry-kept : (i : ℕ) → at ≤ i → i < at + 32 → (at + 17 ≤ i → at + 20 ≤ i) → byteAt b′ i ≡ byteAt b i
     entry-kept i l u o =
-        write-bytes .rest i (rest-kept b f i (omega (arith, file-slot .within .far))) (λ x. omega (arith, o x)) (λ x. omega (arith, o (omega arith)))
+        write-bytes .rest i (rest-kept f i (omega (arith, file-slot .within .far))) (λ x. omega (arith, o x)) (λ x. omega (arith, o (omega arith)))
         (ap (λ (x : ℕ). occ x (ps ++ qs)) (within-page t at (file-slot .within) i l u) ∙ write-bytes .apart)
 
     new-size : sizeAt b′ at ≡ s
@@ -265,12 +265,12 @@ module _ (b : Bytes) (f : Facts b) (ns : List Name) (n : Name) (tg : Target b ns
     unfolding contentOf
     rewritten-sound =
         let w = write-bytes in
-        changed b b′ f ns e t at (ps ++ qs) (tg .above .leads) (found .0)
+        changed b′ f ns e t at (ps ++ qs) (tg .above .leads) (found .0)
         (record {
           len = w .size;
           head = λ i l. let z : i / 256 ≡ 0 = omega arith in
-              w .rest i (head-kept b f i l) (λ u. omega (arith, file-slot .within .far)) (λ u. omega (arith, file-slot .within .far)) (ap (λ (x : ℕ). occ x (ps ++ qs)) z ∙ zero-out);
-          rest = λ i l u c. w .rest i (rest-kept b f i l) (λ y. omega (arith, u (omega arith))) (λ y. omega (arith, u (omega arith))) c;
+              w .rest i (head-kept f i l) (λ u. omega (arith, file-slot .within .far)) (λ u. omega (arith, file-slot .within .far)) (ap (λ (x : ℕ). occ x (ps ++ qs)) z ∙ zero-out);
+          rest = λ i l u c. w .rest i (rest-kept f i l) (λ y. omega (arith, u (omega arith))) (λ y. omega (arith, u (omega arith))) c;
         })
         (λ q m. (
           write-inside q m .0,
@@ -301,17 +301,17 @@ put-none : (from : ℕ) (v c : Bytes) → length v ≡ 0 → put from v c ≡ c
 put-none from [] c e = splice-nil c from
 put-none from (x ∷ v) c e = absurd (omega arith)
 
-pub written-tree : (b : Bytes) → Facts b → (ns : List Name) (n : Name) (from : ℕ) (v : Bytes)
+pub written-tree : {b : Bytes} → Facts b → (ns : List Name) (n : Name) (from : ℕ) (v : Bytes)
     → T (not (isMissing (walkTo (below ns n) (rowAt (pageCount b) b 0)))) → T (not (isBlocked (walkTo (below ns n) (rowAt (pageCount b) b 0))))
     → (x : Node) → walkTo (below ns n) (rowAt (pageCount b) b 0) ≡ arrived x → T (not (isDirectoryNode x))
     → from ≤ length (contentIn x) → pagesFor (max (length (contentIn x)) (from + length v)) - pagesFor (length (contentIn x)) ≤ zeroBits b (pageCount b)
     → T (sound (written (below ns n) from v b))
     × (treeOf (written (below ns n) from v b) ≡ record { pages = pageCount b; root = changeAt ns (rewrite (n .bytes) (put from v (contentIn x))) (rowAt (pageCount b) b 0) })
 unfolding written
-written-tree b f ns n from v u w x q nd hf space = go (eqb (length v) 0) (eqb→eq (length v) 0)
+written-tree {b} f ns n from v u w x q nd hf space = go (eqb (length v) 0) (eqb→eq (length v) 0)
   where
     tg : Target b ns n
-    tg = target b f ns n u w
+    tg = target f u w
 
     node : x ≡ nodeOf b (rowAt (tg .above .e) b) (entryAt b (tg .at))
     node = cc (q, tg .node)

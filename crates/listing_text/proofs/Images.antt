@@ -60,9 +60,9 @@ refused-listing b f e = ap (λ (a : Answer Verdict). listingOf a (treeOf b)) e
 module _ (b : Bytes) (pages free : ℕ) (good : T (sound b)) (same : pages ≡ pageCount b) where
   pub root-readable : (0 < pageCount b) × Readable b (owned pages b 0) × (0 + 17 * pages ≤ 4352)
   root-readable =
-      let f = sound-facts b good in
+      let f = sound-facts good in
       let s = valid-sized b (f .fits) in
-      (omega (arith, s .low), rw same (record { inside = owned-in b f }), omega (arith, s .high))
+      (omega (arith, s .low), rw same (record { inside = owned-in f }), omega (arith, s .high))
 
   pub lines-whole : free ≡ freeNumber (treeOf b)
       → text "pages " ++ decimal pages ++ text " free " ++ decimal free ++ newline ++ directoryLines pages b 0 [] ≡ treeLines (treeOf b)

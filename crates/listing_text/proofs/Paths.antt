@@ -1,11 +1,11 @@
 -- The path of an entry: a slash and the name up to its first zero, written behind the path of the directory.
 use mathlib.Core.Path.{_≡_, refl, sym, ap, _∙_}
-use Prim.Native.Nat.{ℕ, suc, _+_, _-_, _≤_}
+use Prim.Native.Nat.{ℕ, _+_, _-_, _≤_}
 use native.Mathlib.Numerals.{add-one}
 use native.Mathlib.Omega.{arith}
 use mathlib.Core.Bool.{Bool, true, false}
 use mathlib.Core.List.{[], _∷_, _++_, append-assoc}
-use lib.ListN.{length, take, drop, set, length-take, length-drop, length-set}
+use lib.ListN.{length, take, drop, set, length-drop, length-set}
 use lib.Seq.{length-take-le, take-take, take-suc-set, take-at}
 use lib.Dec.{eqb}
 use Rattle.volume.specs.Bytes.{Bytes, put, if_then_else_}
@@ -67,7 +67,3 @@ module _ (b : Bytes) (at to : ℕ) (path path′ : Bytes) (len : ℕ) (h : at + 
     low = omega arith;
     high = omega arith;
   }
-
--- where so many bytes are the same, fewer are
-pub front-kept : (m n : ℕ) (x y : Bytes) → m ≤ n → take n x ≡ take n y → take m x ≡ take m y
-front-kept m n x y h e = sym (take-take m n x h) ∙ ap (take m) e ∙ take-take m n y h

@@ -8,7 +8,8 @@ use native.Mathlib.Numerals.{add-one}
 use native.Mathlib.Omega.{arith}
 use native.Mathlib.Decide.{decLe}
 use mathlib.Core.List.{[], _∷_, _++_, map, append-nil}
-use lib.ListN.{length}
+use lib.ListN.{take}
+use lib.Seq.{take-take}
 use Rattle.volume.specs.Bytes.{Bytes}
 use Rattle.volume.specs.Lists.{countFrom}
 use Rattle.volume.specs.Chain.{chain}
@@ -22,12 +23,14 @@ use Rattle.model.specs.Image.{entryRow, rowOf, rowAt}
 use Rattle.model.specs.Text.{text}
 use Rattle.model.specs.Listing.{line, rowLines}
 use Rattle.fields.specs.declared.Entry.{Entry}
+use Rattle.fields.specs.declared.Entry.the-variants.{Vacant, File, Directory}
+use Rattle.fields.specs.declared.Page.{Page}
 use Rattle.fields.specs.Read.{entryOf}
 use Rattle.laws.proofs.Owns.{own, own-le}
 use Rattle.laws.proofs.Counting.{content-length}
 use Rattle.listing_text.specs.Window.{Window, poured}
 use Rattle.listing_text.proofs.Windows.{poured-nil, poured-next}
-use Rattle.listing_text.specs.Lines.{directoryLines, entryLines, entryPath, Readable}
+use Rattle.listing_text.specs.Lines.{directoryLines, entryLines, entryPath, Readable, Extended}
 
 -- the position of entry i of the directory on page p
 abbrev position : (page i : ℕ) → ℕ
@@ -67,19 +70,33 @@ module _ (b : Bytes) (p : ℕ) (path : Bytes) where
   unfolding linesFrom rowOf countFrom rowLines
   lines-last d n i e h = let z : entryCount p - i ≡ 0 = omega arith in rw z
 
--- ---- the loop over the entries, of which the rest from entry i on is to lead to the window `to`
+-- ---- the loop over the entries
 
-module _ (d : ℕ) (b : Bytes) (p i : ℕ) (path : Bytes) (w to : Window) (leads : poured (linesFrom d b p i path) w ≡ to) where
-  -- entry i stands at `at`; w′ is the window after its lines
-  pub turn : (at : ℕ) (same : Bytes) (w′ : Window) → i < entryCount p → at ≡ position p i → same ≡ path → w′ ≡ poured (entryLines d b at same) w
-      → poured (linesFrom d b p (i + 1) path) w′ ≡ to
-  turn at same w′ h here e next =
-      let next′ : w′ ≡ poured (entryLines d b (position p i) path) w = next ∙ rw (here, e) in
-      poured-next (entryLines d b (position p i) path) (linesFrom d b p (i + 1) path) w next′ refl
-      ∙ ap (λ (v : Bytes). poured v w) (sym (lines-next b p path d i h)) ∙ leads
+-- the lines of the entries from entry i on, poured into this window, lead where all lines of the directory lead from the window w
+pub record Leads (depth : ℕ) (b : Bytes) (p : ℕ) (path : Bytes) (w : Window) (i : ℕ) (now : Window) : Type 0 where
+  pub there : poured (linesFrom (depth - 1) b p i path) now ≡ poured (directoryLines depth b p path) w
 
-  pub stop : (n : ℕ) → n ≡ entryCount p → n ≤ i → w ≡ to
-  stop n e h = sym (poured-nil w) ∙ ap (λ (v : Bytes). poured v w) (sym (lines-last b p path d n i e h)) ∙ leads
+pub leads-none : (b : Bytes) (p depth : ℕ) (path : Bytes) (w : Window) → depth ≡ 0 → w ≡ poured (directoryLines depth b p path) w
+leads-none b p depth path w e = rw (lines-none b p path depth e) (sym (poured-nil w))
+
+module _ {depth : ℕ} {b : Bytes} {p : ℕ} {path : Bytes} {w : Window} where
+  pub leads-first : depth ≢ 0 → Leads depth b p path w 0 w
+  leads-first ne = record { there = ap (λ (v : Bytes). poured v w) (lines-first b p path depth ne) }
+
+  module _ {i : ℕ} {now : Window} (l : Leads depth b p path w i now) {n : ℕ} (count : n ≡ entryCount p) where
+    -- entry i stands at `at`; w′ is the window after its lines
+    pub leads-next : i < n → {at : ℕ} → at ≡ position p i → {same : Bytes} → same ≡ path → {w′ : Window} → w′ ≡ poured (entryLines (depth - 1) b at same) now
+        → Leads depth b p path w (i + 1) w′
+    leads-next h {at} here {same} e {w′} next =
+        let next′ : w′ ≡ poured (entryLines (depth - 1) b (position p i) path) now = next ∙ rw (here, e) in
+        record {
+          there =
+              poured-next (entryLines (depth - 1) b (position p i) path) (linesFrom (depth - 1) b p (i + 1) path) now next′ refl
+              ∙ ap (λ (v : Bytes). poured v now) (sym (lines-next b p path (depth - 1) i (omega arith))) ∙ l .there;
+        }
+
+    pub leads-last : n ≤ i → now ≡ poured (directoryLines depth b p path) w
+    leads-last h = sym (poured-nil now) ∙ ap (λ (v : Bytes). poured v now) (sym (lines-last b p path (depth - 1) n i count h)) ∙ l .there
 
 -- ---- what is readable
 
@@ -91,41 +108,67 @@ position-in s i (suc n) j l u = elim (decLe j i) [
   | no h ↦ mem-tail (s + 32 * j) (s + 32 * i) (map (λ k. s + 32 * k) (countFrom (suc i) n)) (position-in s (suc i) n j (omega arith) (omega arith))
 ]
 
-pub entry-readable : (b : Bytes) (p depth i at : ℕ) → depth ≢ 0 → i < entryCount p → at ≡ position p i → Readable b (owned depth b p)
+pub entry-readable : (b : Bytes) (p depth i at n : ℕ) → depth ≢ 0 → n ≡ entryCount p → i < n → at ≡ position p i → Readable b (owned depth b p)
     → Readable b (own (depth - 1) b (entryAt b at))
 unfolding entries
-entry-readable b p zero i at ne h e r = absurd (ne refl)
-entry-readable b p (suc d) i at ne h e r =
+entry-readable b p zero i at n ne k h e r = absurd (ne refl)
+entry-readable b p (suc d) i at n ne k h e r =
     let m : Mem (position p i) (entries p) = position-in (entriesStart p) 0 (entryCount p) i (omega arith) (omega arith) in
     let k : suc d - 1 ≡ d = omega arith in
     rw (e, k) (record { inside = λ q n. r .inside q (omega (arith, own-le d b p (position p i) q m)) })
 
 -- ---- an entry, by its cases
 
--- the entry that was read is s
-pub seen : (b : Bytes) (at : ℕ) {r s : Entry} → entryOf r (isLocked b at) (nameAt b at) (dateAt b at) ≡ entryAt b at → r ≡ s
-    → entryOf s (isLocked b at) (nameAt b at) (dateAt b at) ≡ entryAt b at
-seen b at {r} {s} read e = rw (← e) read
-
 module _ (d : ℕ) (b : Bytes) (at : ℕ) (path : Bytes) where
-  pub lines-vacant : vacant ≡ entryAt b at → entryLines d b at path ≡ []
+  lines-vacant : vacant ≡ entryAt b at → entryLines d b at path ≡ []
   unfolding entryLines entryRow rowLines
   lines-vacant e = rw (← e)
 
-  pub lines-file : (start size : ℕ) → aFile (isLocked b at) (nameAt b at) (dateAt b at) start size ≡ entryAt b at → Readable b (own d b (entryAt b at))
+  lines-file : (start size : ℕ) → aFile (isLocked b at) (nameAt b at) (dateAt b at) start size ≡ entryAt b at → Readable b (own d b (entryAt b at))
       → entryLines d b at path ≡ line (text "F") size (entryPath b at path)
   unfolding entryLines entryRow rowLines own pagesOf
   lines-file start size e r =
       let s : Readable b (chain (link b) (pagesFor size) start) = subst (λ (x : Model.Entry). Readable b (own d b x)) (sym e) r in
       rw (← e) (append-nil _ ∙ ap (λ (n : ℕ). line (text "F") n (entryPath b at path)) (content-length b start size (s .inside)))
 
-  module _ (start size : ℕ) (e : aDirectory (nameAt b at) (dateAt b at) start size ≡ entryAt b at) where
-    pub lines-directory : entryLines d b at path ≡ line (text "D") 256 (entryPath b at path) ++ directoryLines d b start (entryPath b at path)
-    unfolding entryLines directoryLines entryRow rowLines
-    lines-directory = rw (← e) (append-nil _)
+  lines-directory : (start size : ℕ) → aDirectory (nameAt b at) (dateAt b at) start size ≡ entryAt b at
+      → entryLines d b at path ≡ line (text "D") 256 (entryPath b at path) ++ directoryLines d b start (entryPath b at path)
+  unfolding entryLines directoryLines entryRow rowLines
+  lines-directory start size e = rw (← e) (append-nil _)
 
-    pub below-readable : Readable b (own d b (entryAt b at)) → (start < pageCount b) × Readable b (owned d b start)
+-- r is the entry that was read, and w the window before its lines
+module _ (d : ℕ) (b : Bytes) (at : ℕ) {r : Entry} (read : entryOf r (isLocked b at) (nameAt b at) (dateAt b at) ≡ entryAt b at) where
+  seen : {s : Entry} → r ≡ s → entryOf s (isLocked b at) (nameAt b at) (dateAt b at) ≡ entryAt b at
+  seen e = rw (← e) read
+
+  pub vacant-poured : r ≡ Vacant → (path : Bytes) (w : Window) → w ≡ poured (entryLines d b at path) w
+  vacant-poured e path w = rw (lines-vacant d b at path (seen e)) (sym (poured-nil w))
+
+  -- the path of the entry was written behind that of the directory
+  module _ {start : Page} {size : ℕ} {path path′ : Bytes} {len end : ℕ} (x : Extended b at path path′ len end) (w : Window) {w₁ : Window} where
+    pub file-poured : r ≡ File start size → Readable b (own d b (entryAt b at)) → w₁ ≡ poured (line (text "F") size (take end path′)) w
+        → w₁ ≡ poured (entryLines d b at (take len path)) w
+    file-poured e k l = rw (lines-file d b at (take len path) (start .0) size (seen e) k, ← x .whole) l
+
+    pub directory-poured : r ≡ Directory start size → w₁ ≡ poured (line (text "D") 256 (take end path′)) w
+        → {w₂ : Window} → w₂ ≡ poured (directoryLines d b (start .0) (take end path′)) w₁ → w₂ ≡ poured (entryLines d b at (take len path)) w
+    directory-poured e l m =
+        rw (lines-directory d b at (take len path) (start .0) size (seen e), ← x .whole)
+        (poured-next (line (text "D") 256 (take end path′)) (directoryLines d b (start .0) (take end path′)) w l m)
+
+  module _ {start : Page} {size : ℕ} (e : r ≡ Directory start size) (k : Readable b (own d b (entryAt b at))) where
+    below : Readable b (start .0 ∷ owned d b (start .0))
     unfolding own
-    below-readable r =
-        let s : Readable b (start ∷ owned d b start) = subst (λ (x : Model.Entry). Readable b (own d b x)) (sym e) r in
-        (omega (arith, s .inside start (mem-head start (owned d b start))), record { inside = λ q m. s .inside q (mem-tail q start (owned d b start) m) })
+    below = subst (λ (x : Model.Entry). Readable b (own d b x)) (sym (seen e)) k
+
+    pub below-inside : start .0 < pageCount b
+    below-inside = omega (arith, below .inside (start .0) (mem-head (start .0) (owned d b (start .0))))
+
+    pub below-readable : Readable b (owned d b (start .0))
+    below-readable = record { inside = λ q m. below .inside q (mem-tail q (start .0) (owned d b (start .0)) m) }
+
+-- the path of the directory stays when what is behind it was written
+pub front-kept : {b : Bytes} {at : ℕ} {path path′ : Bytes} (path″ : Bytes) {len end : ℕ} → Extended b at path path′ len end → take end path″ ≡ take end path′
+    → take len path″ ≡ take len path
+front-kept {b} {at} {path} {path′} path″ {len} {end} e k =
+    sym (take-take len end path″ (e .low)) ∙ ap (take len) k ∙ take-take len end path′ (e .low) ∙ e .front

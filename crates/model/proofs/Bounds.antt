@@ -1,4 +1,4 @@
--- How long a name is, and how many entries a directory has.
+-- How long a name is, and how many entries a directory has: a legal text has passed the test on its length, and a directory's entries are counted out.
 use mathlib.Core.Path.{_≡_}
 use Prim.Native.Nat.{ℕ, zero, suc, _≤_}
 use native.Mathlib.Omega.{arith}

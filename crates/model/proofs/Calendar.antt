@@ -1,4 +1,5 @@
--- The calendar of paper 02 §3: corner dates that are good, and corner dates that are not.
+-- The calendar of paper 02 §3, computed at its corners: dates that are good and dates that are not stand on both sides of each bound, and `goodDate`
+-- tells them apart, by `refl`.
 use mathlib.Core.Path.{_≡_, refl}
 use Prim.Native.Nat.{ℕ}
 use mathlib.Core.Bool.{true, false}

@@ -1,4 +1,4 @@
--- What calls change: whole images after a write, a removal and a make.
+-- What calls change: whole images after a write, a removal, a lock and a make. Each row is computed from the definitions, so it holds by `refl`.
 use mathlib.Core.Path.{refl}
 use mathlib.Core.Bool.{true, false}
 use mathlib.Core.List.{List, [], _∷_, _++_}

@@ -1,4 +1,4 @@
--- What the rows of `Values` have in common: arguments, images and literal bytes.
+-- What the rows of `Values` have in common: arguments, images and literal bytes. All are closed, so that a row with them computes.
 use Prim.Native.Nat.{ℕ, _%_}
 use mathlib.Core.List.{[], _∷_, _++_, map}
 use lib.ListN.{replicate, set}

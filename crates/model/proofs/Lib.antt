@@ -9,6 +9,7 @@ pub mod Table
 -- Further cases, by theme, and all of them under one theorem.
 pub mod Desk
 pub mod Answers
+pub mod Makes
 pub mod Changes
 pub mod Soundness
 pub mod Pictures

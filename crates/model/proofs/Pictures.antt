@@ -1,4 +1,5 @@
--- What an image means as a whole: its tree, the tree that the calls replay to, and the listing.
+-- What an image means as a whole: its tree, the tree that the calls replay to, and the listing. Each row is computed from the definitions, so it holds
+-- by `refl`.
 use mathlib.Core.Path.{refl}
 use Prim.Native.Nat.{ℕ, suc}
 use mathlib.Core.Bool.{false}

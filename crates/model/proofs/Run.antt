@@ -1,4 +1,5 @@
--- Lists of calls run by the definitions: each call gets the image as the last one left it.
+-- Lists of calls run by the definitions: each call gets the image as the last one left it, so a list of cases is one equation between what it computes
+-- to and what is stated, and that equation is `refl`.
 use mathlib.Core.Path.{_≡_, refl, sym, ap, _∙_}
 use Prim.Native.Nat.{ℕ}
 use mathlib.Core.Bool.{Bool, true, false}
@@ -78,7 +79,14 @@ turns-are (c ∷ cs) b =
 
 -- Everything that a list of calls computes with: to unfold this is to unfold them all.
 unfoldable pub computing : Unit {0}
-unfolding flatMap same all any keep lastOr distinct countFrom first chain beyond spread On.pageBit On.zeroBits On.lowestFree On.mark On.unmark On.taken On.released On.grown On.gained On.jointOf On.written pagesFor validLength validHeader legalByte legalRest legalName legalText padded unpadded isBcd bcd between isLeap daysIn goodDate entries entryAt newEntry pagesOf goodEntry isNamed sameName namesApart goodDirectory reachedBy reached soundTo sound owners thenJudge judgePage judgeChain freshName judgeEntry judgeEntries judgeDirectory lostOr judgeRest judge isClean emptyRow width held needs freeNumber lookup before texts namesFrom pathTo pathOf isNoPath isRoot contentOf entryRow rowOf rowAt treeOf enter walk nodeNamed inWalked walkTo entryNamed enterOn walkOn arrivedOr formatted isVacant lowestVacant made rewritten written removed withLock relocked isMissing isBlocked stoppedAt isThere isDirectoryNode isLockedNode contentIn rowIn wanted makeLines earlier later refusals settle foundAt listed told filled isFormat lines effect answer after bufferAfter text run results turn turns
+unfolding flatMap same all any keep lastOr distinct countFrom first chain beyond spread On.pageBit On.zeroBits On.lowestFree On.mark On.unmark
+    On.taken On.released On.grown On.gained On.jointOf On.written pagesFor validLength validHeader legalByte legalRest legalName legalText padded
+    unpadded isBcd bcd between isLeap daysIn goodDate entries entryAt newEntry pagesOf goodEntry isNamed sameName namesApart goodDirectory reachedBy
+    reached soundTo sound owners thenJudge judgePage judgeChain freshName judgeEntry judgeEntries judgeDirectory lostOr judgeRest judge isClean
+    emptyRow width held needs freeNumber lookup before texts namesFrom pathTo pathOf isNoPath isRoot contentOf entryRow rowOf rowAt treeOf enter walk
+    nodeNamed inWalked walkTo entryNamed enterOn walkOn arrivedOr formatted isVacant lowestVacant made rewritten written removed withLock relocked
+    isMissing isBlocked stoppedAt isThere isDirectoryNode isLockedNode contentIn rowIn wanted makeLines earlier later refusals settle foundAt listed
+    told filled isFormat lines effect answer after bufferAfter text run results turn turns
 computing = tt
 
 -- ---- cases

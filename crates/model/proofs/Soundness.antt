@@ -1,5 +1,5 @@
 -- The facts of a sound image one by one: an image that lacks just that fact, and the fault that is told of it, by number and place. Which of two
--- faults is told. And what does not count.
+-- faults is told. And what does not count. Each row is computed from the definitions, so it holds by `refl`.
 use mathlib.Core.Path.{refl}
 use Prim.Native.Nat.{ℕ}
 use mathlib.Core.Bool.{true, false}

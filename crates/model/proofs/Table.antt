@@ -1,5 +1,5 @@
--- Document 01, "At the bench": the cases marked T, computed on real images by the definitions. Cases 2 and 5 are as paper 02 §1 has them: an
--- empty file has a page.
+-- Document 01, "At the bench": the cases marked T, computed on real images by the definitions, so each holds by `refl`. Cases 2 and 5 are as paper 02
+-- §1 has them: an empty file has a page.
 use mathlib.Core.Path.{refl}
 use Prim.Native.Nat.{ℕ, _+_, _-_}
 use Prim.Native.String.{String}

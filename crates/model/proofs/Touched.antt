@@ -1,4 +1,5 @@
--- The bytes that calls may change, position by position, and the pages that they move, on small images: no more than these.
+-- The bytes that calls may change, position by position, and the pages that they move, on small images: no more than these, since the whole list of each
+-- is computed and compared.
 use mathlib.Core.Path.{_≡_, refl}
 use Prim.Native.Nat.{ℕ}
 use mathlib.Core.Bool.{true, _&&_}

@@ -1,4 +1,5 @@
--- Version 1 is a lawful geometry: what `volume` proves of pages and chains holds for it.
+-- Version 1 is a lawful geometry, since its places are sums of constants and multiples of 256, which linear arithmetic tells apart: so what `volume`
+-- proves of pages and chains holds for it.
 use Prim.Native.Nat.{ℕ, _/_, _≤_}
 use native.Mathlib.Omega.{arith}
 use Rattle.volume.proofs.Lawful.{Lawful}

@@ -3,7 +3,7 @@ use mathlib.Core.Path.{_≡_, refl, sym, ap, _∙_}
 use mathlib.Core.Logic.{_⊎_, inl, inr}
 use Prim.Native.Nat.{ℕ}
 use native.Mathlib.Omega.{arith}
-use mathlib.Core.Bool.{false}
+use mathlib.Core.Bool.{Bool, false}
 use denote.Enum.Declared.{tagOf}
 use Rattle.volume.specs.Bytes.{Bytes, same}
 use Rattle.model.specs.Entry.{isLocked, nameAt, dateAt, entryAt}
@@ -18,11 +18,13 @@ module _ (b n : Bytes) (at : ℕ) (r : Entry) (read : entryOf r (isLocked b at) 
   unfolding isNamed
   vacant-unnamed v = ap (isNamed n) (ap (λ (s : Entry). entryOf s (isLocked b at) (nameAt b at) (dateAt b at)) (sym v) ∙ read)
 
-  pub occupied-named : (tagOf the-type r ≡ 1) ⊎ (tagOf the-type r ≡ 2) → same (nameAt b at) n ≡ isNamed n (entryAt b at)
+  -- q is the answer for its name
+  pub occupied-named : (tagOf the-type r ≡ 1) ⊎ (tagOf the-type r ≡ 2) → (q : Bool) → q ≡ same (nameAt b at) n → q ≡ isNamed n (entryAt b at)
   unfolding isNamed
-  occupied-named o = named r o ∙ ap (isNamed n) read
+  occupied-named o q e = e ∙ named r o ∙ ap (isNamed n) read
     where
-      named : (s : Entry) → (tagOf the-type s ≡ 1) ⊎ (tagOf the-type s ≡ 2) → same (nameAt b at) n ≡ isNamed n (entryOf s (isLocked b at) (nameAt b at) (dateAt b at))
+      named : (s : Entry) → (tagOf the-type s ≡ 1) ⊎ (tagOf the-type s ≡ 2)
+          → same (nameAt b at) n ≡ isNamed n (entryOf s (isLocked b at) (nameAt b at) (dateAt b at))
       named Vacant k = elim k [ inl u ↦ absurd (omega arith) | inr u ↦ absurd (omega arith) ]
       named (File start size) k = refl
       named (Directory start size) k = refl

@@ -1,9 +1,10 @@
 -- What a loop over bytes sees at index k: each test runs along the list, so before the end it is the test of byte k and then that of the rest.
-use mathlib.Core.Path.{_≡_, refl, ap}
+use mathlib.Core.Path.{_≡_, refl, sym, ap, _∙_}
 use mathlib.Core.Logic.{_≢_}
-use mathlib.Core.Bool.{Bool, true, false, _&&_}
+use mathlib.Core.Bool.{Bool, true, false, not, _&&_}
 use Prim.Native.Nat.{ℕ, suc, _+_, _≤_, _<_}
 use native.Mathlib.Numerals.{add-one}
+use native.Mathlib.Omega.{arith}
 use mathlib.Core.List.{[], _∷_}
 use lib.ListN.{length, getD, drop, drop-of-length-le}
 use lib.Seq.{drop-cons}
@@ -11,37 +12,75 @@ use lib.Dec.{eqb}
 use borrow.Author.Tests.{eq-eqb, ne-eqb}
 use Rattle.volume.specs.Bytes.{Bytes, same}
 use Rattle.volume.specs.Lists.{all}
+use Rattle.volume.proofs.Tests.{all-next, all-end}
 use Rattle.model.specs.Name.{legalByte, legalRest}
+use Rattle.fields.proofs.Plain.{told, untold}
 use Rattle.names.specs.Texts.{textLength}
 
-module _ (l : Bytes) (k : ℕ) (h : k < length l) where
-  pub byte-next : drop k l ≡ getD l k 0 ∷ drop (k + 1) l
-  byte-next = rw (add-one, drop-cons l k 0)
+-- x is what all the bytes are tested as, and so those of l from k on
 
-  pub rest-zero : getD l k 0 ≡ 0 → legalRest (drop k l) ≡ all (eqb 0) (drop (k + 1) l)
+module _ {x : Bool} (l : Bytes) (k : ℕ) (so-far : x ≡ all (eqb 0) (drop k l)) where
+  pub zeros-not : k < length l → getD l k 0 ≢ 0 → false ≡ x
+  zeros-not h n = sym (so-far ∙ all-next l k h (eqb 0) ∙ rw (ne-eqb 0 _ (λ e. n (sym e))))
+
+  pub zeros-on : k < length l → getD l k 0 ≡ 0 → x ≡ all (eqb 0) (drop (k + 1) l)
+  zeros-on h e = so-far ∙ all-next l k h (eqb 0) ∙ rw (eq-eqb 0 _ (sym e))
+
+  pub zeros-all : length l ≤ k → true ≡ x
+  zeros-all h = sym (so-far ∙ all-end l k h (eqb 0))
+
+module _ {x : Bool} (l : Bytes) (k : ℕ) (so-far : x ≡ all legalByte (drop k l)) where
+  -- r is the answer for byte k
+  module _ (h : k < length l) (r : Bool) (byte : r ≡ legalByte (getD l k 0)) where
+    pub text-not : not r ≡ true → false ≡ x
+    text-not t = sym (so-far ∙ all-next l k h legalByte ∙ rw (untold byte t))
+
+    pub text-on : not r ≡ false → x ≡ all legalByte (drop (k + 1) l)
+    text-on t = so-far ∙ all-next l k h legalByte ∙ rw (told byte t)
+
+  pub text-all : length l ≤ k → true ≡ x
+  text-all h = sym (so-far ∙ all-end l k h legalByte)
+
+byte-next : (l : Bytes) (k : ℕ) → k < length l → drop k l ≡ getD l k 0 ∷ drop (k + 1) l
+byte-next l k h = rw (add-one, drop-cons l k 0)
+
+module _ {x : Bool} (l : Bytes) (k : ℕ) (so-far : x ≡ legalRest (drop k l)) where
+  module _ (h : k < length l) where
+    pub rest-zero : getD l k 0 ≡ 0 → (z : Bool) → z ≡ all (eqb 0) (drop (k + 1) l) → z ≡ x
+    unfolding legalRest
+    rest-zero e z zeros = zeros ∙ sym (so-far ∙ rw (byte-next l k h, eq-eqb _ _ e))
+
+    -- r is the answer for byte k
+    module _ (n : getD l k 0 ≢ 0) (r : Bool) (byte : r ≡ legalByte (getD l k 0)) where
+      next : x ≡ (legalByte (getD l k 0) && legalRest (drop (k + 1) l))
+      unfolding legalRest
+      next = so-far ∙ rw (byte-next l k h, ne-eqb _ _ n)
+
+      pub rest-not : not r ≡ true → false ≡ x
+      rest-not t = sym (next ∙ rw (untold byte t))
+
+      pub rest-on : not r ≡ false → x ≡ legalRest (drop (k + 1) l)
+      rest-on t = next ∙ rw (told byte t)
+
+  pub rest-all : length l ≤ k → true ≡ x
   unfolding legalRest
-  rest-zero e = rw (byte-next, eq-eqb _ _ e)
+  rest-all h = sym (so-far ∙ rw (drop-of-length-le l h))
 
-  pub rest-next : (getD l k 0 ≡ 0 → ⊥) → legalRest (drop k l) ≡ (legalByte (getD l k 0) && legalRest (drop (k + 1) l))
-  unfolding legalRest
-  rest-next e = rw (byte-next, ne-eqb _ _ e)
-
-  pub text-stop : getD l k 0 ≡ 47 → textLength (drop k l) ≡ 0
+-- the text that ends at x ends where the one does that begins at k
+module _ {x : ℕ} (l : Bytes) (k : ℕ) (so-far : x ≡ k + textLength (drop k l)) where
+  pub slash-here : k < length l → getD l k 0 ≡ 47 → k ≡ x
   unfolding textLength
-  text-stop e = rw (byte-next, eq-eqb _ _ e)
+  slash-here h e = let stop : textLength (drop k l) ≡ 0 = rw (byte-next l k h, eq-eqb _ _ e) in omega arith
 
-  pub text-next : (getD l k 0 ≡ 47 → ⊥) → textLength (drop k l) ≡ suc (textLength (drop (k + 1) l))
+  pub slash-on : k < length l → getD l k 0 ≢ 47 → x ≡ k + 1 + textLength (drop (k + 1) l)
   unfolding textLength
-  text-next e = rw (byte-next, ne-eqb _ _ e)
+  slash-on h e = let step : textLength (drop k l) ≡ suc (textLength (drop (k + 1) l)) = rw (byte-next l k h, ne-eqb _ _ e) in omega arith
 
-module _ (l : Bytes) (k : ℕ) (h : length l ≤ k) where
-  pub rest-end : legalRest (drop k l) ≡ true
-  unfolding legalRest
-  rest-end = rw (drop-of-length-le l h)
-
-  pub text-end : textLength (drop k l) ≡ 0
+  pub slash-none : length l ≤ k → k ≤ length l → k ≡ x
   unfolding textLength
-  text-end = rw (drop-of-length-le l h)
+  slash-none h g = let stop : textLength (drop k l) ≡ 0 = rw (drop-of-length-le l h) in omega arith
+
+-- ---- two lists of bytes
 
 and-true : (t : Bool) → (t && true) ≡ t
 and-true true = refl
@@ -51,24 +90,26 @@ and-false : (t : Bool) → (t && false) ≡ false
 and-false true = refl
 and-false false = refl
 
-module _ (a b : Bytes) (k : ℕ) where
-  same-next : k < length a → k < length b → same (drop k a) (drop k b) ≡ (eqb (getD a k 0) (getD b k 0) && same (drop (k + 1) a) (drop (k + 1) b))
+-- f is what the bytes before k say, of two lists of one length
+module _ (a b : Bytes) (k : ℕ) (f : Bool) (long : length a ≡ length b) (so-far : same a b ≡ (f && same (drop k a) (drop k b))) where
+  both-next : k < length a → same (drop k a) (drop k b) ≡ (eqb (getD a k 0) (getD b k 0) && same (drop (k + 1) a) (drop (k + 1) b))
   unfolding same
-  same-next h g = rw (byte-next a k h, byte-next b k g)
+  both-next h = rw (byte-next a k h, byte-next b k (omega arith))
 
-  -- f is what the bytes before say
-  pub same-turn : (f : Bool) → k < length a → k < length b
-      → (f && same (drop k a) (drop k b)) ≡ ((f && eqb (getD a k 0) (getD b k 0)) && same (drop (k + 1) a) (drop (k + 1) b))
-  same-turn true h g = same-next h g
-  same-turn false h g = refl
+  pub same-on : k < length a → same a b ≡ ((f && eqb (getD a k 0) (getD b k 0)) && same (drop (k + 1) a) (drop (k + 1) b))
+  same-on h = so-far ∙ turn f
+    where
+      turn : (g : Bool) → (g && same (drop k a) (drop k b)) ≡ ((g && eqb (getD a k 0) (getD b k 0)) && same (drop (k + 1) a) (drop (k + 1) b))
+      turn true = both-next h
+      turn false = refl
 
-  pub same-end : (f : Bool) → length a ≤ k → length b ≤ k → (f && same (drop k a) (drop k b)) ≡ f
+  pub same-all : length a ≤ k → f ≡ same a b
   unfolding same
-  same-end f h g = rw (drop-of-length-le a h, drop-of-length-le b g) (and-true f)
+  same-all h = let g : length b ≤ k = omega arith in sym (so-far ∙ rw (drop-of-length-le a h, drop-of-length-le b g) (and-true f))
 
-pub same-apart : (a b : Bytes) → length a ≢ length b → same a b ≡ false
+pub same-not : (a b : Bytes) → length a ≢ length b → false ≡ same a b
 unfolding same
-same-apart [] [] h = absurd (h refl)
-same-apart [] (y ∷ b) h = refl
-same-apart (x ∷ a) [] h = refl
-same-apart (x ∷ a) (y ∷ b) h = rw (same-apart a b (λ e. h (ap suc e))) (and-false (eqb x y))
+same-not [] [] h = absurd (h refl)
+same-not [] (y ∷ b) h = refl
+same-not (x ∷ a) [] h = refl
+same-not (x ∷ a) (y ∷ b) h = rw (← same-not a b (λ e. h (ap suc e)), and-false (eqb x y))

@@ -18,16 +18,28 @@ use Rattle.model.specs.Tree.{Row, end, free, file, dir, width, held, lookup}
 use Rattle.model.specs.Path.{Name, Path, below, pathOf, isNoPath, isRoot, parents, lastName}
 use Rattle.model.specs.Image.{entryRow, rowOf, rowAt, treeOf}
 use Rattle.model.specs.Walk.{Walked, arrived, missing, blocked, walk, inWalked, entryNamed, walkOn, arrivedOr, parentPage}
+use Rattle.model.specs.Meaning.{faultTold}
+use Rattle.model.specs.Sound.{sound}
 use Rattle.model.specs.Effect.{isVacant, lowestVacant}
 use Rattle.model.specs.Call.{Refusal as Model, refusal, refusalAt, Answer, refused, granted}
 use Rattle.model.specs.Refusal.{isMissing, isBlocked, stoppedAt, isThere, walkLines, makeLines, settle}
-use Rattle.laws.proofs.Facts.{Facts}
+use Rattle.laws.proofs.Facts.{Facts, sound-facts}
 use Rattle.laws.proofs.Slots.{size, slot}
 use Rattle.laws.proofs.Walks.{nodeOf, lookup-named, mapWalked, walk-bytes}
 use Rattle.walk.specs.Steps as code
 use Rattle.walk.proofs.Parents.{path-below}
-use Rattle.judge.specs.Answers.{Finding, judgedAs}
-use Rattle.places.proofs.Places.{path-root, judgedTo, image-lines}
+use Rattle.walk.specs.Steps.{spotOf}
+use Rattle.walk.specs.declared.Spot.{Spot}
+use Rattle.walk.specs.declared.Spot.the-variants as spots
+use Rattle.walk.specs.declared.Parent.{Parent}
+use Rattle.walk.specs.declared.Parent.the-variants.{In, Missing, Blocked}
+use Rattle.walk.specs.declared.Walk.{Walk}
+use Rattle.fields.proofs.Plain.{told as is-told, untold}
+use Rattle.judge.specs.Answers.{faultOf, findingOf, judgedAs}
+use Rattle.judge.specs.declared.Fault.{Fault}
+use Rattle.judge.specs.declared.Judgement.{Judgement}
+use Rattle.judge.specs.declared.Judgement.the-variants.{Sound, BadLength, BadHeader, Unsound}
+use Rattle.places.proofs.Places.{path-root, two, judgedTo, image-lines}
 use Rattle.places.proofs.Entries.{leads}
 use Rattle.changes.proofs.Vacancies.{vacancy, first-entry}
 use Rattle.refusals.specs.declared.Refusal.{Refusal}
@@ -38,34 +50,29 @@ use Rattle.openings.specs.Openings.{Place, vacancyOr, unlessNamed, openi
 
 -- ---- the refusal of an opening
 
-pub at-why : (o : Opening) (entry begins : ℕ) → o ≡ At entry begins → refusal 4 ≡ why o
-at-why o entry begins e = rw e
-
-pub stopped-why : (o : Opening) (r : Refusal) → o ≡ Stopped r → told r ≡ why o
-stopped-why o r e = rw e
-
 pub stopped-refused : (path : Bytes) (o : Opening) (r : Refusal) {m : Model} {x : Answer Place} → o ≡ Stopped r → m ≡ why o → openingOf path o ≡ x → refused m ≡ x
 stopped-refused path o r e w is = ap refused w ∙ ap (λ (y : Opening). refused (why y)) e ∙ ap (openingOf path) (sym e) ∙ is
 
 -- ---- one directory
 
-module _ (b : Bytes) (p : ℕ) (n : Name) {m : Bytes} (is : m ≡ n .bytes) where
-  pub name-taken : {at : ℕ} → some at ≡ entryNamed b p m → refused (refusal 8) ≡ openingNamed b p n
+-- the answer for the name's entry is s
+module _ (b : Bytes) (p begins : ℕ) (bytes m : Bytes) (is : m ≡ bytes) (s : Spot) (spot : spotOf s ≡ entryNamed b p m) where
+  abbrev name : Name
+  name = record { begins = begins; bytes = bytes }
+
+  pub name-taken : (at : ℕ) → s ≡ spots.At at → refused (refusal 8) ≡ openingNamed b p name
   unfolding unlessNamed
-  name-taken e = ap (unlessNamed (vacancyOr (n .bytes) (first (vacancy b) (entries p)))) (e ∙ ap (entryNamed b p) is)
+  name-taken at e = rw (← is, ← spot, e)
 
-  module _ (new : none ≡ entryNamed b p m) where
-    vacancy-said : (o : Option ℕ) → o ≡ first (vacancy b) (entries p) → vacancyOr (n .bytes) o ≡ openingNamed b p n
-    unfolding unlessNamed
-    vacancy-said o e = ap (vacancyOr (n .bytes)) e ∙ ap (unlessNamed (vacancyOr (n .bytes) (first (vacancy b) (entries p)))) (new ∙ ap (entryNamed b p) is)
+  -- and for the lowest vacant one v
+  module _ (new : s ≡ spots.Nowhere) (v : Spot) (lowest : spotOf v ≡ first (vacancy b) (entries p)) where
+    pub entry-vacant : (at : ℕ) → v ≡ spots.At at → granted (at, bytes) ≡ openingNamed b p name
+    unfolding unlessNamed vacancyOr
+    entry-vacant at e = rw (← is, ← spot, new, ← lowest, e)
 
-    pub entry-vacant : (at : ℕ) → some at ≡ first (vacancy b) (entries p) → granted (at, n .bytes) ≡ openingNamed b p n
-    unfolding vacancyOr
-    entry-vacant at e = vacancy-said (some at) e
-
-    pub none-vacant : none ≡ first (vacancy b) (entries p) → refused (refusal 9) ≡ openingNamed b p n
-    unfolding vacancyOr
-    none-vacant e = vacancy-said none e
+    pub none-vacant : v ≡ spots.Nowhere → refused (refusal 9) ≡ openingNamed b p name
+    unfolding unlessNamed vacancyOr
+    none-vacant e = rw (← is, ← spot, new, ← lowest, e)
 
 -- ---- a row is full exactly if no entry is vacant
 
@@ -106,7 +113,7 @@ module _ (b : Bytes) (f : Facts b) where
   directory-asked : (t : ℕ) (n : Name) → linesOf false (n .bytes) (arrived (rowAt (pageCount b) b t)) (lowestVacant b t, n .bytes) ≡ openingNamed b t n
   unfolding settle isMissing isBlocked arrivedOr rowAt lowestVacant isThere unlessNamed vacancyOr isNone
   directory-asked t n =
-      let deep : pageCount b ≡ suc (pageCount b - 1) = omega (arith, size b f .low) in
+      let deep : pageCount b ≡ suc (pageCount b - 1) = omega (arith, size f .low) in
       rw (deep, lookup-named b (pageCount b - 1) t (n .bytes), row-full b (rowAt (pageCount b - 1) b) (entries t)) (go (entryNamed b t (n .bytes)) (first (vacancy b) (entries t)))
     where
       go : (o v : Option ℕ) → (if isThere (Option·map (λ at. nodeOf b (rowAt (pageCount b - 1) b) (entryAt b at)) o) then refused (refusal 8) else if isNone v then refused (refusal 9) else granted (Option·getD v 0, n .bytes))
@@ -118,7 +125,7 @@ module _ (b : Bytes) (f : Facts b) where
 
   parents-asked : (ns : List Name) (n : Name) → linesOf false (n .bytes) (walk ns (treeOf b .root)) (lowestVacant b (arrivedOr 0 (walkOn b ns 0)), n .bytes) ≡ openingBy b (code.walkedParent b (below ns n) 0)
   unfolding mapWalked inWalked settle isMissing isBlocked stoppedAt arrivedOr
-  parents-asked ns n = ap (λ (w : Walked Row). linesOf false (n .bytes) w (lowestVacant b (arrivedOr 0 (walkOn b ns 0)), n .bytes)) (walk-bytes b f ns) ∙ go (walkOn b ns 0)
+  parents-asked ns n = ap (λ (w : Walked Row). linesOf false (n .bytes) w (lowestVacant b (arrivedOr 0 (walkOn b ns 0)), n .bytes)) (walk-bytes f ns) ∙ go (walkOn b ns 0)
     where
       go : (w : Walked ℕ) → linesOf false (n .bytes) (mapWalked (rowAt (pageCount b) b) w) (lowestVacant b (arrivedOr 0 w), n .bytes) ≡ openingBy b (inWalked w (λ q. arrived (q, n)))
       go (arrived t) = directory-asked t n
@@ -142,49 +149,85 @@ module _ (b path date : Bytes) where
   unfolding openingWalked makeLines
   is-asked = refl
 
-  pub no-path : not (isNoPath (pathOf path)) ≡ false → refused (refusal 4) ≡ openingWalked b path date
-  unfolding settle
-  no-path e = (rw (not-false (isNoPath (pathOf path)) e)) ∙ is-asked
+  -- the code says r of whether it is a path
+  module _ (r : Bool) (told-path : r ≡ not (isNoPath (pathOf path))) where
+    pub no-path : not r ≡ true → refused (refusal 4) ≡ openingWalked b path date
+    unfolding settle
+    no-path e = (rw (not-false (isNoPath (pathOf path)) (untold told-path e))) ∙ is-asked
 
-  pub bad-date : not (isNoPath (pathOf path)) ≡ true → goodDate date ≡ false → refused (refusal 11) ≡ openingWalked b path date
-  unfolding settle
-  bad-date e d = (rw (not-true (isNoPath (pathOf path)) e, d)) ∙ is-asked
+    -- and g of the date
+    module _ (e : not r ≡ false) (g : Bool) (told-date : g ≡ goodDate date) where
+      is-path : not (isNoPath (pathOf path)) ≡ true
+      is-path = is-told told-path e
 
-  module _ (e : not (isNoPath (pathOf path)) ≡ true) (d : goodDate date ≡ true) where
-    pub root-taken : length path ≡ 1 → refused (refusal 8) ≡ openingWalked b path date
-    unfolding settle isNoPath isRoot walk isMissing isBlocked arrivedOr
-    root-taken l = (rw d) ∙ ap (asked b date) (sym (path-root path e l)) ∙ is-asked
+      pub bad-date : not g ≡ true → refused (refusal 11) ≡ openingWalked b path date
+      unfolding settle
+      bad-date d = (rw (not-true (isNoPath (pathOf path)) is-path, untold told-date d)) ∙ is-asked
 
-    pub by-parents : Facts b → 2 ≤ length path → openingBy b (code.walkedParent b (pathOf path) 0) ≡ openingWalked b path date
-    unfolding settle isNoPath isRoot
-    by-parents f l = let q = path-below path l (subst T (sym e) tt) in
-        ap (λ (p : Path). openingBy b (code.walkedParent b p 0)) (q .2) ∙ below-asked (q .0) (q .1) ∙ ap (asked b date) (sym (q .2)) ∙ is-asked
-      where
-        below-asked : (ns : List Name) (n : Name) → openingBy b (code.walkedParent b (below ns n) 0) ≡ asked b date (below ns n)
-        below-asked ns n = sym (rw d (parents-asked b f ns n))
+      module _ (d : not g ≡ false) where
+        pub root-taken : length path ≡ 1 → refused (refusal 8) ≡ openingWalked b path date
+        unfolding settle isNoPath isRoot walk isMissing isBlocked arrivedOr
+        root-taken l = (rw (is-told told-date d)) ∙ ap (asked b date) (sym (path-root path is-path l)) ∙ is-asked
+
+        -- and w of the parents
+        module _ (s : T (sound b)) (low : length path ≡ 1 → ⊥) (w : Parent) (walked : code.parentOf path w ≡ code.walkedParent b (pathOf path) 0) where
+          by-parents : (x : Parent) → w ≡ x → openingBy b (code.parentOf path x) ≡ openingWalked b path date
+          unfolding settle isNoPath isRoot
+          by-parents x is = let q = path-below path (two path r told-path e low) (subst T (sym is-path) tt) in
+              ap (openingBy b) ((rw is at walked) ∙ ap (λ (p : Path). code.walkedParent b p 0) (q .2)) ∙ below-asked (q .0) (q .1) ∙ ap (asked b date) (sym (q .2)) ∙ is-asked
+            where
+              below-asked : (ns : List Name) (n : Name) → openingBy b (code.walkedParent b (below ns n) 0) ≡ asked b date (below ns n)
+              below-asked ns n = sym (rw (is-told told-date d) (parents-asked b (sound-facts s) ns n))
+
+          pub parent-in : (q : Walk) (from : ℕ) → w ≡ In q from → {x : Answer Place} → x ≡ openingNamed b (q .0 .0) (code.nameIn path from (length path)) → x ≡ openingWalked b path date
+          parent-in q from is last = last ∙ by-parents (In q from) is
+
+          pub parent-missing : (i : ℕ) → w ≡ Missing i → refused (refusalAt 5 i) ≡ openingWalked b path date
+          parent-missing i = by-parents (Missing i)
+
+          pub parent-blocked : (i : ℕ) → w ≡ Blocked i → refused (refusalAt 6 i) ≡ openingWalked b path date
+          parent-blocked i = by-parents (Blocked i)
 
 -- ---- what the code asks of a sound image
 
-module _ (b : Bytes) (f : Facts b) where
+module _ (b : Bytes) (s : T (sound b)) where
   -- the directory that a walk has come to lies in the image
-  pub page-inside : (p : Path) (t : ℕ) (n : Name) → _≡_ {A = Walked (ℕ × Name)} (arrived (t, n)) (code.walkedParent b p 0) → t < pageCount b
+  pub page-inside : (path : Bytes) (w : Parent) → code.parentOf path w ≡ code.walkedParent b (pathOf path) 0 → (q : Walk) (from : ℕ) → w ≡ In q from → q .0 .0 < pageCount b
   unfolding inWalked isMissing isBlocked
-  page-inside p t n e = go (walkOn b (parents p) 0) refl e
+  page-inside path w walked q from is = go (walkOn b (parents (pathOf path)) 0) refl (rw is at walked)
     where
-      go : (w : Walked ℕ) → walkOn b (parents p) 0 ≡ w → _≡_ {A = Walked (ℕ × Name)} (arrived (t, n)) (inWalked w (λ q. arrived (q, code.last p))) → t < pageCount b
-      go (arrived q) come k =
-          let l = leads b f (parents p) q come in
-          let pair : _≡_ {A = ℕ × Name} (t, n) (q, code.last p) = cc k in
-          let same : t ≡ q = ap (λ (x : ℕ × Name). x .0) pair in
-          omega (arith, same, slot b f (parents p) (suc (l .0)) q _ (l .1) (first-entry q) .page)
+      go : (v : Walked ℕ) → walkOn b (parents (pathOf path)) 0 ≡ v
+          → _≡_ {A = Walked (ℕ × Name)} (arrived (q .0 .0, code.nameIn path from (length path))) (inWalked v (λ t. arrived (t, code.last (pathOf path)))) → q .0 .0 < pageCount b
+      go (arrived t) come k =
+          let l = leads b (sound-facts s) (parents (pathOf path)) t come in
+          let pair : _≡_ {A = ℕ × Name} (q .0 .0, code.nameIn path from (length path)) (t, code.last (pathOf path)) = cc k in
+          let same : q .0 .0 ≡ t = ap (λ (x : ℕ × Name). x .0) pair in
+          omega (arith, same, slot (sound-facts s) (parents (pathOf path)) (suc (l .0)) t _ (l .1) (first-entry t) .page)
       go (missing i) come k = let bad : _≡_ {A = Bool} true false = sym (ap isMissing k) in absurd (true≢false bad)
       go (blocked i) come k = let bad : _≡_ {A = Bool} true false = sym (ap isBlocked k) in absurd (true≢false bad)
 
-  pub sized : (pageCount b ≤ 256) × (pageSize * pageCount b ≡ length b)
-  sized = (size b f .high, omega (arith, size b f .whole))
+  pub few : pageCount b ≤ 256
+  few = size (sound-facts s) .high
+
+  pub whole : pageSize * pageCount b ≡ length b
+  whole = omega (arith, size (sound-facts s) .whole)
 
 -- ---- the image
 
-pub opening-judged : (b path date : Bytes) (j : Finding) → j ≡ judgedAs b → judgedTo refused (openingWalked b path date) j ≡ opening b path date
-unfolding opening openingWalked settle
-opening-judged b path date j e = ap (judgedTo refused (openingWalked b path date)) e ∙ image-lines b refused (openingWalked b path date)
+-- the judge says j
+module _ (b path date : Bytes) (j : Judgement) (judged : findingOf j ≡ judgedAs b) where
+  opening-judged : (x : Judgement) → j ≡ x → judgedTo refused (openingWalked b path date) (findingOf x) ≡ opening b path date
+  unfolding opening openingWalked settle
+  opening-judged x e = ap (judgedTo refused (openingWalked b path date)) (rw e at judged) ∙ image-lines b refused (openingWalked b path date)
+
+  pub opening-sound : {pages free : ℕ} → j ≡ Sound pages free → {x : Answer Place} → x ≡ openingWalked b path date → x ≡ opening b path date
+  opening-sound {pages} {free} e w = w ∙ opening-judged (Sound pages free) e
+
+  pub opening-length : j ≡ BadLength → refused (refusal 1) ≡ opening b path date
+  opening-length = opening-judged BadLength
+
+  pub opening-header : j ≡ BadHeader → refused (refusal 2) ≡ opening b path date
+  opening-header = opening-judged BadHeader
+
+  pub opening-unsound : (f : Fault) → j ≡ Unsound f → refused (faultTold (faultOf f)) ≡ opening b path date
+  opening-unsound f = opening-judged (Unsound f)

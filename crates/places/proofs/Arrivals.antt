@@ -80,7 +80,7 @@ module _ (b : Bytes) (f : Facts b) where
   unfolding walkTo inWalked mapWalked located
   walk-located noPath = refl
   walk-located root = refl
-  walk-located (below ns n) = ap (λ (w : Walked Row). inWalked w (λ r. nodeNamed n (lookup (n .bytes) r))) (walk-bytes b f ns) ∙ go (walkOn b ns 0)
+  walk-located (below ns n) = ap (λ (w : Walked Row). inWalked w (λ r. nodeNamed n (lookup (n .bytes) r))) (walk-bytes f ns) ∙ go (walkOn b ns 0)
     where
       go : (w : Walked ℕ) → inWalked (mapWalked (rowAt (pageCount b) b) w) (λ r. nodeNamed n (lookup (n .bytes) r))
           ≡ mapWalked (nodeAt b) (inWalked w (λ p. spotNamed b n (entryNamed b p (n .bytes))))

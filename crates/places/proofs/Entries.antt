@@ -40,7 +40,7 @@ module _ (b : Bytes) (f : Facts b) (ns : List Name) (t : ℕ) (come : walkOn b n
 
   module _ (at : ℕ) (m : Mem at (entries t)) where
     owned-by : (y : Entry) → entryAt b at ≡ y → Owned b (own (leads .0) b y)
-    owned-by y is = subst (λ (z : Entry). Owned b (own (leads .0) b z)) is (entry-owned b f ns (leads .0) t at (leads .1) m)
+    owned-by y is = subst (λ (z : Entry). Owned b (own (leads .0) b z)) is (entry-owned f ns (leads .0) t at (leads .1) m)
 
     module _ {name date : Bytes} {start k : ℕ} where
       pub chain-owned : {locked : Bool} → entryAt b at ≡ aFile locked name date start k → Owned b (chain (link b) (pagesFor k) start)
@@ -49,7 +49,7 @@ module _ (b : Bytes) (f : Facts b) (ns : List Name) (t : ℕ) (come : walkOn b n
 
       -- a file's size is the length of its content
       pub size-told : {locked : Bool} → entryAt b at ≡ aFile locked name date start k → length (contentOf b k (chain (link b) (pagesFor k) start)) ≡ k
-      size-told is = content-length b start k (λ q n. omega (arith, chain-owned is .inside q n .1, size b f .whole))
+      size-told is = content-length b start k (λ q n. omega (arith, chain-owned is .inside q n .1, size f .whole))
 
       page-owned : entryAt b at ≡ aDirectory name date start k → (1 ≤ start) × (start < pageCount b)
       unfolding own
@@ -62,7 +62,7 @@ module _ (b : Bytes) (f : Facts b) (p : Path) (at begins : ℕ) (x : EntryOf b p
   among = named-found b (x .page) (x .n .bytes) at (x .found) .0
 
   pub entry-slot : Slot b (x .page) at
-  entry-slot = let l = leads b f (x .ns) (x .page) (x .reached) in slot b f (x .ns) (suc (l .0)) (x .page) at (l .1) among
+  entry-slot = let l = leads b f (x .ns) (x .page) (x .reached) in slot f (x .ns) (suc (l .0)) (x .page) at (l .1) among
 
   pub entry-inside : at + 32 ≤ length b
   entry-inside = entry-slot .inside

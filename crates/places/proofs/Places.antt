@@ -10,7 +10,7 @@ use lib.Dec.{T, eqb}
 use borrow.Author.Tests.{not-true, not-false}
 use Rattle.volume.specs.Bytes.{Bytes, if_then_else_}
 use Rattle.model.specs.Layout.{pageSize, pageCount, validLength, validHeader}
-use Rattle.model.specs.Entry.{Entry, vacant, aFile, aDirectory, entryAt}
+use Rattle.model.specs.Entry.{isLocked, nameAt, dateAt, entryAt}
 use Rattle.model.specs.Sound.{sound}
 use Rattle.model.specs.Path.{Name, Path, noPath, root, below, pathOf, isNoPath}
 use Rattle.model.specs.Walk.{Walked, arrived, missing, blocked, inWalked, entryNamed, walkOn}
@@ -19,10 +19,23 @@ use Rattle.model.specs.Refusal.{settle}
 use Rattle.model.specs.Meaning.{faultTold, firstFault, imageLines}
 use Rattle.model.specs.Judge.{Judged, fault, clean, judge, isClean}
 use Rattle.judge.specs.Answers as found
-use Rattle.judge.specs.Answers.{Finding, judgedAs, concluded}
+use Rattle.judge.specs.Answers.{Finding, faultOf, findingOf, judgedAs, concluded}
+use Rattle.judge.specs.declared.Fault.{Fault}
+use Rattle.judge.specs.declared.Judgement.{Judgement}
+use Rattle.judge.specs.declared.Judgement.the-variants.{Sound, BadLength, BadHeader, Unsound}
 use Rattle.laws.proofs.Judged.{judge-sound}
 use Rattle.laws.proofs.Facts.{valid-sized, sound-facts}
-use Rattle.walk.specs.Steps.{walkedParent}
+use Rattle.fields.specs.declared.Page.{Page}
+use Rattle.fields.specs.declared.Entry.{Entry as Read}
+use Rattle.fields.specs.declared.Entry.the-variants.{Vacant, File, Directory}
+use Rattle.fields.specs.Read.{entryOf}
+use Rattle.fields.proofs.Plain.{told as is-told, untold}
+use Rattle.walk.specs.declared.Spot.{Spot as Found}
+use Rattle.walk.specs.declared.Spot.the-variants as spots
+use Rattle.walk.specs.declared.Parent.{Parent}
+use Rattle.walk.specs.declared.Parent.the-variants.{In, Missing, Blocked}
+use Rattle.walk.specs.declared.Walk.{Walk}
+use Rattle.walk.specs.Steps.{spotOf as named-at, nameIn, parentOf, walkedParent}
 use Rattle.walk.proofs.Parents.{path-below}
 use Rattle.refusals.specs.declared.Refusal.{Refusal}
 use Rattle.refusals.specs.Told.{told}
@@ -33,29 +46,32 @@ use Rattle.places.specs.Places.{Spot, theRoot, theFile, theDirectory, sp
 
 -- ---- the last name
 
-module _ (b : Bytes) (p : ℕ) (n : Name) {m : Bytes} (is : m ≡ n .bytes) where
-  pub not-named : none ≡ entryNamed b p m → refused (refusalAt 5 (n .begins)) ≡ placeNamed b p n
+-- the answer for the name's entry is s
+module _ (b : Bytes) (p begins : ℕ) (bytes m : Bytes) (is : m ≡ bytes) (s : Found) (spot : named-at s ≡ entryNamed b p m) where
+  abbrev name : Name
+  name = record { begins = begins; bytes = bytes }
+
+  pub not-named : s ≡ spots.Nowhere → refused (refusalAt 5 begins) ≡ placeNamed b p name
   unfolding spotNamed walkedAnswer
-  not-named e = ap (λ (o : Option ℕ). walkedAnswer (spotNamed b n o)) (e ∙ ap (entryNamed b p) is)
+  not-named e = rw (← is, ← spot, e)
 
-  pub named : (at : ℕ) → some at ≡ entryNamed b p m → (x : Entry) → x ≡ entryAt b at → walkedAnswer (spotAt n at x) ≡ placeNamed b p n
-  unfolding spotNamed
-  named at e x read =
-      ap (λ (y : Entry). walkedAnswer (spotAt n at y)) read ∙ ap (λ (o : Option ℕ). walkedAnswer (spotNamed b n o)) (e ∙ ap (entryNamed b p) is)
+  -- and what was read there is r
+  module _ (at : ℕ) (found : s ≡ spots.At at) (r : Read) (read : entryOf r (isLocked b at) (nameAt b at) (dateAt b at) ≡ entryAt b at) where
+    named : (x : Read) → r ≡ x → walkedAnswer (spotAt name at (entryOf x (isLocked b at) (nameAt b at) (dateAt b at))) ≡ placeNamed b p name
+    unfolding spotNamed
+    named x e = rw (← is, ← spot, found, ← read, e)
 
-  module _ (at : ℕ) (e : some at ≡ entryNamed b p m) where
-    pub named-vacant : vacant ≡ entryAt b at → refused (refusalAt 5 (n .begins)) ≡ placeNamed b p n
+    pub named-vacant : r ≡ Vacant → refused (refusalAt 5 begins) ≡ placeNamed b p name
     unfolding spotAt walkedAnswer
-    named-vacant = named at e vacant
+    named-vacant = named Vacant
 
-    pub named-file : {locked : Bool} {name date : Bytes} {start size : ℕ} → aFile locked name date start size ≡ entryAt b at → granted (theFile at (n .begins) start size) ≡ placeNamed b p n
+    pub named-file : (start : Page) (size : ℕ) → r ≡ File start size → granted (theFile at begins (start .0) size) ≡ placeNamed b p name
     unfolding spotAt walkedAnswer
-    named-file {locked} {name} {date} {start} {size} = named at e (aFile locked name date start size)
+    named-file start size = named (File start size)
 
-    pub named-directory : {name date : Bytes} {start size : ℕ} → aDirectory name date start size ≡ entryAt b at
-        → granted (theDirectory at (n .begins) start size) ≡ placeNamed b p n
+    pub named-directory : (start : Page) (size : ℕ) → r ≡ Directory start size → granted (theDirectory at begins (start .0) size) ≡ placeNamed b p name
     unfolding spotAt walkedAnswer
-    named-directory {name} {date} {start} {size} = named at e (aDirectory name date start size)
+    named-directory start size = named (Directory start size)
 
 -- ---- the refusal of an arrival
 
@@ -99,33 +115,48 @@ path-root (c ∷ []) e l = go (eqb c 0x2F) e
     go false e = let bad : _≡_ {A = Bool} true false = sym e in absurd (true≢false bad)
 path-root (c ∷ d ∷ r) e l = absurd (omega (arith, l))
 
-module _ (b path : Bytes) where
-  pub no-path : not (isNoPath (pathOf path)) ≡ false → refused (refusal 4) ≡ placeWalked b path
-  unfolding placeWalked settle
-  no-path e = rw (not-false (isNoPath (pathOf path)) e)
-
-  past-line : not (isNoPath (pathOf path)) ≡ true → walkedAnswer (located b (pathOf path)) ≡ placeWalked b path
-  unfolding placeWalked settle
-  past-line e = rw (not-true (isNoPath (pathOf path)) e)
-
-  pub at-root : not (isNoPath (pathOf path)) ≡ true → length path ≡ 1 → granted theRoot ≡ placeWalked b path
-  unfolding located walkedAnswer
-  at-root e l = ap (λ (p : Path). walkedAnswer (located b p)) (sym (path-root path e l)) ∙ past-line e
-
-  -- a path that is not `/` alone has two bytes or more
-  pub two : not (isNoPath (pathOf path)) ≡ true → (length path ≡ 1 → ⊥) → 2 ≤ length path
+-- the code says r of whether it is a path
+module _ (path : Bytes) (r : Bool) (asked : r ≡ not (isNoPath (pathOf path))) where
+  -- one that is not `/` alone has two bytes or more
+  pub two : not r ≡ false → (length path ≡ 1 → ⊥) → 2 ≤ length path
   unfolding pathOf isNoPath
-  two e h = go path e h
+  two e h = go path (is-told asked e) h
     where
       go : (q : Bytes) → not (isNoPath (pathOf q)) ≡ true → (length q ≡ 1 → ⊥) → 2 ≤ length q
       go [] e h = let bad : _≡_ {A = Bool} true false = sym e in absurd (true≢false bad)
       go (c ∷ []) e h = absurd (h refl)
       go (c ∷ d ∷ r) e h = omega arith
 
-  pub by-parents : not (isNoPath (pathOf path)) ≡ true → 2 ≤ length path → placeBy b (walkedParent b (pathOf path) 0) ≡ placeWalked b path
-  by-parents e l =
-      let q = path-below path l (subst T (sym e) tt) in
-      ap (λ (x : Path). placeBy b (walkedParent b x 0)) (q .2) ∙ place-below b (q .0) (q .1) ∙ ap (λ (x : Path). walkedAnswer (located b x)) (sym (q .2)) ∙ past-line e
+  module _ (b : Bytes) where
+    pub no-path : not r ≡ true → refused (refusal 4) ≡ placeWalked b path
+    unfolding placeWalked settle
+    no-path e = rw (not-false (isNoPath (pathOf path)) (untold asked e))
+
+    module _ (e : not r ≡ false) where
+      past-line : walkedAnswer (located b (pathOf path)) ≡ placeWalked b path
+      unfolding placeWalked settle
+      past-line = rw (not-true (isNoPath (pathOf path)) (is-told asked e))
+
+      pub at-root : length path ≡ 1 → granted theRoot ≡ placeWalked b path
+      unfolding located walkedAnswer
+      at-root l = ap (λ (p : Path). walkedAnswer (located b p)) (sym (path-root path (is-told asked e) l)) ∙ past-line
+
+      -- the code says w of the parents
+      module _ (low : length path ≡ 1 → ⊥) (w : Parent) (walked : parentOf path w ≡ walkedParent b (pathOf path) 0) where
+        by-parents : (x : Parent) → w ≡ x → placeBy b (parentOf path x) ≡ placeWalked b path
+        by-parents x is =
+            let q = path-below path (two e low) (subst T (sym (is-told asked e)) tt) in
+            ap (placeBy b) ((rw is at walked) ∙ ap (λ (y : Path). walkedParent b y 0) (q .2)) ∙ place-below b (q .0) (q .1)
+            ∙ ap (λ (y : Path). walkedAnswer (located b y)) (sym (q .2)) ∙ past-line
+
+        pub parent-in : (q : Walk) (from : ℕ) → w ≡ In q from → {x : Answer Spot} → x ≡ placeNamed b (q .0 .0) (nameIn path from (length path)) → x ≡ placeWalked b path
+        parent-in q from is last = last ∙ by-parents (In q from) is
+
+        pub parent-missing : (i : ℕ) → w ≡ Missing i → refused (refusalAt 5 i) ≡ placeWalked b path
+        parent-missing i = by-parents (Missing i)
+
+        pub parent-blocked : (i : ℕ) → w ≡ Blocked i → refused (refusalAt 6 i) ≡ placeWalked b path
+        parent-blocked i = by-parents (Blocked i)
 
 -- ---- the image
 
@@ -156,14 +187,28 @@ module _ (b : Bytes) where
       by-length false v = refl
       by-length true v = by-header (validHeader b) refl v
 
-  pub placed-judged : (path : Bytes) (j : Finding) → j ≡ judgedAs b → judgedTo refused (placeWalked b path) j ≡ placed b path
-  unfolding placed placeWalked settle
-  placed-judged path j e = ap (judgedTo refused (placeWalked b path)) e ∙ image-lines refused (placeWalked b path)
+  -- the judge says j
+  module _ (path : Bytes) (j : Judgement) (judged : findingOf j ≡ judgedAs b) where
+    placed-judged : (x : Judgement) → j ≡ x → judgedTo refused (placeWalked b path) (findingOf x) ≡ placed b path
+    unfolding placed placeWalked settle
+    placed-judged x e = ap (judgedTo refused (placeWalked b path)) (rw e at judged) ∙ image-lines refused (placeWalked b path)
+
+    pub placed-sound : {pages free : ℕ} → j ≡ Sound pages free → {x : Answer Spot} → x ≡ placeWalked b path → x ≡ placed b path
+    placed-sound {pages} {free} e w = w ∙ placed-judged (Sound pages free) e
+
+    pub placed-length : j ≡ BadLength → refused (refusal 1) ≡ placed b path
+    placed-length = placed-judged BadLength
+
+    pub placed-header : j ≡ BadHeader → refused (refusal 2) ≡ placed b path
+    placed-header = placed-judged BadHeader
+
+    pub placed-unsound : (f : Fault) → j ≡ Unsound f → refused (faultTold (faultOf f)) ≡ placed b path
+    placed-unsound f = placed-judged (Unsound f)
 
   -- an image that is judged sound is so
-  pub judged-sound : {pages free : ℕ} → found.isSound pages free ≡ judgedAs b → T (sound b)
+  pub judged-sound : {j : Judgement} → findingOf j ≡ judgedAs b → {pages free : ℕ} → j ≡ Sound pages free → T (sound b)
   unfolding settle
-  judged-sound e = go (validLength (length b)) (validHeader b) (sound b) (ap (judgedTo (λ m. false) true) e ∙ image-lines (λ m. false) true)
+  judged-sound judged is = let e = rw is at judged in go (validLength (length b)) (validHeader b) (sound b) (ap (judgedTo (λ m. false) true) e ∙ image-lines (λ m. false) true)
     where
       go : (v h s : Bool) → true ≡ (if not v then false else if not h then false else if not s then false else true) → T s
       go true true true k = tt
@@ -171,5 +216,5 @@ module _ (b : Bytes) where
       go true false s k = let bad : _≡_ {A = Bool} true false = k in absurd (true≢false bad)
       go false h s k = let bad : _≡_ {A = Bool} true false = k in absurd (true≢false bad)
 
-  pub judged-whole : {pages free : ℕ} → found.isSound pages free ≡ judgedAs b → pageSize * pageCount b ≡ length b
-  judged-whole e = omega (arith, valid-sized b (sound-facts b (judged-sound e) .fits) .whole)
+  pub judged-whole : {j : Judgement} → findingOf j ≡ judgedAs b → {pages free : ℕ} → j ≡ Sound pages free → pageSize * pageCount b ≡ length b
+  judged-whole judged e = omega (arith, valid-sized b (sound-facts (judged-sound judged e) .fits) .whole)

@@ -62,7 +62,7 @@ placed-arrived b path s e =
     let h = image-passed b (pathLine path ∷ []) (two .0) .0 in
     record {
       isSound = h;
-      facts = sound-facts b h;
+      facts = sound-facts h;
       at = located-at b (pathOf path) s (go (located b (pathOf path)) (two .1));
     }
   where
@@ -85,7 +85,7 @@ module _ {A : Type 0} (b path : Bytes) (f : Refusal → A) where
       z = opened f y (walkedAnswer (located b (pathOf path)))
 
       is-sound : T (sound b) → settle (lines c b) f x ≡ settle (firstLines b path) f z
-      is-sound s = settled b s f x c ∙ h (sound-facts b s) ∙ sym (image-skip b s f z (pathLine path ∷ []))
+      is-sound s = settled b s f x c ∙ h (sound-facts s) ∙ sym (image-skip b s f z (pathLine path ∷ []))
 
       go : (s : Bool) → sound b ≡ s → settle (lines c b) f x ≡ settle (firstLines b path) f z
       go true e = is-sound (subst T (sym e) tt)

@@ -1,1 +1,2 @@
+-- What the refusals tell: no two cases alike.
 pub mod Injective

@@ -2,7 +2,7 @@
 -- that hold none of these bits stay. Where the bits are right already nothing changes.
 use mathlib.Core.Path.{_≡_, refl, ap, _∙_}
 use mathlib.Core.Logic.{_≢_}
-use Prim.Native.Nat.{ℕ, zero, suc, _≤_, _<_}
+use Prim.Native.Nat.{ℕ, zero, suc, _<_}
 use native.Mathlib.Omega.{arith}
 use native.Mathlib.Decide.{ℕ-discrete}
 use mathlib.Core.Bool.{Bool, true, false, not}
@@ -53,14 +53,6 @@ module _ (g : Geometry) where
     unfolding remarked
     remarked-out zero b i h = refl
     remarked-out (suc n) b i h = set-out (f n) n (remarked g f n b) i (h n (omega arith)) ∙ remarked-out n b i (λ q l. h q (omega arith))
-
-    -- pages from n on keep their bits, also where they share a byte with an earlier page
-    pub remarked-past : (n : ℕ) (b : Bytes) → ((q : ℕ) → q < n → bitmapByte g q < length b) → (q : ℕ) → n ≤ q → pageBit g (remarked g f n b) q ≡ pageBit g b q
-    unfolding remarked
-    remarked-past zero b fits q l = refl
-    remarked-past (suc n) b fits q l =
-        set-other (f n) (remarked g f n b) n q (omega (arith, remarked-length n b, fits n (omega arith))) (omega arith)
-        ∙ remarked-past n b (λ p k. fits p (omega arith)) q (omega arith)
 
     pub remarked-bits : (n : ℕ) (b : Bytes) → ((q : ℕ) → q < n → bitmapByte g q < length b) → (q : ℕ) → q < n → Says (f q) (pageBit g (remarked g f n b) q)
     unfolding remarked

@@ -16,8 +16,7 @@ use Rattle.volume.proofs.Fields.{store-length, store-out, load-store}
 use Rattle.volume.proofs.Marks.{bit-low}
 use Rattle.volume.proofs.Pages.{bits-same, zeros-same}
 use Rattle.model.specs.Layout.{version1, pageCount, validLength, validHeader, freeCount, pageBit, zeroBits}
-use Rattle.model.specs.Sound.{owned, ownedPages, sound}
-use Rattle.model.specs.Judge.{Judged}
+use Rattle.model.specs.Sound.{ownedPages, sound}
 use Rattle.model.specs.Tree.{Row, Tree}
 use Rattle.model.specs.Image.{rowAt, treeOf}
 use Rattle.laws.proofs.Facts.{FactsTo, Facts, valid-sized, facts-sound, once}
@@ -107,7 +106,7 @@ module _ (b c : Bytes) (v : T (validLength (length b))) (m : Mended b c) where
   far q i e l = m .rest i (record { count = λ x. omega (arith, x); map = λ x. omega (arith, valid-sized b v .high) })
 
   pub mended-directory : Walkable b → SameDirectory b c (pageCount b) (pageCount b) 0
-  mended-directory w = directory-frame b c (m .long) (pageCount b) 0 (far 0) (λ q k. (w .inside q k .0, far q))
+  mended-directory w = directory-frame b c (m .long) 0 (far 0) (λ q k. (w .inside q k .0, far q))
 
   pages : pageCount c ≡ pageCount b
   pages = ap (λ (l : ℕ). l / 256) (m .long)
@@ -119,7 +118,7 @@ module _ (b c : Bytes) (v : T (validLength (length b))) (m : Mended b c) where
   pub mended-sound : Walkable b → T (validHeader b) → T (sound c)
   mended-sound w head =
       let s = mended-directory w in
-      facts-sound c (subst (λ (n : ℕ). FactsTo n c) (sym pages) (record {
+      facts-sound (subst (λ (n : ℕ). FactsTo n c) (sym pages) (record {
         fits = subst (λ (l : ℕ). T (validLength l)) (sym (m .long)) v;
         headed = header-same b c (m .long) (λ i l. m .rest i (record { count = λ x. omega (arith, x); map = λ x. omega arith })) head;
         bit-zero = m .bits 0 (omega (arith, valid-sized b v .low)) .yes (header-use b);
@@ -141,7 +140,7 @@ sound-walkable b f = record {
   formed = f .formed;
   inside = f .inside;
   marked = λ q m. let r = f .inside q m in omega (arith, f .exact q (r .0) (r .1), bit-low version1 b q);
-  once = once (pageCount b) b f;
+  once = once f;
 }
 
 pub sound-repaired : (b : Bytes) → Facts b → repaired b ≡ b

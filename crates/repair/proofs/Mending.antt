@@ -13,7 +13,7 @@ use Rattle.volume.specs.Bytes.{Bytes}
 use Rattle.volume.proofs.Occ.{occ}
 use Rattle.model.specs.Layout.{version1, pageCount, validLength, validHeader}
 use Rattle.model.specs.Sound.{ownedPages}
-use Rattle.model.specs.Judge.{Fault, Judged, fault, clean, judgeWalk}
+use Rattle.model.specs.Judge.{Fault, fault, clean, judgeWalk}
 use Rattle.model.specs.Call.{refusal, refused, granted}
 use Rattle.model.specs.Meaning.{faultTold}
 use Rattle.laws.proofs.Judged.{walk-clean}
@@ -64,7 +64,7 @@ module _ (b : Bytes) (v : validLength (length b) ≡ true) (h : validHeader b �
       → x ≡ recounted version1 (length m) (remarked version1 (isTaken m) (length m) b) → (granted tt ≡ repairAnswer b) × (x ≡ repairAfter b)
   unfolding repairAnswer repairAfter repaired
   granted-walk m x e l ex =
-      let w = walk-clean b m (sym e) in
+      let w = walk-clean b (sym e) in
       let same : remarked version1 (isTaken m) (pageCount b) b ≡ remarked version1 (isInUse b) (pageCount b) b =
       remarked-cong version1 (isTaken m) (isInUse b) (pageCount b) b (λ q u. taken-use b m q (w .1 q u)) in (
         sym (repair-granted b (of-true v) (of-true h) (w .0) refused (granted tt)),

@@ -105,7 +105,7 @@ unfolding any repairAnswer repairAfter
 view b = for-length (validLength (length b)) refl
   where
     for-walk : T (validLength (length b)) → T (validHeader b) → (j : Judged) → judgeWalk b ≡ j → View b
-    for-walk v h (clean marks) e = mendable v h (walk-clean b marks e .0)
+    for-walk v h (clean marks) e = mendable v h (walk-clean b e .0)
     for-walk v h (fault f) e = stopped (faultTold f) (by-fault b refused (granted tt) v h f e) (by-fault b (λ m. b) (repaired b) v h f e)
         (verdict-fault b f v h (judge-fault b f e)) (fault-number f (subst OfWalk e (walk-kind b)))
 
@@ -152,7 +152,7 @@ mends b e = go (view b)
         }
 
 sound-open : {A : Type 0} (b : Bytes) → T (sound b) → (g : Refusal → A) (x : A) → settle (repairLines b) g x ≡ x
-sound-open b h g x = let f = sound-facts b h in repair-granted b (f .fits) (f .headed) (sound-walkable b f) g x
+sound-open b h g x = let f = sound-facts h in repair-granted b (f .fits) (f .headed) (sound-walkable b f) g x
 
 not-both : (n : ℕ) → T (member n unmendable) → T (member n (19 ∷ 3 ∷ [])) → ⊥
 unfolding any
@@ -214,7 +214,7 @@ refuses-alike b f e k = go (view b)
 
 unchanged : (b : Bytes) → T (sound b) → repairAfter b ≡ b
 unfolding repairAfter
-unchanged b h = sound-open b h (λ m. b) (repaired b) ∙ sound-repaired b (sound-facts b h)
+unchanged b h = sound-open b h (λ m. b) (repaired b) ∙ sound-repaired b (sound-facts h)
 
 again : (b : Bytes) → repairAfter (repairAfter b) ≡ repairAfter b
 again b = go (repairAnswer b) refl

@@ -1,9 +1,9 @@
 -- Repair computed on real images: what it mends, what stops it, and what it leaves. The laws would hold of a repair that told other numbers or moved
 -- other bytes of the bitmap; these rows would not.
 use mathlib.Core.Path.{_≡_, refl}
-use Prim.Native.Nat.{ℕ, _+_}
+use Prim.Native.Nat.{ℕ}
 use mathlib.Core.List.{[], _∷_, _++_}
-use lib.ListN.{replicate, set, take, length}
+use lib.ListN.{replicate, set, take}
 use Rattle.volume.specs.Bytes.{Bytes, put}
 use Rattle.model.specs.Call.{refused, granted}
 use Rattle.model.proofs.Run.{computing}

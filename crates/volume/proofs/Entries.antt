@@ -60,7 +60,7 @@ module _ (g : Geometry) (home : ℕ → ℕ) (N : ℕ) where
       off : (i : ℕ) → (Kept g N i → ⊥) → byteAt (put at w b) i ≡ byteAt b i
       off i bad = put-out at w b (h .inside) i (not-inside at (length w) i (λ l k. bad (h .bytes i l k .1)))
 
-module _ (g : Geometry) (home : ℕ → ℕ) (N : ℕ) (law : Lawful g home N) where
+module _ {g : Geometry} {home : ℕ → ℕ} {N : ℕ} (law : Lawful g home N) where
   -- with an entry's bytes put there is room to grow from its field
   pub made-room : (b : Bytes) (at own : ℕ) (w : Bytes) (entry : Field) (k : ℕ) → Sized g N b → ((q : ℕ) → q < g .aside → pageBit g b q ≡ 1) → g .aside ≤ N
       → Held g home N at (length w) own b → at ≤ place entry → place entry + wide entry ≤ at + length w → load entry (put at w b) ≡ 0 → k ≤ zeroBits g b N
@@ -88,8 +88,8 @@ module _ (g : Geometry) (home : ℕ → ℕ) (N : ℕ) (law : Lawful g home N) w
       let b′ : Bytes = grown g N k entry b₀ in
       let e : Edited g N at w b b₀ = edited-is g home N at own w b h in
       let r : Room g home N k entry own b₀ = made-room b at own w entry k s a an h lo hi z hk in
-      let t : Grown g home N (gained g N k b₀) k entry b₀ b′ = grown-is g home N law k entry own b₀ r in
-      let n : Gained g N k b₀ = gained-is g home N law k b₀ (r .size) (r .aside) (r .enough) in
+      let t : Grown g home N (gained g N k b₀) k entry b₀ b′ = grown-is law k entry own b₀ r in
+      let n : Gained g N k b₀ = gained-is law k b₀ (r .size) (r .aside) (r .enough) in
       let m : Made g home N b b′ at w entry k (gained g N k b₀) = record {
         size = t .size ∙ e .size;
         bits = λ q l. omega (arith, t .bits q l, e .bits q l);
@@ -102,7 +102,7 @@ module _ (g : Geometry) (home : ℕ → ℕ) (N : ℕ) (law : Lawful g home N) w
         pages = t .pages;
         ends = t .ends;
       } in
-      subst (λ (qs : List ℕ). Made g home N b b′ at w entry k qs) (gained-cong g home N law k b b₀ s (e .size) (e .bits)) m
+      subst (λ (qs : List ℕ). Made g home N b b′ at w entry k qs) (gained-cong law k b b₀ s (e .size) (e .bits)) m
 
   pub removed-is : (b : Bytes) (at : ℕ) (ps : List ℕ) → Sized g N b → at < length b → Kept g N at
       → ((p : ℕ) → 1 ≤ occ p ps → (p < N) × (pageBit g b p ≡ 1)) → Nodup ps

@@ -76,7 +76,7 @@ module _ (g : Geometry) (home : ℕ → ℕ) (N : ℕ) where
     | inr e ↦ omega (arith, e .1, st .bits q l (e .0))
   ]
 
-module _ (g : Geometry) (home : ℕ → ℕ) (N : ℕ) (law : Lawful g home N) where
+module _ {g : Geometry} {home : ℕ → ℕ} {N : ℕ} (law : Lawful g home N) where
   -- the pages gained hang on the bits alone
   pub gained-cong : (k : ℕ) (b b′ : Bytes) → Sized g N b → length b′ ≡ length b → ((q : ℕ) → q < N → pageBit g b′ q ≡ pageBit g b q) → gained g N k b′ ≡ gained g N k b
   unfolding gained

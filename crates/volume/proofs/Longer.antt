@@ -56,7 +56,7 @@ module _ (g : Geometry) (home : ℕ → ℕ) (N : ℕ) where
     pub rest : (i : ℕ) → Kept g N i → Off entry i → occ (home i) (chainAt g b entry j ++ qs) ≡ 0 → byteAt b′ i ≡ byteAt b i
     pub apart : occ own (chainAt g b entry j ++ qs) ≡ 0
 
-module _ (g : Geometry) (home : ℕ → ℕ) (N : ℕ) (law : Lawful g home N) where
+module _ {g : Geometry} {home : ℕ → ℕ} {N : ℕ} (law : Lawful g home N) where
   pub chain-room : (b : Bytes) (entry : Field) (own j k : ℕ) → Chained g home N b entry own j → k ≤ zeroBits g b N
       → Room g home N k (jointAt g b entry j) (jointPage g b entry own j) b
   unfolding jointOf chain beyond
@@ -91,7 +91,7 @@ module _ (g : Geometry) (home : ℕ → ℕ) (N : ℕ) (law : Lawful g home N) w
 
   pub chain-grown : (b : Bytes) (entry : Field) (own j k : ℕ) → Chained g home N b entry own j → k ≤ zeroBits g b N
       → Grown g home N (gained g N k b) k (jointAt g b entry j) b (grown g N k (jointAt g b entry j) b)
-  chain-grown b entry own j k c h = grown-is g home N law k (jointAt g b entry j) (jointPage g b entry own j) b (chain-room b entry own j k c h)
+  chain-grown b entry own j k c h = grown-is law k (jointAt g b entry j) (jointPage g b entry own j) b (chain-room b entry own j k c h)
 
   module _ (b b′ : Bytes) (entry : Field) (own : ℕ) (qs : List ℕ) (out : (q : ℕ) → pageBit g b q ≡ 1 → occ q qs ≡ 0) where
     rest-from : (j k : ℕ) → Chained g home N b entry own j → Grown g home N qs k (jointAt g b entry j) b b′
@@ -147,4 +147,4 @@ module _ (g : Geometry) (home : ℕ → ℕ) (N : ℕ) (law : Lawful g home N) w
       → Longer g home N b (grown g N k (jointAt g b entry j) b) entry own j k (gained g N k b)
   chain-longer-is b entry own j k c h =
       longer-from b (grown g N k (jointAt g b entry j) b) entry own (gained g N k b)
-      (λ q u. not-gained g N (gained-is g home N law k b (c .size) (c .aside) h) q u) j k c (chain-grown b entry own j k c h)
+      (λ q u. not-gained g N (gained-is law k b (c .size) (c .aside) h) q u) j k c (chain-grown b entry own j k c h)

@@ -183,11 +183,6 @@ module _ (g : Geometry) where
   mark-count b p n h k z =
       omega (arith, zero-balance b (mark g p b) n [] (p ∷ []) (λ q l. refl) (under-cons n p [] k (λ q l. refl)) (λ q l. omega (arith, mark-bits b p h z q)))
 
-  -- to give a page back is to gain one zero bit
-  pub unmark-count : (b : Bytes) (p n : ℕ) → bitmapByte g p < length b → p < n → pageBit g b p ≡ 1 → zeroBits g (unmark g p b) n ≡ suc (zeroBits g b n)
-  unmark-count b p n h k o =
-      omega (arith, zero-balance b (unmark g p b) n (p ∷ []) [] (under-cons n p [] k (λ q l. refl)) (λ q l. refl) (λ q l. omega (arith, unmark-bits b p h o q)))
-
   pub zeros-none : (b : Bytes) (n : ℕ) → ((q : ℕ) → q < n → pageBit g b q ≡ 1) → zeroBits g b n ≡ 0
   unfolding zeroBits
   zeros-none b zero h = refl

@@ -140,10 +140,6 @@ sum-occ [] n u = sum-zero (λ p. 0) n (λ i l. refl)
 sum-occ (x ∷ xs) n u =
     omega (arith, sum-add (λ p. hit p x) (λ p. occ p xs) n, sum-hit x n (under-head n x xs u), sum-occ xs n (under-tail n x xs u))
 
--- at most n numbers are below n, if none stands twice
-pub pigeonhole : (n : ℕ) (xs : List ℕ) → Nodup xs → Under n xs → length xs ≤ n
-pigeonhole n xs d u = omega (arith, sum-occ xs n u, sum-one (λ p. occ p xs) n (λ p l. d p))
-
 -- ---- no number twice
 
 pub nodup-cons : (x : ℕ) (xs : List ℕ) → occ x xs ≡ 0 → Nodup xs → Nodup (x ∷ xs)
@@ -163,9 +159,3 @@ nodup-append xs ys d e j p = elim (mem-or-not p xs) [
   | inl m ↦ omega (arith, occ-append p xs ys, d p, j p m)
   | inr z ↦ omega (arith, occ-append p xs ys, e p)
 ]
-
-pub nodup-left : (xs ys : List ℕ) → Nodup (xs ++ ys) → Nodup xs
-nodup-left xs ys d p = omega (arith, occ-append p xs ys, d p)
-
-pub nodup-right : (xs ys : List ℕ) → Nodup (xs ++ ys) → Nodup ys
-nodup-right xs ys d p = omega (arith, occ-append p xs ys, d p)

@@ -136,7 +136,7 @@ module _ (g : Geometry) where
   joint-fits entry [] p f h = f
   joint-fits entry (x ∷ xs) p f h = h (lastOr x xs)
 
-module _ (g : Geometry) (home : ℕ → ℕ) (N : ℕ) (law : Lawful g home N) where
+module _ {g : Geometry} {home : ℕ → ℕ} {N : ℕ} (law : Lawful g home N) where
   pub small-freed : (ps : List ℕ) (b : Bytes) → Sized g N b → ((p : ℕ) → 1 ≤ occ p ps → p < N) → FitsIn (g .count) (freeCount g b + length ps)
       → Small b → Small (foldl (released g) b ps)
   small-freed [] b s h f k = k
@@ -152,7 +152,7 @@ module _ (g : Geometry) (home : ℕ → ℕ) (N : ℕ) (law : Lawful g home N) w
   small-grown zero joint own b r f h s = s
   small-grown (suc k) joint own b r f h s =
       let p = lowestFree g N b in
-      let t = room-next g home N law k joint own b r in
+      let t = room-next law k joint own b r in
       small-grown k (g .link p) p (store joint p (taken g p b)) (t .4) (h p) h (small-store joint p (taken g p b) (f p (t .1)) (small-taken g p b s))
 
   pub small-written : (b : Bytes) (entry : Field) (own j k at : ℕ) (w : Bytes) (from : ℕ) (v : Bytes) → Chained g home N b entry own j → k ≤ zeroBits g b N
@@ -162,5 +162,5 @@ module _ (g : Geometry) (home : ℕ → ℕ) (N : ℕ) (law : Lawful g home N) w
       let joint : Field = jointAt g b entry j in
       small-spread (content g) (g .room) (chainAt g b entry j ++ gained g N k b) from v (put at w (grown g N k joint b)) sv
       (small-put at w (grown g N k joint b) sw
-      (small-grown k joint (jointPage g b entry own j) b (chain-room g home N law b entry own j k c hk)
+      (small-grown k joint (jointPage g b entry own j) b (chain-room law b entry own j k c hk)
       (λ p l. joint-fits g entry (chainAt g b entry j) p (f p l) (λ q. h q p l)) h s))

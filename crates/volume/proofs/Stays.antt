@@ -42,7 +42,7 @@ module _ (g : Geometry) where
       released-stays ps (released g b p) i (λ q m. h q (mem-tail q p ps m))
       ∙ store-out (g .count) (freeCount g b + 1) (unmark g p b) i (u .count) ∙ unmark-out g p b i (u .map)
 
-module _ (g : Geometry) (home : ℕ → ℕ) (N : ℕ) (law : Lawful g home N) where
+module _ {g : Geometry} {home : ℕ → ℕ} {N : ℕ} (law : Lawful g home N) where
   taken-stays : (p : ℕ) (b : Bytes) → Sized g N b → p < N → (i : ℕ) → Elsewhere g p i → byteAt (taken g p b) i ≡ byteAt b i
   unfolding taken
   taken-stays p b s hp i e =
@@ -62,10 +62,10 @@ module _ (g : Geometry) (home : ℕ → ℕ) (N : ℕ) (law : Lawful g home N) w
   grown-stays (suc k) joint own b r i o e =
       let p = lowestFree g N b in
       let b₁ : Bytes = store joint p (taken g p b) in
-      let t = room-next g home N law k joint own b r in
+      let t = room-next law k joint own b r in
       let p0 : pageBit g b p ≡ 0 = lowest-free g N b (omega (arith, r .enough)) .1 in
       let here : Elsewhere g p i = e p (mem-head p (gained g N k (mark g p b))) in
-      let others = gained-next g home N law k p joint b b₁ (r .size) (t .1) p0 (t .3) in
+      let others = gained-next law k p joint b b₁ (r .size) (t .1) p0 (t .3) in
       grown-stays k (g .link p) p b₁ (t .4) i (λ l. here .link)
       (λ q m. e q (mem-tail q p (gained g N k (mark g p b)) (subst (λ (qs : List ℕ). Mem q qs) others m)))
       ∙ store-out joint p (taken g p b) i (o (omega arith)) ∙ taken-stays p b (r .size) (t .1) i here
@@ -76,8 +76,8 @@ module _ (g : Geometry) (home : ℕ → ℕ) (N : ℕ) (law : Lawful g home N) w
       → (i : ℕ) → (at ≤ i → at + length w ≤ i) → ((p : ℕ) → Mem p (gained g N k b) → Elsewhere g p i) → byteAt (grown g N k entry (put at w b)) i ≡ byteAt b i
   made-stays b at own w entry k s a an h lo hi z hk i o e =
       let d = edited-is g home N at own w b h in
-      let same = gained-cong g home N law k b (put at w b) s (d .size) (d .bits) in
-      grown-stays k entry own (put at w b) (made-room g home N law b at own w entry k s a an h lo hi z hk) i (λ x l. omega (arith, o (omega arith)))
+      let same = gained-cong law k b (put at w b) s (d .size) (d .bits) in
+      grown-stays k entry own (put at w b) (made-room law b at own w entry k s a an h lo hi z hk) i (λ x l. omega (arith, o (omega arith)))
       (λ p m. e p (subst (λ (qs : List ℕ). Mem p qs) same m))
       ∙ d .rest i o
 
@@ -90,8 +90,8 @@ module _ (g : Geometry) (home : ℕ → ℕ) (N : ℕ) (law : Lawful g home N) w
       let ps : List ℕ = chainAt g b entry j in
       let qs : List ℕ = gained g N k b in
       let b₁ : Bytes = grown g N k (jointAt g b entry j) b in
-      let n : Gained g N k b = gained-is g home N law k b (c .size) (c .aside) hk in
-      let size₁ : length b₁ ≡ length b = chain-grown g home N law b entry own j k c hk .size in
+      let n : Gained g N k b = gained-is law k b (c .size) (c .aside) hk in
+      let size₁ : length b₁ ≡ length b = chain-grown law b entry own j k c hk .size in
       let fit : at + length w ≤ length b₁ = omega (arith, size₁, d .inside) in
       let size₂ : length (put at w b₁) ≡ length b = put-length at w b₁ fit ∙ size₁ in
       let inside : (p : ℕ) → Mem p (ps ++ qs) → p < N = λ p m. elim (mem-or-not p ps) [
@@ -99,6 +99,6 @@ module _ (g : Geometry) (home : ℕ → ℕ) (N : ℕ) (law : Lawful g home N) w
         | inr z ↦ n .new p (omega (arith, occ-append p ps qs)) .1
       ] in
       spread-elsewhere (content g) (g .room) (ps ++ qs) from v (put at w b₁)
-      (λ p m. omega (arith, content-end g home N law p, page-in g home N law p (inside p m), c .size, size₂)) i out
+      (λ p m. omega (arith, content-end law p, page-in g home N law p (inside p m), c .size, size₂)) i out
       ∙ put-out at w b₁ fit i x
-      ∙ grown-stays k (jointAt g b entry j) (jointPage g b entry own j) b (chain-room g home N law b entry own j k c hk) i o e
+      ∙ grown-stays k (jointAt g b entry j) (jointPage g b entry own j) b (chain-room law b entry own j k c hk) i o e

@@ -110,12 +110,6 @@ unfolding all
 occ-all f [] h = tt
 occ-all f (x ∷ xs) h = both-and (f x) (all f xs) (h x (mem-head x xs)) (occ-all f xs (λ p m. h p (mem-tail p x xs m)))
 
-pub all-member : (f : ℕ → Bool) (ps : List ℕ) → T (all f ps) → (p : ℕ) → T (member p ps) → T (f p)
-all-member f ps h p m = all-occ f ps h p (member-occ p ps m)
-
-pub member-all : (f : ℕ → Bool) (ps : List ℕ) → ((p : ℕ) → T (member p ps) → T (f p)) → T (all f ps)
-member-all f ps h = occ-all f ps (λ p m. h p (occ-member p ps m))
-
 -- ---- the n numbers from i
 
 pub occ-countFrom : (i n p : ℕ) → i ≤ p → p < i + n → 1 ≤ occ p (countFrom i n)

@@ -35,7 +35,7 @@ module _ (g : Geometry) (home : ℕ → ℕ) (N : ℕ) where
     pub links : (q i : ℕ) → q < N → place (g .link q) ≤ i → i < place (g .link q) + wide (g .link q) → byteAt b′ i ≡ byteAt b i
     pub content : flatMap (contentOn g b′) ps ≡ put from v (flatMap (contentOn g b) ps)
 
-module _ (g : Geometry) (home : ℕ → ℕ) (N : ℕ) (law : Lawful g home N) where
+module _ {g : Geometry} {home : ℕ → ℕ} {N : ℕ} (law : Lawful g home N) where
   pub content-end : (p : ℕ) → content g p + g .room ≡ start g p + g .size
   content-end p = omega (arith, law .room)
 
@@ -122,7 +122,7 @@ module _ (g : Geometry) (home : ℕ → ℕ) (N : ℕ) (law : Lawful g home N)
 
   o : Overwritten g home N (ps ++ qs) from v (put at w b₁) b₃
   unfolding end
-  o = overwritten-is g home N law (ps ++ qs) from v (put at w b₁) (size₂ ∙ c .size)
+  o = overwritten-is law (ps ++ qs) from v (put at w b₁) (size₂ ∙ c .size)
       (nodup-append ps qs (c .once) once (λ q m. not-mem q qs (λ n. omega (arith, c .pages q m .2, free q n .2)))) inside₂
       (subst (λ (n : ℕ). from + length v ≤ g .room * n) (sym many₂) (omega arith))
 
@@ -164,7 +164,7 @@ module _ (g : Geometry) (home : ℕ → ℕ) (N : ℕ) (law : Lawful g home N)
   old₂ p m = part-bytes (content g p) (g .room) b (put at w b₁) size₂ (λ i u x.
       let t = c .pages p m in
       let low : start g p ≤ i = omega arith in
-      let high : i < start g p + g .size = omega (arith, content-end g home N law p) in
+      let high : i < start g p + g .size = omega (arith, content-end law p) in
       let ne : p ≢ own = mem-apart p own ps m (c .apart) in
       off-beside i (λ y z. ne (sym (law .of-page p i (t .0) low high) ∙ d .bytes i y z .0)) ∙ l .old p i m low high (law .apart p i (t .0) (t .1) u))
 
@@ -175,7 +175,7 @@ module _ (g : Geometry) (home : ℕ → ℕ) (N : ℕ) (law : Lawful g home N)
       ∙ ap (λ (r : Bytes). r ++ flatMap (contentOn g (put at w b₁)) qs) (flatMap-same (contentOn g (put at w b₁)) (contentOn g b) ps old₂)
 
   old-in : (p : ℕ) → 1 ≤ occ p ps → content g p + g .room ≤ length b
-  old-in p m = omega (arith, content-end g home N law p, page-in g home N law p (c .pages p m .1), c .size)
+  old-in p m = omega (arith, content-end law p, page-in g home N law p (c .pages p m .1), c .size)
 
   old-length : length (flatMap (contentOn g b) ps) ≡ g .room * j
   old-length =
@@ -206,20 +206,20 @@ module _ (g : Geometry) (home : ℕ → ℕ) (N : ℕ) (law : Lawful g home N)
     content = text;
   }
 
-module _ (g : Geometry) (home : ℕ → ℕ) (N : ℕ) (law : Lawful g home N) where
+module _ {g : Geometry} {home : ℕ → ℕ} {N : ℕ} (law : Lawful g home N) where
   pub written-is : (b : Bytes) (entry : Field) (own j k at : ℕ) (w : Bytes) (from : ℕ) (v : Bytes) (s₀ s : ℕ) → Chained g home N b entry own j → Beside g home N entry own at (length w) b
       → from ≤ s₀ → s₀ ≤ g .room * j → s ≡ max s₀ (from + length v) → s ≤ g .room * (j + k) → k ≤ zeroBits g b N
       → Written g home N b (written g N entry (chainAt g b entry j) k at w from v b) entry own at w from v s₀ s (chainAt g b entry j) (gained g N k b)
   unfolding end written
   written-is b entry own j k at w from v s₀ s c d hf h₀ es hs hk =
-      let n : Gained g N k b = gained-is g home N law k b (c .size) (c .aside) hk in
+      let n : Gained g N k b = gained-is law k b (c .size) (c .aside) hk in
       written-from g home N law b (grown g N k (jointAt g b entry j) b) entry own j k (gained g N k b) (jointAt g b entry j) at w from v s₀ s
-      c (chain-grown g home N law b entry own j k c hk) (chain-longer-is g home N law b entry own j k c hk) d (n .new) (n .once) (n .many) hf h₀ es hs
+      c (chain-grown law b entry own j k c hk) (chain-longer-is law b entry own j k c hk) d (n .new) (n .once) (n .many) hf h₀ es hs
 
   -- the pages as a spread finds them after the chain has grown and the stretch is set
   pub written-pages : (b : Bytes) (entry : Field) (own j k at : ℕ) (w : Bytes) → Chained g home N b entry own j → Beside g home N entry own at (length w) b → k ≤ zeroBits g b N
       → chainAt g (put at w (grown g N k (jointAt g b entry j) b)) entry (j + k) ≡ chainAt g b entry j ++ gained g N k b
   written-pages b entry own j k at w c d hk =
-      let n : Gained g N k b = gained-is g home N law k b (c .size) (c .aside) hk in
+      let n : Gained g N k b = gained-is law k b (c .size) (c .aside) hk in
       pages₂ g home N law b (grown g N k (jointAt g b entry j) b) entry own j k (gained g N k b) (jointAt g b entry j) at w 0 [] 0 0
-      c (chain-grown g home N law b entry own j k c hk) (chain-longer-is g home N law b entry own j k c hk) d (n .new) (n .once) (n .many) (omega arith) (omega arith) (omega arith) (omega arith)
+      c (chain-grown law b entry own j k c hk) (chain-longer-is law b entry own j k c hk) d (n .new) (n .once) (n .many) (omega arith) (omega arith) (omega arith) (omega arith)

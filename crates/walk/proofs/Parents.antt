@@ -1,5 +1,6 @@
 -- The names of a path, one by one: each but the last is one step of the walk, and what is left is a path again.
-use mathlib.Core.Path.{_≡_, refl, sym, ap, ap₂, _∙_}
+use mathlib.Core.Path.{_≡_, refl, sym, ap, ap₂, subst, _∙_}
+use mathlib.Core.Logic.{_≢_}
 use Prim.Native.Nat.{ℕ, _+_, _-_, _≤_, _<_}
 use native.Mathlib.Omega.{arith}
 use mathlib.Core.Bool.{Bool, true, false, not, _&&_}
@@ -10,14 +11,17 @@ use lib.Dec.{T, eqb}
 use Rattle.volume.specs.Bytes.{Bytes, if_then_else_}
 use Rattle.volume.specs.Lists.{all, lastOr}
 use Rattle.volume.proofs.Tests.{and-both}
-use Rattle.model.specs.Name.{legalText}
+use Rattle.model.specs.Name.{legalText, padded}
 use Rattle.model.specs.Entry.{Entry, vacant, aFile, aDirectory, entryAt}
 use Rattle.model.specs.Path.{Name, Path, noPath, below, before, texts, namesFrom, pathTo, pathOf, isNoPath, parents}
 use Rattle.model.specs.Walk.{Walked, arrived, missing, blocked, inWalked, entryNamed, enterOn, walkOn}
 use Rattle.model.proofs.Bounds.{text-fits}
 use Rattle.names.specs.Texts.{textLength}
 use Rattle.names.proofs.Paths.{text-more, text-last, legal-more, legal-last}
-use Rattle.walk.specs.Steps.{nameIn, last, entered, walkedParent}
+use Rattle.walk.specs.declared.Walk.{Walk}
+use Rattle.walk.specs.declared.Reached.{Reached}
+use Rattle.walk.specs.declared.Reached.the-variants.{Into, Missing, Blocked}
+use Rattle.walk.specs.Steps.{walkedOf, Small, nameIn, last, entered, walkedParent}
 
 -- what is left of a path from the byte on at which its next name begins
 abbrev rest : Bytes → (from : ℕ) → Path
@@ -60,7 +64,8 @@ module _ (path : Bytes) (from to : ℕ) (low : from ≤ length path) (is : to �
     next-names = rw (text-more path from to is h, long)
 
     rest-more : (parents (rest path from) ≡ nameIn path from to ∷ parents (rest path (to + 1))) × (last (rest path from) ≡ last (rest path (to + 1)))
-    rest-more = rw next-names (path-more (nameIn path from to) (namesFrom (to + 1) (texts (drop (to + 1) path))) (names-one (to + 1) (texts (drop (to + 1) path)) (texts-one (drop (to + 1) path))))
+    rest-more = rw next-names (path-more (nameIn path from to) (namesFrom (to + 1) (texts (drop (to + 1) path)))
+        (names-one (to + 1) (texts (drop (to + 1) path)) (texts-one (drop (to + 1) path))))
 
 -- ---- one step, and then the others
 
@@ -103,42 +108,60 @@ path-below path l h = go (namesFrom 1 (texts (drop 1 path))) (names-one 1 (texts
     go [] k e = absurd (omega arith)
     go (m ∷ ms) k e = (dropLast (m ∷ ms), lastOr m ms, sym e)
 
-pub standing-first : (b path : Bytes) → 2 ≤ length path → T (not (isNoPath (pathOf path))) → Standing b path 0 1
-standing-first b path l h =
-    let q = path-names path l h in
-    record { low = omega arith; small = omega arith; legal = q .0; left = ap (λ (x : Path). walkedParent b x 0) (q .1) }
+pub standing-first : (b path : Bytes) (p : ℕ) → p ≡ 0 → 2 ≤ length path → not (isNoPath (pathOf path)) ≡ true → Standing b path p 1
+standing-first b path p root l h =
+    let q = path-names path l (subst T (sym h) tt) in
+    record { low = omega arith; small = omega arith; legal = q .0; left = ap₂ (λ (x : Path) (z : ℕ). walkedParent b x z) (q .1) root }
 
+-- the next name ends at `to`
 module _ {b path : Bytes} {p from : ℕ} (s : Standing b path p from) (to : ℕ) (is : to ≡ from + textLength (drop from path)) where
-  pub standing-last : to ≡ length path → (length path - from ≤ 16) × (arrived (p, nameIn path from (length path)) ≡ walkedParent b (pathOf path) 0)
+  pub standing-short : to ≡ length path → length path - from ≤ 16
+  standing-short e =
+      let short = text-fits _ (rw (legal-last path from to is (s .low) e) at (s .legal)) in
+      omega (arith, e, short, length-take (to - from) (drop from path), length-drop from path)
+
+  pub standing-last : to ≡ length path → arrived (p, nameIn path from (length path)) ≡ walkedParent b (pathOf path) 0
   unfolding walkOn inWalked
   standing-last e =
-      let short = text-fits _ (rw (legal-last path from to is (s .low) e) at (s .legal)) in (
-        omega (arith, e, short, length-take (to - from) (drop from path), length-drop from path),
-        ap (λ k. arrived (p, nameIn path from k)) (sym e) ∙ ap (λ (x : Path). walkedParent b x p) (sym (rest-last path from to (s .low) is e)) ∙ s .left,
-      )
+      ap (λ k. arrived (p, nameIn path from k)) (sym e) ∙ ap (λ (x : Path). walkedParent b x p) (sym (rest-last path from to (s .low) is e)) ∙ s .left
 
-  module _ (h : to < length path) where
+  module _ (most : to ≤ length path) (more : to ≢ length path) where
+    h : to < length path
+    h = omega (arith, more)
+
     legal : T (legalText (take (to - from) (drop from path))) × T (all legalText (texts (drop (to + 1) path)))
     legal = and-both (legalText (take (to - from) (drop from path))) _ (rw (legal-more path from to is h) at (s .legal))
 
     pub standing-fits : length (take (to - from) (drop from path)) ≤ 16
     standing-fits = text-fits _ (legal .0)
 
-    stepped : inWalked (inWalked (entered b (nameIn path from to) p) (walkOn b (parents (rest path (to + 1))))) (λ q. arrived (q, last (rest path (to + 1)))) ≡ walkedParent b (pathOf path) 0
+    stepped : inWalked (inWalked (entered b (nameIn path from to) p) (walkOn b (parents (rest path (to + 1)))))
+        (λ q. arrived (q, last (rest path (to + 1)))) ≡ walkedParent b (pathOf path) 0
     stepped =
         let r = rest-more path from to (s .low) is h in
-        ap (λ (w : Walked ℕ). inWalked w (λ q. arrived (q, last (rest path (to + 1))))) (sym (walk-step b (nameIn path from to) (parents (rest path (to + 1))) p))
+        ap (λ (w : Walked ℕ). inWalked w (λ q. arrived (q, last (rest path (to + 1)))))
+        (sym (walk-step b (nameIn path from to) (parents (rest path (to + 1))) p))
         ∙ ap₂ (λ (ns : List Name) (n : Name). inWalked (walkOn b ns p) (λ q. arrived (q, n))) (sym (r .0)) (sym (r .1)) ∙ s .left
 
-    pub standing-next : (q : ℕ) → q < 256 → arrived q ≡ entered b (nameIn path from to) p → Standing b path q (to + 1)
-    unfolding inWalked
-    standing-next q l e =
-        record { low = omega arith; small = l; legal = legal .1; left = rw (sym e) at stepped }
+    -- one turn: the name is v, and the answer for the step is r
+    module _ (v : Bytes) (name : v ≡ padded (take (to - from) (drop from path))) (r : Reached)
+        (step : walkedOf r ≡ entered b (record { begins = from; bytes = v }) p) where
+      gone : (x : Reached) → r ≡ x
+          → inWalked (inWalked (walkedOf x) (walkOn b (parents (rest path (to + 1)))))
+          (λ q. arrived (q, last (rest path (to + 1)))) ≡ walkedParent b (pathOf path) 0
+      gone x e =
+          let stands : walkedOf x ≡ entered b (nameIn path from to) p = ap walkedOf (sym e) ∙ step
+          ∙ ap (λ (w : Bytes). entered b (record { begins = from; bytes = w }) p) name in
+          rw stands stepped
 
-    pub standing-missing : (i : ℕ) → missing i ≡ entered b (nameIn path from to) p → missing i ≡ walkedParent b (pathOf path) 0
-    unfolding inWalked
-    standing-missing i e = rw (sym e) at stepped
+      pub standing-next : (walk : Walk) → Small r → r ≡ Into walk → Standing b path (walk .0 .0) (to + 1)
+      unfolding inWalked
+      standing-next walk l e = record { low = omega (arith, h); small = rw e at l; legal = legal .1; left = gone (Into walk) e }
 
-    pub standing-blocked : (i : ℕ) → blocked i ≡ entered b (nameIn path from to) p → blocked i ≡ walkedParent b (pathOf path) 0
-    unfolding inWalked
-    standing-blocked i e = rw (sym e) at stepped
+      pub standing-missing : (byte : ℕ) → r ≡ Missing byte → missing byte ≡ walkedParent b (pathOf path) 0
+      unfolding inWalked
+      standing-missing byte e = gone (Missing byte) e
+
+      pub standing-blocked : (byte : ℕ) → r ≡ Blocked byte → blocked byte ≡ walkedParent b (pathOf path) 0
+      unfolding inWalked
+      standing-blocked byte e = gone (Blocked byte) e

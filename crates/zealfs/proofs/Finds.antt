@@ -14,7 +14,12 @@ use Rattle.model.specs.Image.{treeOf}
 use Rattle.model.specs.Call.{find, Kind, isFile, isDirectory, refused, granted}
 use Rattle.model.specs.Refusal.{spaceLine, wanted, earlier, later, refusals, settle}
 use Rattle.model.specs.Meaning.{foundAt, told as toldBy, isFormat, answer}
-use Rattle.places.specs.Places.{Spot, theRoot, theFile, theDirectory, placed}
+use Rattle.places.specs.Places.{Spot, theRoot, theFile, theDirectory, placed, arrivalOf}
+use Rattle.places.specs.declared.Arrival.{Arrival}
+use Rattle.places.specs.declared.Arrival.the-variants.{At}
+use Rattle.places.specs.declared.Target.{Target}
+use Rattle.places.specs.declared.Place.{Place}
+use Rattle.places.specs.declared.Place.the-variants as place
 use Rattle.places.proofs.Arrivals.{nodeAt, file-node, directory-node}
 use Rattle.places.proofs.Entries.{file-size}
 use Rattle.places.proofs.Settled.{opened, placed-arrived, node-settled}
@@ -24,6 +29,7 @@ use Rattle.zealfs.specs.declared.FindAnswer.{FindAnswer}
 use Rattle.zealfs.specs.declared.FindAnswer.the-variants.{Directory, Refused}
 use Rattle.zealfs.specs.declared.Found.{Found as Result}
 use Rattle.zealfs.specs.Answers.{findAnswer, findDate, FindSays}
+use Rattle.zealfs.proofs.Files.{FileAt, DirectoryAt, at-file, at-directory}
 
 abbrev Undated : Result → FindAnswer → Type 0
 Undated r x = (r .answer ≡ x) × (r .date ≡ replicate 8 0)
@@ -54,19 +60,50 @@ module _ (b path : Bytes) where
       let a = at-place theRoot e in
       (ap₂ (λ (y : FindAnswer) (date : Bytes). findAnswer y date) (h .0) (h .1) ∙ a, h .1 ∙ ap findDate a)
 
-  module _ {at begins start k : ℕ} {date : Bytes} (d : date ≡ dateAt b at) where
-    pub find-directory : granted (theDirectory at begins start k) ≡ placed b path → Finds isDirectory pageSize date
+  module _ (a : Arrival) (p : Place) (t : Target) (here : a ≡ At p) (is : p ≡ place.Directory t) (arrives : arrivalOf a ≡ placed b path) where
+    abbrev at₂ : ℕ
+    at₂ = t .entry
+
+    abbrev begins₂ : ℕ
+    begins₂ = t .begins
+
+    abbrev start₂ : ℕ
+    start₂ = t .start .0
+
+    abbrev k₂ : ℕ
+    k₂ = t .size
+
+    e₂ : DirectoryAt b path t
+    e₂ = at-directory here is arrives
+
+    pub find-directory : (date : Bytes) → date ≡ dateAt b at₂ → Finds isDirectory pageSize date
     unfolding foundAt findDate
-    find-directory e =
-        let s = placed-arrived b path (theDirectory at begins start k) e in
+    find-directory date d =
+        let s = placed-arrived b path (theDirectory at₂ begins₂ start₂ k₂) e₂ in
         let a : granted (record { kind = isDirectory; size = pageSize; date = date }) ≡ answer (find path) b =
         ap (λ (v : Bytes). granted (record { kind = isDirectory; size = pageSize; date = v })) d
-        ∙ ap (λ (x : Node). granted (foundAt x)) (sym (directory-node b at begins start k (s .at .1))) ∙ at-place (theDirectory at begins start k) e in
+        ∙ ap (λ (x : Node). granted (foundAt x)) (sym (directory-node b at₂ begins₂ start₂ k₂ (s .at .1))) ∙ at-place (theDirectory at₂ begins₂ start₂ k₂) e₂ in
         (a, ap findDate a)
 
-    pub find-file : {locked : Bool} → locked ≡ isLocked b at → granted (theFile at begins start k) ≡ placed b path → Finds (isFile locked) k date
+  module _ (a : Arrival) (p : Place) (t : Target) (here : a ≡ At p) (is : p ≡ place.File t) (arrives : arrivalOf a ≡ placed b path) where
+    abbrev at : ℕ
+    at = t .entry
+
+    abbrev begins : ℕ
+    begins = t .begins
+
+    abbrev start : ℕ
+    start = t .start .0
+
+    abbrev k : ℕ
+    k = t .size
+
+    e : FileAt b path t
+    e = at-file here is arrives
+
+    pub find-file : (date : Bytes) → date ≡ dateAt b at → (locked : Bool) → locked ≡ isLocked b at → Finds (isFile locked) k date
     unfolding foundAt findDate
-    find-file {locked} l e =
+    find-file date d locked l =
         let s = placed-arrived b path (theFile at begins start k) e in
         let a : granted (record { kind = isFile locked; size = k; date = date }) ≡ answer (find path) b =
         ap (λ (c : Bool). granted (record { kind = isFile c; size = k; date = date })) l

@@ -121,7 +121,7 @@ module _ (b path : Bytes) (i : ℕ) where
       go : Facts b → (c : Bool) → isNoPath (pathOf path) ≡ c → (if c then refused (refusal 4) else linesOf (walkedDirectory path (treeOf b))) ≡ (if c then refused (refusal 4) else opened refused (listAt b i) (walkedAnswer (located b (pathOf path))))
       go f true e = refl
       go f false e = let h = subst (λ (c : Bool). T (not c)) (sym e) tt in
-          ap linesOf (walk-bytes b f (names (pathOf path)) ∙ ap (mapWalked (rowAt (pageCount b) b)) (walk-entered b (pathOf path) h)) ∙ walk-listed f h
+          ap linesOf (walk-bytes f (names (pathOf path)) ∙ ap (mapWalked (rowAt (pageCount b) b)) (walk-entered b (pathOf path) h)) ∙ walk-listed f h
 
   pub list-refused : {m : Refusal} → refused m ≡ placed b path → refused m ≡ answer (list path i) b
   list-refused e = ap (opened refused (listAt b i)) e ∙ sym list-placed

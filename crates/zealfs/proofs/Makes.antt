@@ -31,7 +31,9 @@ use Rattle.laws.proofs.Make.{place-of}
 use Rattle.places.proofs.Settled.{opened, settle-opened, settle-granted}
 use Rattle.changes.specs.Asked.{Making}
 use Rattle.changes.proofs.Makes.{place-making}
-use Rattle.openings.specs.Openings.{Place, found, opening}
+use Rattle.openings.specs.Openings.{Place, found, opening, Named}
+use Rattle.openings.specs.declared.Opening.{Opening}
+use Rattle.openings.specs.declared.Opening.the-variants.{At}
 use Rattle.zealfs.specs.Makes.{makeSettled, makeAnswer, makeAfter}
 
 -- ---- the calls
@@ -54,6 +56,10 @@ module _ (b path date : Bytes) where
   directory-after = refl
 
 -- ---- a make
+
+-- the name lies in the path
+pub begins-inside : (path : Bytes) (o : Opening) (at begins : ℕ) → Named path o → o ≡ At at begins → begins ≤ length path
+begins-inside path o at begins named is = (rw is at named) .0
 
 module _ (b path date : Bytes) (k : ℕ) where
   abbrev space : Line
@@ -88,31 +94,31 @@ module _ (b path date : Bytes) (k : ℕ) where
     behind = image-passed b (makeLines path date (treeOf b)) (granted-lines .0)
 
     facts : Facts b
-    facts = sound-facts b (behind .0)
+    facts = sound-facts (behind .0)
 
     pub long : 4 ≤ length b
-    long = omega (arith, size b facts .low, size b facts .whole)
+    long = omega (arith, size facts .low, size facts .whole)
 
     pub make-lacking : (flags z : ℕ) → freeCount b < k → Refuses flags z (refusal 10)
     unfolding settle
     make-lacking flags z l =
-        let t : ltb (freeNumber (treeOf b)) k ≡ true = rw (free-number b facts) (lt-ltb (freeCount b) k l) in
+        let t : ltb (freeNumber (treeOf b)) k ≡ true = rw (free-number facts) (lt-ltb (freeCount b) k l) in
         (rw t at (at-place refused (granted (tt {0})) e), rw t at (at-place (λ m. b) (made flags z k (pathOf path) date b) e))
 
     module _ (l : k ≤ freeCount b) where
       free : ltb (freeNumber (treeOf b)) k ≡ false
-      free = rw (free-number b facts) (le-ltb (freeCount b) k l)
+      free = rw (free-number facts) (le-ltb (freeCount b) k l)
 
       makes : Makes b path date k
       unfolding settle
-      makes = make-passed b facts path date k (refusal 10) (settle-append some (makeLines path date (treeOf b)) (space ∷ []) none ∙ rw free (behind .1))
+      makes = make-passed facts (refusal 10) (settle-append some (makeLines path date (treeOf b)) (space ∷ []) none ∙ rw free (behind .1))
 
       -- the name as the code has it
       pub can-make : (flags z : ℕ) → z < 65536 → {text : Bytes} → text ≡ name → Making at flags z k text date b
       unfolding lowestVacant arrivedOr
       can-make flags z s {text} same =
           let m = makes in
-          let w = place-of b facts (m .ns) (m .n) date k (m .clear) in
+          let w = place-of facts (m .clear) in
           let here : at ≡ w .at = ap (λ (p : Place). p .0) is-found ∙ ap (λ (p : Path). lowestVacant b (parentPage b p)) (m .is) ∙ ap (λ (v : Walked ℕ). lowestVacant b (arrivedOr 0 v)) (w .above .page)
           ∙ ap (λ (o : Option ℕ). Option·getD o 0) (w .found) in
           let named = same ∙ ap (λ (p : Place). p .1) is-found ∙ ap lastName (m .is) in

@@ -19,10 +19,18 @@ use Rattle.model.specs.Image.{contentOn, contentOf, treeOf}
 use Rattle.model.specs.Call.{read, Refusal, refusal, Answer, refused, granted}
 use Rattle.model.specs.Refusal.{Line, pathLine, walkLines, contentIn, walked, node, spaceLine, wanted, earlier, later, refusals, settle}
 use Rattle.model.specs.Meaning.{copied, told, filled, isFormat, lines, answer, bufferAfter}
-use Rattle.places.specs.Places.{theFile, placed, spotOf}
+use Rattle.places.specs.Places.{theFile, placed, spotOf, arrivalOf}
+use Rattle.places.specs.declared.Arrival.{Arrival}
+use Rattle.places.specs.declared.Arrival.the-variants.{At}
+use Rattle.places.specs.declared.Target.{Target}
 use Rattle.places.specs.declared.Place.{Place}
+use Rattle.places.specs.declared.Place.the-variants as place
+use Rattle.places.proofs.Entries.{file-inside}
+use Rattle.places.proofs.Settled.{placed-arrived}
+use Rattle.chains.specs.Asked.{Inside}
+use Rattle.model.specs.Path.{pathOf}
 use Rattle.places.proofs.Place.{the-type}
-use Rattle.zealfs.proofs.Files.{fileCall, pastOr, fileAt, content-at, refused-does, directory-does, file-does}
+use Rattle.zealfs.proofs.Files.{FileAt, at-file, fileCall, pastOr, fileAt, content-at, refused-does, directory-does, file-does}
 
 -- the bytes that a read copies of content of length k, and how many they are
 module _ (xs room : Bytes) (k at count : ℕ) (long : length (take k xs) ≡ k) (is : count ≡ min (length room) (k - at)) where
@@ -33,6 +41,13 @@ module _ (xs room : Bytes) (k at count : ℕ) (long : length (take k xs) ≡ k) 
 
   copied-count : count ≡ length (copied (take k xs) at room)
   copied-count = omega (arith, length-take (length room) (drop at (take k xs)), length-drop at (take k xs))
+
+-- its pages lie in the image
+pub read-inside : (b path : Bytes) (a : Arrival) (p : Place) (t : Target) → a ≡ At p → p ≡ place.File t → arrivalOf a ≡ placed b path
+    → (n : ℕ) → n ≡ pagesFor (t .size) → Inside b n (t .start .0)
+read-inside b path a p t here is arrives n many =
+    let s = placed-arrived b path (spotOf (place.File t)) (at-file here is arrives) in
+    rw many (file-inside b (s .facts) (pathOf path) (t .entry) (t .begins) (s .at .0) (s .at .1))
 
 -- ---- the answer and the buffer
 
@@ -59,12 +74,27 @@ module _ (b path : Bytes) (at : ℕ) (room : Bytes) where
   read-refused e =
       (refused-does b path (read path at room) refl (pastOr at space) its-lines refused counted e, refused-does b path (read path at room) refl (pastOr at space) its-lines (λ m. room) held e)
 
-  pub read-directory : (p : Place) → (tagOf the-type p ≡ 0) ⊎ (tagOf the-type p ≡ 2) → granted (spotOf p) ≡ placed b path → Refuses (refusal 7)
+  pub read-directory : (a : Arrival) (p : Place) → a ≡ At p → (tagOf the-type p ≡ 0) ⊎ (tagOf the-type p ≡ 2) → arrivalOf a ≡ placed b path → Refuses (refusal 7)
   unfolding answer bufferAfter told filled isFormat
-  read-directory p k e =
-      (directory-does b path (read path at room) refl (pastOr at space) its-lines refused counted p k e, directory-does b path (read path at room) refl (pastOr at space) its-lines (λ m. room) held p k e)
+  read-directory a p here k e =
+      (directory-does b path (read path at room) refl (pastOr at space) its-lines refused counted here k e, directory-does b path (read path at room) refl (pastOr at space) its-lines (λ m. room) held here k e)
 
-  module _ {entry begins start k : ℕ} (e : granted (theFile entry begins start k) ≡ placed b path) where
+  module _ (a : Arrival) (p : Place) (t : Target) (here : a ≡ At p) (is : p ≡ place.File t) (arrives : arrivalOf a ≡ placed b path) where
+    abbrev entry : ℕ
+    entry = t .entry
+
+    abbrev begins : ℕ
+    begins = t .begins
+
+    abbrev start : ℕ
+    start = t .start .0
+
+    abbrev k : ℕ
+    k = t .size
+
+    e : FileAt b path t
+    e = at-file here is arrives
+
     pub read-past : k < at → Refuses (refusal 12)
     unfolding answer bufferAfter told filled isFormat settle contentIn
     read-past h = (
@@ -78,13 +108,19 @@ module _ (b path : Bytes) (at : ℕ) (room : Bytes) where
     file-done f x h =
         rw (content-at b path e .long, le-ltb k at h, leb·suc-zero (freeNumber (treeOf b))) at (file-does b path (read path at room) refl (pastOr at space) its-lines f x e)
 
-    pub read-file : at ≤ k → (count : ℕ) → count ≡ min (length room) (k - at)
-        → (granted count ≡ answer (read path at room) b)
-        × (put 0 (take count (drop at (flatMap (contentOn b) (chain (link b) (pagesFor k) start)))) room ≡ bufferAfter (read path at room) b)
-    unfolding answer bufferAfter told filled contentIn contentOf
-    read-file h count is =
-        let xs : Bytes = flatMap (contentOn b) (chain (link b) (pagesFor k) start) in
-        let l : length (take k xs) ≡ k = content-at b path e .long in (
-          ap granted (copied-count xs room k at count l is) ∙ file-done refused counted h,
-          ap (λ (v : Bytes). put 0 v room) (copied-part xs room k at count l is) ∙ file-done (λ m. room) held h,
-        )
+    module _ (h : at ≤ k) (count : ℕ) (least : count ≡ min (length room) (k - at)) where
+      abbrev xs : Bytes
+      xs = flatMap (contentOn b) (chain (link b) (pagesFor k) start)
+
+      long : length (take k xs) ≡ k
+      unfolding contentOf
+      long = content-at b path e .long
+
+      pub read-answer : granted count ≡ answer (read path at room) b
+      unfolding answer told contentIn contentOf
+      read-answer = ap granted (copied-count xs room k at count long least) ∙ file-done refused counted h
+
+      pub read-buffer : (n : ℕ) → n ≡ pagesFor k → {room′ : Bytes} → room′ ≡ put 0 (take count (drop at (flatMap (contentOn b) (chain (link b) n start)))) room
+          → room′ ≡ bufferAfter (read path at room) b
+      unfolding bufferAfter filled contentIn contentOf
+      read-buffer n many copy = (rw many at copy) ∙ ap (λ (v : Bytes). put 0 v room) (copied-part xs room k at count long least) ∙ file-done (λ m. room) held h

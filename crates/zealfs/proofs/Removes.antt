@@ -24,13 +24,20 @@ use Rattle.model.specs.Meaning.{told, isFormat, lines, effect, answer, after}
 use Rattle.laws.proofs.Facts.{Facts}
 use Rattle.laws.proofs.Slots.{size}
 use Rattle.laws.proofs.Walks.{mapWalked, walk-bytes}
-use Rattle.places.specs.Places.{Spot, theRoot, theFile, theDirectory, located, walkedAnswer, placed}
-use Rattle.places.proofs.Arrivals.{nodeAt, file-node, directory-node, walk-located, At, located-at}
-use Rattle.places.proofs.Entries.{entry-inside, directory-inside, entered, walk-entered}
+use Rattle.places.specs.Places.{Spot, theRoot, theFile, theDirectory, located, walkedAnswer, placed, arrivalOf}
+use Rattle.places.specs.declared.Arrival.{Arrival}
+use Rattle.places.specs.declared.Arrival.the-variants.{At}
+use Rattle.places.specs.declared.Target.{Target}
+use Rattle.places.specs.declared.Place.{Place}
+use Rattle.places.specs.declared.Place.the-variants as place
+use Rattle.places.proofs.Arrivals.{nodeAt, file-node, directory-node, walk-located, At as Located, located-at}
+use Rattle.places.proofs.Entries.{directory-inside, entered, walk-entered}
 use Rattle.places.proofs.Settled.{opened, Arrived, placed-arrived, by-place}
 use Rattle.chains.specs.Asked.{Returned}
 use Rattle.changes.proofs.Removals.{file-returned, directory-returned, file-removed, directory-removed}
 use Rattle.changes.proofs.Vacancies.{vacancy, directory-holds}
+use Rattle.fields.proofs.Plain.{told as is-told, untold}
+use Rattle.zealfs.proofs.Files.{FileAt, DirectoryAt, at-file, at-directory, file-entry, directory-entry}
 
 -- what a call does at a place: f of a refusal, or x
 abbrev pub removeFileAt : {A : Type 0} → Bytes → (Refusal → A) → A → Spot → A
@@ -59,10 +66,10 @@ module _ {A : Type 0} (b path : Bytes) (f : Refusal → A) (x : A) where
       go : (l : Walked Spot) → located b p ≡ l → fileLinesOf (mapWalked (nodeAt b) l) ≡ opened f (removeFileAt b f x) (walkedAnswer l)
       go (arrived theRoot) e = absurd (low (located-at b p theRoot e))
       go (arrived (theFile at begins start k)) e =
-          let a : At b p (theFile at begins start k) = located-at b p (theFile at begins start k) e in
+          let a : Located b p (theFile at begins start k) = located-at b p (theFile at begins start k) e in
           rw (file-node b at begins start k (a .1), leb·suc-zero (freeNumber (treeOf b)))
       go (arrived (theDirectory at begins start k)) e =
-          let a : At b p (theDirectory at begins start k) = located-at b p (theDirectory at begins start k) e in
+          let a : Located b p (theDirectory at begins start k) = located-at b p (theDirectory at begins start k) e in
           rw (directory-node b at begins start k (a .1))
       go (missing i) e = refl
       go (blocked i) e = refl
@@ -92,7 +99,7 @@ module _ {A : Type 0} (b path : Bytes) (f : Refusal → A) (x : A) where
       go (arrived theRoot) e = absurd (low (located-at b p theRoot e))
       go (arrived (theFile at begins start k)) e = refl
       go (arrived (theDirectory at begins start k)) e =
-          let deep : pageCount b ≡ suc (pageCount b - 1) = omega (arith, size b facts .low) in
+          let deep : pageCount b ≡ suc (pageCount b - 1) = omega (arith, size facts .low) in
           rw (leb·suc-zero (freeNumber (treeOf b)), ap (λ (d : ℕ). held (rowAt d b start)) deep, directory-holds (pageCount b - 1) b start)
           (flip (all (vacancy b) (entries start)))
       go (missing i) e = refl
@@ -107,7 +114,7 @@ module _ {A : Type 0} (b path : Bytes) (f : Refusal → A) (x : A) where
       go facts noPath = refl
       go facts root = refl
       go facts (below ns n) =
-          ap directoryLinesOf (walk-bytes b facts (names (below ns n)) ∙ ap (mapWalked (rowAt (pageCount b) b)) (walk-entered b (below ns n) tt))
+          ap directoryLinesOf (walk-bytes facts (names (below ns n)) ∙ ap (mapWalked (rowAt (pageCount b) b)) (walk-entered b (below ns n) tt))
           ∙ walk-directory (below ns n) (not-root ns n) facts
 
 -- ---- the answer and the image
@@ -120,83 +127,112 @@ module _ (b path : Bytes) where
   abbrev DirectoryRefuses : Refusal → Type 0
   DirectoryRefuses m = (refused m ≡ answer (removeDirectory path) b) × (b ≡ after (removeDirectory path) b)
 
-  at-file : {A : Type 0} (f : Refusal → A) (x : A) {a : Answer Spot} → a ≡ placed b path → opened f (removeFileAt b f x) a ≡ settle (lines (removeFile path) b) f x
-  at-file f x e = ap (opened f (removeFileAt b f x)) e ∙ sym (remove-file-placed b path f x)
+  at-file-does : {A : Type 0} (f : Refusal → A) (x : A) {a : Answer Spot} → a ≡ placed b path → opened f (removeFileAt b f x) a ≡ settle (lines (removeFile path) b) f x
+  at-file-does f x e = ap (opened f (removeFileAt b f x)) e ∙ sym (remove-file-placed b path f x)
 
-  at-directory : {A : Type 0} (f : Refusal → A) (x : A) {a : Answer Spot} → a ≡ placed b path → opened f (removeDirectoryAt b f x) a ≡ settle (lines (removeDirectory path) b) f x
-  at-directory f x e = ap (opened f (removeDirectoryAt b f x)) e ∙ sym (remove-directory-placed b path f x)
+  at-directory-does : {A : Type 0} (f : Refusal → A) (x : A) {a : Answer Spot} → a ≡ placed b path → opened f (removeDirectoryAt b f x) a ≡ settle (lines (removeDirectory path) b) f x
+  at-directory-does f x e = ap (opened f (removeDirectoryAt b f x)) e ∙ sym (remove-directory-placed b path f x)
 
   pub file-refused : {m : Refusal} → refused m ≡ placed b path → FileRefuses m
   unfolding answer after told effect
-  file-refused e = (at-file refused (granted (tt {0})) e, at-file (λ m. b) (removed (pathOf path) b) e)
+  file-refused e = (at-file-does refused (granted (tt {0})) e, at-file-does (λ m. b) (removed (pathOf path) b) e)
 
   pub file-root : granted theRoot ≡ placed b path → FileRefuses (refusal 14)
   unfolding answer after told effect
-  file-root e = (at-file refused (granted (tt {0})) e, at-file (λ m. b) (removed (pathOf path) b) e)
+  file-root e = (at-file-does refused (granted (tt {0})) e, at-file-does (λ m. b) (removed (pathOf path) b) e)
 
   pub directory-refused : {m : Refusal} → refused m ≡ placed b path → DirectoryRefuses m
   unfolding answer after told effect
-  directory-refused e = (at-directory refused (granted (tt {0})) e, at-directory (λ m. b) (removed (pathOf path) b) e)
+  directory-refused e = (at-directory-does refused (granted (tt {0})) e, at-directory-does (λ m. b) (removed (pathOf path) b) e)
 
   pub directory-root : granted theRoot ≡ placed b path → DirectoryRefuses (refusal 14)
   unfolding answer after told effect
-  directory-root e = (at-directory refused (granted (tt {0})) e, at-directory (λ m. b) (removed (pathOf path) b) e)
+  directory-root e = (at-directory-does refused (granted (tt {0})) e, at-directory-does (λ m. b) (removed (pathOf path) b) e)
 
-  module _ {at begins start k : ℕ} where
-    pub file-is-directory : granted (theDirectory at begins start k) ≡ placed b path → FileRefuses (refusal 7)
+  module _ (a : Arrival) (p : Place) (t : Target) (here : a ≡ At p) (is : p ≡ place.File t) (arrives : arrivalOf a ≡ placed b path) where
+    abbrev at : ℕ
+    at = t .entry
+
+    abbrev begins : ℕ
+    begins = t .begins
+
+    abbrev start : ℕ
+    start = t .start .0
+
+    abbrev k : ℕ
+    k = t .size
+
+    e : FileAt b path t
+    e = at-file here is arrives
+
+    pub directory-is-file : DirectoryRefuses (refusalAt 6 begins)
     unfolding answer after told effect
-    file-is-directory e = (at-file refused (granted (tt {0})) e, at-file (λ m. b) (removed (pathOf path) b) e)
+    directory-is-file = (at-directory-does refused (granted (tt {0})) e, at-directory-does (λ m. b) (removed (pathOf path) b) e)
 
-    pub directory-is-file : granted (theFile at begins start k) ≡ placed b path → DirectoryRefuses (refusalAt 6 begins)
+    file-there : Arrived b path (theFile at begins start k)
+    file-there = placed-arrived b path (theFile at begins start k) e
+
+    pub file-asked : (n : ℕ) → n ≡ pagesFor k → Returned b n start × (at < length b)
+    file-asked n many =
+        let s = file-there in
+        (rw many (file-returned b (s .facts) (pathOf path) at begins (s .at .0) (s .at .1)), omega (arith, file-entry b path a p t here arrives is))
+
+    pub file-locked : (r : Bool) → r ≡ isLocked b at → r ≡ true → FileRefuses (refusal 25)
     unfolding answer after told effect
-    directory-is-file e = (at-directory refused (granted (tt {0})) e, at-directory (λ m. b) (removed (pathOf path) b) e)
+    file-locked r asked marked = let l = sym asked ∙ marked in (rw l at (at-file-does refused (granted (tt {0})) e), rw l at (at-file-does (λ m. b) (removed (pathOf path) b) e))
 
-    module _ (e : granted (theFile at begins start k) ≡ placed b path) where
-      file-there : Arrived b path (theFile at begins start k)
-      file-there = placed-arrived b path (theFile at begins start k) e
+    pub file-done : (r : Bool) → r ≡ isLocked b at → r ≡ false → (n : ℕ) → n ≡ pagesFor k
+        → {b′ : Bytes} → b′ ≡ set (foldl (On.released version1) b (chain (link b) n start)) at 0
+        → (granted (tt {0}) ≡ answer (removeFile path) b) × (b′ ≡ after (removeFile path) b)
+    unfolding answer after told effect
+    file-done r asked unmarked n many gone =
+        let l = sym asked ∙ unmarked in
+        let s = file-there in (
+          rw l at (at-file-does refused (granted (tt {0})) e),
+          (rw many at gone) ∙ file-removed b (s .facts) (pathOf path) at begins (s .at .0) (s .at .1) ∙ (rw l at (at-file-does (λ m. b) (removed (pathOf path) b) e)),
+        )
 
-      pub file-inside : at + 32 ≤ length b
-      file-inside = let s = file-there in entry-inside b (s .facts) (pathOf path) at begins (s .at .0)
+  module _ (a : Arrival) (p : Place) (t : Target) (here : a ≡ At p) (is : p ≡ place.Directory t) (arrives : arrivalOf a ≡ placed b path) where
+    abbrev at₂ : ℕ
+    at₂ = t .entry
 
-      pub file-asked : Returned b (pagesFor k) start × (at < length b)
-      file-asked =
-          let s = file-there in
-          (file-returned b (s .facts) (pathOf path) at begins (s .at .0) (s .at .1), omega (arith, file-inside))
+    abbrev begins₂ : ℕ
+    begins₂ = t .begins
 
-      pub file-locked : isLocked b at ≡ true → FileRefuses (refusal 25)
-      unfolding answer after told effect
-      file-locked l = (rw l at (at-file refused (granted (tt {0})) e), rw l at (at-file (λ m. b) (removed (pathOf path) b) e))
+    abbrev start₂ : ℕ
+    start₂ = t .start .0
 
-      pub file-done : isLocked b at ≡ false → {b′ : Bytes} → b′ ≡ set (foldl (On.released version1) b (chain (link b) (pagesFor k) start)) at 0
-          → (granted (tt {0}) ≡ answer (removeFile path) b) × (b′ ≡ after (removeFile path) b)
-      unfolding answer after told effect
-      file-done l is =
-          let s = file-there in (
-            rw l at (at-file refused (granted (tt {0})) e),
-            is ∙ file-removed b (s .facts) (pathOf path) at begins (s .at .0) (s .at .1) ∙ (rw l at (at-file (λ m. b) (removed (pathOf path) b) e)),
-          )
+    abbrev k₂ : ℕ
+    k₂ = t .size
 
-    module _ (e : granted (theDirectory at begins start k) ≡ placed b path) where
-      directory-there : Arrived b path (theDirectory at begins start k)
-      directory-there = placed-arrived b path (theDirectory at begins start k) e
+    e₂ : DirectoryAt b path t
+    e₂ = at-directory here is arrives
 
-      pub directory-page : start < pageCount b
-      directory-page = let s = directory-there in directory-inside b (s .facts) (pathOf path) at begins (s .at .0) (s .at .1) .1
+    pub file-is-directory : FileRefuses (refusal 7)
+    unfolding answer after told effect
+    file-is-directory = (at-file-does refused (granted (tt {0})) e₂, at-file-does (λ m. b) (removed (pathOf path) b) e₂)
 
-      pub directory-asked : Returned b 1 start × (at < length b)
-      directory-asked =
-          let s = directory-there in
-          (directory-returned b (s .facts) (pathOf path) at begins (s .at .0) (s .at .1), omega (arith, entry-inside b (s .facts) (pathOf path) at begins (s .at .0)))
+    directory-there : Arrived b path (theDirectory at₂ begins₂ start₂ k₂)
+    directory-there = placed-arrived b path (theDirectory at₂ begins₂ start₂ k₂) e₂
 
-      pub directory-held : all (vacancy b) (entries start) ≡ false → DirectoryRefuses (refusal 13)
-      unfolding answer after told effect
-      directory-held h = (rw h at (at-directory refused (granted (tt {0})) e), rw h at (at-directory (λ m. b) (removed (pathOf path) b) e))
+    pub directory-page : start₂ < pageCount b
+    directory-page = let s = directory-there in directory-inside b (s .facts) (pathOf path) at₂ begins₂ (s .at .0) (s .at .1) .1
 
-      pub directory-done : all (vacancy b) (entries start) ≡ true → {b′ : Bytes} → b′ ≡ set (foldl (On.released version1) b (chain (link b) 1 start)) at 0
-          → (granted (tt {0}) ≡ answer (removeDirectory path) b) × (b′ ≡ after (removeDirectory path) b)
-      unfolding answer after told effect
-      directory-done h is =
-          let s = directory-there in (
-            rw h at (at-directory refused (granted (tt {0})) e),
-            is ∙ directory-removed b (s .facts) (pathOf path) at begins (s .at .0) (s .at .1) ∙ (rw h at (at-directory (λ m. b) (removed (pathOf path) b) e)),
-          )
+    pub directory-asked : Returned b 1 start₂ × (at₂ < length b)
+    directory-asked =
+        let s = directory-there in
+        (directory-returned b (s .facts) (pathOf path) at₂ begins₂ (s .at .0) (s .at .1), omega (arith, directory-entry b path a p t here arrives is))
+
+    pub directory-held : (r : Bool) → r ≡ all (vacancy b) (entries start₂) → not r ≡ true → DirectoryRefuses (refusal 13)
+    unfolding answer after told effect
+    directory-held r asked held-some = let h = untold asked held-some in (rw h at (at-directory-does refused (granted (tt {0})) e₂), rw h at (at-directory-does (λ m. b) (removed (pathOf path) b) e₂))
+
+    pub directory-done : (r : Bool) → r ≡ all (vacancy b) (entries start₂) → not r ≡ false → {b′ : Bytes} → b′ ≡ set (foldl (On.released version1) b (chain (link b) 1 start₂)) at₂ 0
+        → (granted (tt {0}) ≡ answer (removeDirectory path) b) × (b′ ≡ after (removeDirectory path) b)
+    unfolding answer after told effect
+    directory-done r asked empty gone =
+        let h = is-told asked empty in
+        let s = directory-there in (
+          rw h at (at-directory-does refused (granted (tt {0})) e₂),
+          gone ∙ directory-removed b (s .facts) (pathOf path) at₂ begins₂ (s .at .0) (s .at .1) ∙ (rw h at (at-directory-does (λ m. b) (removed (pathOf path) b) e₂)),
+        )

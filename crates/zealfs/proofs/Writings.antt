@@ -3,7 +3,7 @@ use mathlib.Core.Path.{_≡_, refl, sym, ap, _∙_}
 use mathlib.Core.Logic.{_⊎_}
 use Prim.Native.Nat.{ℕ, _+_, _-_, _≤_, _<_, max}
 use native.Mathlib.Omega.{arith}
-use mathlib.Core.Bool.{true, false}
+use mathlib.Core.Bool.{Bool, true, false}
 use mathlib.Core.List.{List, _∷_, _++_}
 use lib.ListN.{length}
 use lib.Dec.{ltb}
@@ -24,14 +24,18 @@ use Rattle.model.specs.Meaning.{told, isFormat, effect, answer, after}
 use Rattle.laws.proofs.Facts.{Facts}
 use Rattle.laws.proofs.Counting.{fill-up, free-number}
 use Rattle.laws.proofs.Slots.{size}
-use Rattle.places.specs.Places.{theFile, placed, spotOf}
+use Rattle.places.specs.Places.{theFile, placed, arrivalOf}
+use Rattle.places.specs.declared.Arrival.{Arrival}
+use Rattle.places.specs.declared.Arrival.the-variants.{At}
+use Rattle.places.specs.declared.Target.{Target}
 use Rattle.places.specs.declared.Place.{Place}
+use Rattle.places.specs.declared.Place.the-variants as place
 use Rattle.places.proofs.Place.{the-type}
-use Rattle.places.proofs.Entries.{entry-inside, file-owned}
+use Rattle.places.proofs.Entries.{file-owned}
 use Rattle.changes.specs.Asked.{Writing}
 use Rattle.changes.proofs.Entries.{own-few}
 use Rattle.changes.proofs.Writable.{writing, bytes-written, none-written}
-use Rattle.zealfs.proofs.Files.{fileCall, pastOr, fileAt, Content, content-at, refused-does, directory-does, file-does}
+use Rattle.zealfs.proofs.Files.{FileAt, at-file, fileCall, pastOr, fileAt, Content, content-at, refused-does, directory-does, file-does}
 
 -- ---- the pages that a write wants
 
@@ -51,6 +55,42 @@ longer free k from n h = let e : from + n ≡ max k (from + n) = omega arith in 
 pub pages-rise : (k n : ℕ) → k ≤ n → pagesFor k ≤ pagesFor n
 unfolding pagesFor
 pages-rise k n h = omega arith
+
+-- ---- what is known of the file at a place
+
+module _ (b path : Bytes) (a : Arrival) (p : Place) (t : Target) (here : a ≡ At p) (is : p ≡ place.File t) (arrives : arrivalOf a ≡ placed b path) where
+  abbrev entry₂ : ℕ
+  entry₂ = t .entry
+
+  abbrev begins₂ : ℕ
+  begins₂ = t .begins
+
+  abbrev start₂ : ℕ
+  start₂ = t .start .0
+
+  abbrev k₂ : ℕ
+  k₂ = t .size
+
+  e₂ : FileAt b path t
+  e₂ = at-file here is arrives
+
+  content₂ : Content b path entry₂ begins₂ start₂ k₂
+  content₂ = content-at b path e₂
+
+  facts₂ : Facts b
+  facts₂ = content₂ .arrived .facts
+
+  -- its pages and the free ones are fewer than 256
+  pub few : freeCount b + pagesFor k₂ ≤ 255
+  few =
+      let o = file-owned b facts₂ (pathOf path) entry₂ begins₂ (content₂ .arrived .at .0) (content₂ .arrived .at .1) in
+      omega (arith, own-few b facts₂ (chain (link b) (pagesFor k₂) start₂) o, chain-length (link b) (pagesFor k₂) start₂, facts₂ .counted, size facts₂ .high)
+
+  pub small : k₂ < 65536
+  small = omega (arith, fill-up k₂, few)
+
+  pub long : 4 ≤ length b
+  long = omega (arith, size facts₂ .low, size facts₂ .whole)
 
 -- ---- the answer and the image
 
@@ -77,12 +117,27 @@ module _ (b path : Bytes) (from : ℕ) (v : Bytes) where
   write-refused e =
       (refused-does b path (write path from v) refl rest its-lines refused (λ n. granted (tt {0})) e, refused-does b path (write path from v) refl rest its-lines (λ m. b) result e)
 
-  pub write-directory : (p : Place) → (tagOf the-type p ≡ 0) ⊎ (tagOf the-type p ≡ 2) → granted (spotOf p) ≡ placed b path → Refuses (refusal 7)
+  pub write-directory : (a : Arrival) (p : Place) → a ≡ At p → (tagOf the-type p ≡ 0) ⊎ (tagOf the-type p ≡ 2) → arrivalOf a ≡ placed b path → Refuses (refusal 7)
   unfolding answer after told effect isFormat
-  write-directory p k e =
-      (directory-does b path (write path from v) refl rest its-lines refused (λ n. granted (tt {0})) p k e, directory-does b path (write path from v) refl rest its-lines (λ m. b) result p k e)
+  write-directory a p here k e =
+      (directory-does b path (write path from v) refl rest its-lines refused (λ n. granted (tt {0})) here k e, directory-does b path (write path from v) refl rest its-lines (λ m. b) result here k e)
 
-  module _ {entry begins start k : ℕ} (e : granted (theFile entry begins start k) ≡ placed b path) where
+  module _ (a : Arrival) (p : Place) (t : Target) (here : a ≡ At p) (is : p ≡ place.File t) (arrives : arrivalOf a ≡ placed b path) where
+    abbrev entry : ℕ
+    entry = t .entry
+
+    abbrev begins : ℕ
+    begins = t .begins
+
+    abbrev start : ℕ
+    start = t .start .0
+
+    abbrev k : ℕ
+    k = t .size
+
+    e : FileAt b path t
+    e = at-file here is arrives
+
     content : Content b path entry begins start k
     content = content-at b path e
 
@@ -98,47 +153,43 @@ module _ (b path : Bytes) (from : ℕ) (v : Bytes) where
     unfolding after effect isFormat
     leaves = file-does b path (write path from v) refl rest its-lines (λ m. b) result e
 
-    pub write-locked : isLocked b entry ≡ true → Refuses (refusal 25)
-    unfolding settle isLockedNode
-    write-locked l = (rw l at answers, rw l at leaves)
+    -- the code says r of the mark
+    module _ (r : Bool) (marked : r ≡ isLocked b entry) where
+      pub write-locked : r ≡ true → Refuses (refusal 25)
+      unfolding settle isLockedNode
+      write-locked locked = let l = sym marked ∙ locked in (rw l at answers, rw l at leaves)
 
-    pub write-inside : entry + 32 ≤ length b
-    write-inside = entry-inside b facts (pathOf path) entry begins (content .arrived .at .0)
+      module _ (unmarked : r ≡ false) where
+        u : isLocked b entry ≡ false
+        u = sym marked ∙ unmarked
 
-    -- its pages and the free ones are fewer than 256
-    pub few : freeCount b + pagesFor k ≤ 255
-    few =
-        let o = file-owned b facts (pathOf path) entry begins (content .arrived .at .0) (content .arrived .at .1) in
-        omega (arith, own-few b facts (chain (link b) (pagesFor k) start) o, chain-length (link b) (pagesFor k) start, facts .counted, size b facts .high)
-
-    pub small : k < 65536
-    small = omega (arith, fill-up k, few)
-
-    pub long : 4 ≤ length b
-    long = omega (arith, size b facts .low, size b facts .whole)
-
-    module _ (u : isLocked b entry ≡ false) where
-      pub write-past : k < from → Refuses (refusal 12)
-      unfolding settle isLockedNode contentIn
-      write-past h = (rw (u, content .long, lt-ltb k from h) at answers, rw (u, content .long, lt-ltb k from h) at leaves)
-
-      module _ (h : from ≤ k) where
-        pub write-lacking : ltb (freeCount b) (more k from (length v)) ≡ true → Refuses (refusal 10)
+        pub write-past : k < from → Refuses (refusal 12)
         unfolding settle isLockedNode contentIn
-        write-lacking l =
-            (rw (u, content .long, le-ltb k from h, free-number b facts, l) at answers, rw (u, content .long, le-ltb k from h, free-number b facts, l) at leaves)
+        write-past h = (rw (u, content .long, lt-ltb k from h) at answers, rw (u, content .long, lt-ltb k from h) at leaves)
 
-        module _ (l : ltb (freeCount b) (more k from (length v)) ≡ false) where
-          done : (granted (tt {0}) ≡ answer (write path from v) b) × (written (pathOf path) from v b ≡ after (write path from v) b)
-          unfolding settle isLockedNode contentIn
-          done = (rw (u, content .long, le-ltb k from h, free-number b facts, l) at answers, rw (u, content .long, le-ltb k from h, free-number b facts, l) at leaves)
+        module _ (h : from ≤ k) where
+          -- and q of whether pages are lacking
+          module _ (q : Bool) (counted : q ≡ ltb (freeCount b) (more k from (length v))) where
+            pub write-lacking : q ≡ true → Refuses (refusal 10)
+            unfolding settle isLockedNode contentIn
+            write-lacking lacks =
+                let l = sym counted ∙ lacks in
+                (rw (u, content .long, le-ltb k from h, free-number facts, l) at answers, rw (u, content .long, le-ltb k from h, free-number facts, l) at leaves)
 
-          pub write-nothing : length v ≡ 0 → (granted (tt {0}) ≡ answer (write path from v) b) × (b ≡ after (write path from v) b)
-          write-nothing z = (done .0, none-written b (pathOf path) from v z ∙ done .1)
+            module _ (fits : q ≡ false) where
+              l : ltb (freeCount b) (more k from (length v)) ≡ false
+              l = sym counted ∙ fits
 
-          pub writable : Writing entry start k from v b
-          writable = writing b facts (pathOf path) entry begins (content .arrived .at .0) (content .arrived .at .1) from v
-              (omega (arith, ltb-false (freeCount b) (more k from (length v)) l, facts .counted))
+              done : (granted (tt {0}) ≡ answer (write path from v) b) × (written (pathOf path) from v b ≡ after (write path from v) b)
+              unfolding settle isLockedNode contentIn
+              done = (rw (u, content .long, le-ltb k from h, free-number facts, l) at answers, rw (u, content .long, le-ltb k from h, free-number facts, l) at leaves)
 
-          pub write-done : 0 < length v → {b′ : Bytes} → b′ ≡ rewritten entry from v b → (granted (tt {0}) ≡ answer (write path from v) b) × (b′ ≡ after (write path from v) b)
-          write-done z w = (done .0, w ∙ bytes-written b (pathOf path) entry begins (content .arrived .at .0) from v z ∙ done .1)
+              pub write-nothing : length v ≡ 0 → (granted (tt {0}) ≡ answer (write path from v) b) × (b ≡ after (write path from v) b)
+              write-nothing z = (done .0, none-written b (pathOf path) from v z ∙ done .1)
+
+              pub writable : Writing entry start k from v b
+              writable = writing b facts (pathOf path) entry begins (content .arrived .at .0) (content .arrived .at .1) from v
+                  (omega (arith, ltb-false (freeCount b) (more k from (length v)) l, facts .counted))
+
+              pub write-done : (length v ≡ 0 → ⊥) → {b′ : Bytes} → b′ ≡ rewritten entry from v b → (granted (tt {0}) ≡ answer (write path from v) b) × (b′ ≡ after (write path from v) b)
+              write-done z w = (done .0, w ∙ bytes-written b (pathOf path) entry begins (content .arrived .at .0) from v (omega arith) ∙ done .1)

@@ -1,6 +1,6 @@
 -- A refusal fits its code: its number is one of the table, and its place is the byte at which a walk stopped, that of a fault, or none.
-use mathlib.Core.Path.{_≡_, refl, sym, subst}
-use Prim.Native.Nat.{_+_, _*_, _≤_, _<_}
+use mathlib.Core.Path.{_≡_, refl, sym, ap, _∙_, subst}
+use Prim.Native.Nat.{ℕ, _+_, _*_, _≤_, _<_}
 use native.Mathlib.Omega.{arith}
 use mathlib.Core.Bool.{Bool, true, false, not}
 use mathlib.Core.List.{List, [], _∷_}
@@ -174,6 +174,13 @@ place-fits c b = go (answer c b) (refused-in c b)
     go (granted x) i = record { first = omega arith; second = omega arith; third = omega arith }
 
 -- what repair is refused with is the verdict's refusal
+-- an answer that is the model's
+pub change-fits : (c : Call) (b : Bytes) {a : Answer (Told c)} → a ≡ answer c b → Fits (placeOf a)
+change-fits c b e = rw e (place-fits c b)
+
+pub coded : {A : Type 0} {x y : Answer A} {n : ℕ} → n ≡ codeOf x → x ≡ y → n ≡ codeOf y
+coded e is = e ∙ ap codeOf is
+
 pub repair-fits : (b : Bytes) → Fits (placeOf (repairAnswer b))
 repair-fits b = go (repairAnswer b) refl
   where

@@ -1,18 +1,16 @@
 -- A vacant entry has no name; an occupied one has that of its bytes.
+use Rattle.fields.proofs.Plain.{_∙_, needs}
 use Rattle.model.specs.Sound.{sameName}
 use Rattle.audit.proofs.Claims.{read-as}
 use Rattle.audit.proofs.Names.{named-same}
-use mathlib.Core.Path.{_∙_}
-use borrow.Author.Needs.{needs}
-use Rattle.audit.proofs.have_one_name.Statement.{statement}
-use Rattle.audit.proofs.have_one_name.Tie as tie
+use Rattle.audit.proofs.have_one_name as fn
 
-returns : tie.Need-returns
+pub have-one-name-spec : {M : Type 1} → fn.Statement.statement M
 unfolding sameName
-returns c = rw (← read-as (c .before .before .before .before .args .image .now) (c .before .before .before .before .args .at) (c .before .before .entry-at .ensures .0) (c .enum-told .given .1))
-
-returns-2 : tie.Need-returns-2
-returns-2 c = c .has-name-of .ensures ∙ named-same _ _ (c .before .before .entry-at .result) (c .before .before .entry-at .ensures .0) (c .before .match .keys2) _
-
-pub have-one-name-spec : {M : Type 1} → statement M
-have-one-name-spec = tie.close (tie.spec (λ c κs. search needs) (λ c. search needs) returns (λ c κs. search needs) returns-2)
+have-one-name-spec = fn.Tie.close (fn.Tie.spec
+    (λ c. search needs) (λ c. search needs)
+    (λ c. rw (← read-as _ _ (c .before .before .entry-at .ensures .0) (c .enum-told .given .1)))
+    (λ c. search needs)
+    (λ c.
+    c .has-name-of .ensures ∙ named-same _ _ (c .before .before .entry-at .result) (c .before .before .entry-at .ensures .0)
+    (c .before .match .keys2) _))

@@ -1,14 +1,9 @@
 -- The two cases of the definition.
-use borrow.Author.Tests.{ne-eqb}
-use borrow.Author.Needs.{needs}
-use Rattle.audit.proofs.is_legal_before.Statement.{statement}
-use Rattle.audit.proofs.is_legal_before.Tie as tie
+use Rattle.fields.proofs.Plain.{ne-eqb, needs}
+use Rattle.audit.proofs.is_legal_before as fn
 
-returns : tie.Need-returns
-returns c = rw (c .if1 .taken)
-
-returns-2 : tie.Need-returns-2
-returns-2 c = rw (ne-eqb (c .before .before .args .c) 0 (c .before .if1 .left), c .legal-byte .ensures)
-
-pub is-legal-before-spec : {M : Type 1} → statement M
-is-legal-before-spec = tie.close (tie.spec returns (λ c κs. search needs) returns-2)
+pub is-legal-before-spec : {M : Type 1} → fn.Statement.statement M
+is-legal-before-spec = fn.Tie.close (fn.Tie.spec
+    (λ c. rw (c .if1 .taken))
+    (λ c. search needs)
+    (λ c. rw (ne-eqb _ 0 (c .before .if1 .left), c .legal-byte .ensures)))

@@ -1,19 +1,19 @@
 -- `is_marked` is the pages one by one, and then the count.
+use Rattle.fields.proofs.Plain.{needs}
 use Rattle.audit.specs.Visit.{isMarked}
 use Rattle.audit.proofs.Claims.{told, untold}
-use borrow.Author.Needs.{needs}
-use Rattle.audit.proofs.is_marked.Statement.{statement}
-use Rattle.audit.proofs.is_marked.Tie as tie
+use Rattle.audit.proofs.is_marked as fn
 
-returns : tie.Need-returns
+pub is-marked-spec : {M : Type 1} → fn.Statement.statement M
 unfolding isMarked
-returns c = rw (untold (c .before .pages-agree .ensures) (c .if1 .taken))
-
-returns-2 : tie.Need-returns-2
-unfolding isMarked
-returns-2 c = rw (told (c .before .before .before .pages-agree .ensures) (c .before .before .if1 .left), ← c .before .free-count .ensures .0, ← c .before .before .before .before .before .before .pre .0 .each, ← c .count-nobodies .ensures)
-
-pub is-marked-spec : {M : Type 1} → statement M
-is-marked-spec =
-    tie.close
-    (tie.spec (λ c κs. search needs) returns (λ c κs. search needs) (λ c κs. search needs) returns-2)
+is-marked-spec = fn.Tie.close (fn.Tie.spec
+    (λ c. search needs)
+    (λ c. rw (untold (c .before .pages-agree .ensures) (c .if1 .taken)))
+    (λ c. search needs) (λ c. search needs)
+    (λ c.
+    rw (
+      told (c .before .before .before .pages-agree .ensures) (c .before .before .if1 .left),
+      ← c .before .free-count .ensures .0,
+      ← c .before .before .before .before .before .before .pre .0 .each,
+      ← c .count-nobodies .ensures,
+    )))

@@ -1,12 +1,10 @@
 -- `bit` halves the byte until the bit is the lowest.
+use Rattle.fields.proofs.Plain.{needs}
 use Rattle.volume.specs.Geometry.{pageBit}
-use borrow.Author.Needs.{needs}
-use Rattle.bitmap.proofs.bit.Statement.{statement}
-use Rattle.bitmap.proofs.bit.Tie as tie
-
-returns : tie.Need-returns
-unfolding pageBit
-returns c = rw (c .wide .ensures .0)
+use Rattle.bitmap.proofs.bit.{Statement.statement, Tie.close, Tie.spec}
 
 pub bit-spec : {M : Type 1} → statement M
-bit-spec = tie.close (tie.spec (λ c. search needs) (λ c. search needs) (λ c κs. search needs) (λ c. search needs) returns)
+unfolding pageBit
+bit-spec = close (spec
+    (λ c. search needs) (λ c. search needs) (λ c. search needs) (λ c. search needs)
+    (λ c. rw (c .wide .ensures .0)))

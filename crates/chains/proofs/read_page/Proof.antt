@@ -1,41 +1,18 @@
 -- `read_page` copies from the page's content on its place, as far as it goes and bytes are wanted.
-use mathlib.Core.Path.{_∙_}
-use Prim.Native.Nat.{_+_}
-use native.Mathlib.Omega.{arith}
-use borrow.Author.Needs.{needs}
+use Rattle.fields.proofs.Plain.{_∙_, _+_, arith, needs}
 use Rattle.chains.proofs.Reading.{none-read, some-read}
-use Rattle.chains.proofs.read_page.Statement.{statement}
-use Rattle.chains.proofs.read_page.Tie as tie
+use Rattle.chains.proofs.read_page.{Statement.statement, Tie.close, Tie.spec}
 
-returns : tie.Need-returns
-returns c =
+pub read-page-spec : {M : Type 1} → statement M
+read-page-spec = close (spec
+    (λ c.
     let s = c .before .before .before .args in
-    (omega arith, none-read (s .image .now) _ (s .page .0) (s .place) (s .done) (s .count) (c .if1 .taken))
-
-returns-2 : tie.Need-returns-2
-returns-2 c =
+    (omega arith, none-read (s .image .now) _ (s .page .0) (s .place) (s .done) (s .count) (c .if1 .taken)))
+    (λ c. search needs) (λ c. search needs) (λ c. search needs) (λ c. search needs) (λ c. search needs) (λ c. search needs) (λ c. search needs) (λ c. search needs)
+    (λ c. search needs) (λ c. search needs) (λ c. search needs) (λ c. search needs) (λ c. search needs)
+    (λ c.
     let s = c .before .before .before .before .before .before .before .before .before .before in
     let from = c .before .before .before .before .before .first-byte .result + 1 + s .args .place in
     let read = some-read (s .args .image .now) (s .args .buffer .now) (s .args .page .0) (s .args .place) (s .args .done) (s .args .count) in
     let there = read (s .pre .0) (omega arith) from (from + c .before .before .before .before .before .before .least .result) (omega arith) (omega arith) in
-    (omega arith, c .before .before .copy-in .ensures ∙ there)
-
-pub read-page-spec : {M : Type 1} → statement M
-read-page-spec =
-    tie.close
-    (tie.spec
-    returns
-    (λ c. search needs)
-    (λ c. search needs)
-    (λ c κs. search needs)
-    (λ c κs. search needs)
-    (λ c. search needs)
-    (λ c. search needs)
-    (λ c. search needs)
-    (λ c. search needs)
-    (λ c. search needs)
-    (λ c. search needs)
-    (λ c κs. search needs)
-    (λ c. search needs)
-    (λ c. search needs)
-    returns-2)
+    (omega arith, c .before .before .copy-in .ensures ∙ there)))

@@ -1,39 +1,18 @@
 -- `write_page` puts the bytes from its place of the content on, as far as the page goes and bytes are left.
-use mathlib.Core.Path.{_∙_}
-use Prim.Native.Nat.{_+_}
-use native.Mathlib.Omega.{arith}
-use lib.ListN.{drop}
-use borrow.Author.Needs.{needs}
+use Rattle.fields.proofs.Plain.{_∙_, _+_, arith, drop, needs}
 use Rattle.volume.specs.Geometry as On
 use Rattle.model.specs.Layout.{version1, room}
 use Rattle.chains.proofs.Writing.{none-put, some-put}
-use Rattle.chains.proofs.write_page.Statement.{statement}
-use Rattle.chains.proofs.write_page.Tie as tie
-
-returns : tie.Need-returns
-returns c =
-    let s = c .before .before .before .args in
-    (omega arith, none-put (On.content version1 (s .page .0) + s .place) room (s .place) (drop (s .done) (s .bytes .now)) _ (c .if1 .taken))
-
-returns-2 : tie.Need-returns-2
-returns-2 c =
-    let s = c .before .before .before .before .before .before .before .before .before .args in
-    let end = s .done + c .before .before .before .before .before .least .result in
-    (omega arith, c .before .before .fill-page .ensures ∙ some-put (s .page .0) (s .place) (s .done) end (s .bytes .now) _ (omega arith))
+use Rattle.chains.proofs.write_page.{Statement.statement, Tie.close, Tie.spec}
 
 pub write-page-spec : {M : Type 1} → statement M
-write-page-spec =
-    tie.close
-    (tie.spec
-    returns
-    (λ c. search needs)
-    (λ c. search needs)
-    (λ c κs. search needs)
-    (λ c. search needs)
-    (λ c. search needs)
-    (λ c. search needs)
-    (λ c. search needs)
-    (λ c. search needs)
-    (λ c κs. search needs)
-    (λ c. search needs)
-    returns-2)
+write-page-spec = close (spec
+    (λ c.
+    let s = c .before .before .before .args in
+    (omega arith, none-put (On.content version1 (s .page .0) + s .place) room (s .place) (drop (s .done) (s .bytes .now)) _ (c .if1 .taken)))
+    (λ c. search needs) (λ c. search needs) (λ c. search needs) (λ c. search needs) (λ c. search needs) (λ c. search needs) (λ c. search needs) (λ c. search needs)
+    (λ c. search needs) (λ c. search needs)
+    (λ c.
+    let s = c .before .before .before .before .before .before .before .before .before .args in
+    let end = s .done + c .before .before .before .before .before .least .result in
+    (omega arith, c .before .before .fill-page .ensures ∙ some-put (s .page .0) (s .place) (s .done) end (s .bytes .now) _ (omega arith))))

@@ -3,57 +3,31 @@ use mathlib.Core.Option.{some}
 use Rattle.model.specs.Entry.{entryCount}
 use Rattle.fields.proofs.Searches.{Sought, sought-first, sought-here, sought-next, sought-none}
 use Rattle.changes.proofs.Vacancies.{vacancy}
-use borrow.Author.Needs.{needs}
-use native.Mathlib.Omega.{arith}
-use mathlib.Core.Path.{_≡_, sym, ap, _∙_}
-use Prim.Native.Nat.{_-_}
-use Rattle.changes.proofs.vacant_entry.Statement.{statement}
-use Rattle.changes.proofs.vacant_entry.Tie as tie
+use Rattle.fields.proofs.Plain.{needs, arith, _≡_, sym, ap, _∙_, _-_}
+use Rattle.changes.proofs.vacant_entry as fn
 
-abbrev Inv-loop : tie.InvT-loop
-Inv-loop image directory lowest₀ end lowest = (end ≡ entryCount (directory .0)) × Sought (vacancy image) (directory .0) lowest
-
-abbrev μ-loop : tie.MeasureT-loop
-μ-loop image directory lowest₀ end lowest = end - lowest
-
-loop-holds : tie.Need-loop-holds Inv-loop μ-loop
-loop-holds c = (c .entry-count .ensures, sought-first)
-
-entry-position-requires : tie.Need-entry-position-requires Inv-loop μ-loop
-entry-position-requires c κs = (omega (arith, c .loop-test .taken, c .before .loop .inv .0), omega (arith, c .before .before .before .before .pre))
-
-is-vacant-requires : tie.Need-is-vacant-requires Inv-loop μ-loop
-is-vacant-requires c κs = omega (arith, c .entry-position .ensures .1, c .before .before .before .before .before .pre)
-
-returns : tie.Need-returns Inv-loop μ-loop
-returns c =
-    let place = c .before .before .entry-position .ensures in
-    let turn = c .before .before .before in
-    let inv = turn .before .loop .inv in
-    (omega (arith, place .1, turn .before .before .before .before .pre), ap some (place .0) ∙ sought-here (inv .1) (omega (arith, turn .loop-test .taken, inv .0)) (rw (place .0) at (sym (c .before .is-vacant .ensures) ∙ c .if1 .taken)))
-
-loop-again : tie.Need-loop-again Inv-loop μ-loop
-loop-again c =
-    let place = c .before .before .entry-position .ensures in
-    let turn = c .before .before .before in
-    let inv = turn .before .loop .inv in
-    (inv .0, sought-next (inv .1) (omega (arith, turn .loop-test .taken, inv .0)) (rw (place .0) at (sym (c .before .is-vacant .ensures) ∙ c .if1 .left)))
-
-returns-2 : tie.Need-returns-2 Inv-loop μ-loop
-returns-2 c = (tt, sought-none (c .before .loop .inv .1) (omega (arith, c .loop-test .left, c .before .loop .inv .0)))
-
-pub vacant-entry-spec : {M : Type 1} → statement M
-vacant-entry-spec =
-    tie.close
-    (tie.spec
-    Inv-loop
-    μ-loop
-    (λ c κs. search needs)
-    loop-holds
-    entry-position-requires
-    is-vacant-requires
-    returns
+pub vacant-entry-spec : {M : Type 1} → fn.Statement.statement M
+vacant-entry-spec = fn.Tie.close (fn.Tie.spec
+    (λ image directory lowest₀ end lowest. (end ≡ entryCount (directory .0)) × Sought (vacancy image) (directory .0) lowest)
+    (λ image directory lowest₀ end lowest. end - lowest)
     (λ c. search needs)
+    (λ c. (c .entry-count .ensures, sought-first))
+    (λ c κs. (omega arith, omega arith))
     (λ c. search needs)
-    loop-again
-    returns-2)
+    (λ c.
+    let turn = c .before .before .before in
+    let place = c .before .before .entry-position .ensures in
+    let inv = turn .before .loop .inv in (
+      omega (arith, place .1, turn .before .before .before .before .pre),
+      ap some (place .0) ∙ sought-here (inv .1)
+          (omega (arith, turn .loop-test .taken, inv .0)) (rw (place .0) at (sym (c .before .is-vacant .ensures) ∙ c .if1 .taken)),
+    ))
+    (λ c. search needs) (λ c. search needs)
+    (λ c.
+    let place = c .before .before .entry-position .ensures in
+    let inv = c .before .before .before .before .loop .inv in (
+      inv .0,
+      sought-next (inv .1) (omega (arith, c .before .before .before .loop-test .taken, inv .0))
+          (rw (place .0) at (sym (c .before .is-vacant .ensures) ∙ c .if1 .left)),
+    ))
+    (λ c. (tt, sought-none (c .before .loop .inv .1) (omega arith))))

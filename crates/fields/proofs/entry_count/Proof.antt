@@ -1,13 +1,7 @@
 -- The test on the page's number is the model's.
-use borrow.Author.Tests.{eq-eqb, ne-eqb}
-use Rattle.fields.proofs.entry_count.Statement.{statement}
-use Rattle.fields.proofs.entry_count.Tie as tie
-
-returns : tie.Need-returns
-returns c = rw (eq-eqb _ _ (c .if1 .taken))
-
-returns-2 : tie.Need-returns-2
-returns-2 c = rw (ne-eqb _ _ (c .if1 .left))
+use Rattle.fields.proofs.Plain.{tests}
+use Rattle.fields.proofs.entry_count.{Statement.statement, Tie.close, Tie.spec}
 
 pub entry-count-spec : {M : Type 1} → statement M
-entry-count-spec = tie.close (tie.spec returns returns-2)
+entry-count-spec = close (spec
+    (λ c. search tests) (λ c. search tests))

@@ -4,25 +4,18 @@ use native.Mathlib.Omega.{arith}
 use lib.ListN.{length-take}
 use lib.Seq.{length-take-le}
 use borrow.Author.Needs.{needs}
-use Rattle.listing.proofs.write_part.Statement.{statement}
-use Rattle.listing.proofs.write_part.Tie as tie
+use Rattle.listing.proofs.write_part as fn
 
-array-share-prefix-part : tie.Need-array-share-prefix-part
-array-share-prefix-part c = let p = c .before .listing-part in omega (arith, simp length-take at (p .ensures .0), p .kept .1 .1 .0)
-
-slice-aggregate-write-all : tie.Need-slice-aggregate-write-all
-slice-aggregate-write-all c =
-    let p = c .before .before .listing-part in
-    sym (length-take-le (p .result) (p .last .1 .1 .0) (omega (arith, simp length-take at (p .ensures .0), p .kept .1 .1 .0)))
-
-pub write-part-spec : {M : Type 1} → statement M
-write-part-spec =
-    tie.close
-    (tie.spec
+pub write-part-spec : {M : Type 1} → fn.Statement.statement M
+write-part-spec = fn.Tie.close (fn.Tie.spec
     (λ c. search needs)
     (λ c κs. search needs)
-    array-share-prefix-part
-    slice-aggregate-write-all
+    (λ c.
+    let p = c .before .listing-part in
+    omega (arith, simp length-take at (p .ensures .0), p .kept .1 .1 .0))
+    (λ c.
+    let p = c .before .before .listing-part in
+    sym (length-take-le (p .result) (p .last .1 .1 .0) (omega (arith, simp length-take at (p .ensures .0), p .kept .1 .1 .0))))
     (λ c κs. search needs)
     (λ c. search needs)
     (λ c. search needs))

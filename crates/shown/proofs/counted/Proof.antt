@@ -3,21 +3,15 @@ use lib.Seq.{length-take-le}
 use native.Mathlib.Omega.{arith}
 use mathlib.Core.Path.{sym}
 use borrow.Author.Needs.{needs}
-use Rattle.shown.proofs.counted.Statement.{statement}
-use Rattle.shown.proofs.counted.Tie as tie
+use Rattle.shown.proofs.counted as fn
 
-slice-aggregate-quoted : tie.Need-slice-aggregate-quoted
-slice-aggregate-quoted c = sym (length-take-le 16 (c .before .before .before .before .before .before .args .bytes .now) (omega arith))
-
-pub counted-spec : {M : Type 1} → statement M
-counted-spec =
-    tie.close
-    (tie.spec
+pub counted-spec : {M : Type 1} → fn.Statement.statement M
+counted-spec = fn.Tie.close (fn.Tie.spec
     (λ c κs. search needs)
     (λ c. search needs)
     (λ c κs. search needs)
     (λ c κs. search needs)
-    slice-aggregate-quoted
+    (λ c. sym (length-take-le 16 (c .before .before .before .before .before .before .args .bytes .now) (omega arith)))
     (λ c κs. search needs)
     (λ c. search needs)
     (λ c κs. search needs)

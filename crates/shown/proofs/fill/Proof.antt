@@ -5,34 +5,24 @@ use native.Mathlib.Omega.{arith}
 use mathlib.Core.Path.{_≡_}
 use Prim.Native.Nat.{_-_, _<_, _≤_}
 use lib.ListN.{length, length-set}
-use Rattle.shown.proofs.fill.Statement.{statement}
-use Rattle.shown.proofs.fill.Tie as tie
+use Rattle.shown.proofs.fill as fn
 
-abbrev Inv-loop : tie.InvT-loop
+abbrev Inv-loop : fn.Tie.InvT-loop
 Inv-loop content₀ pattern i₀ content i = (i ≤ length content₀) × (length content ≡ length content₀) × (0 < length pattern)
 
-abbrev μ-loop : tie.MeasureT-loop
+abbrev μ-loop : fn.Tie.MeasureT-loop
 μ-loop content₀ pattern i₀ content i = length content₀ - i
 
-shared-slice-read-content : tie.Need-shared-slice-read-content Inv-loop μ-loop
-shared-slice-read-content c = mod-lt (c .before .before .loop .i) (c .before .before .loop .inv .2)
-
-loop-again : tie.Need-loop-again Inv-loop μ-loop
-loop-again c = (omega arith, simp length-set (search needs), search needs)
-
-pub fill-spec : {M : Type 1} → statement M
-fill-spec =
-    tie.close
-    (tie.spec
-    Inv-loop
-    μ-loop
+pub fill-spec : {M : Type 1} → fn.Statement.statement M
+fill-spec = fn.Tie.close (fn.Tie.spec
+    Inv-loop μ-loop
     (λ c. search needs)
     (λ c. search needs)
     (λ c. search needs)
-    shared-slice-read-content
+    (λ c. mod-lt (c .before .before .loop .i) (c .before .before .loop .inv .2))
     (λ c. search needs)
     (λ c. search needs)
     (λ c. search needs)
-    loop-again
+    (λ c. (omega arith, simp length-set (search needs), search needs))
     (λ c. search needs)
     (λ c. search needs))

@@ -2,21 +2,17 @@
 use borrow.Author.Needs.{needs}
 use Prim.Native.Nat.{_-_, _≤_}
 use lib.ListN.{length}
-use Rattle.shown.proofs.hex_row.Statement.{statement}
-use Rattle.shown.proofs.hex_row.Tie as tie
+use Rattle.shown.proofs.hex_row as fn
 
-abbrev Inv-loop : tie.InvT-loop
+abbrev Inv-loop : fn.Tie.InvT-loop
 Inv-loop bytes i₀ i = i ≤ length bytes
 
-abbrev μ-loop : tie.MeasureT-loop
+abbrev μ-loop : fn.Tie.MeasureT-loop
 μ-loop bytes i₀ i = length bytes - i
 
-pub hex-row-spec : {M : Type 1} → statement M
-hex-row-spec =
-    tie.close
-    (tie.spec
-    Inv-loop
-    μ-loop
+pub hex-row-spec : {M : Type 1} → fn.Statement.statement M
+hex-row-spec = fn.Tie.close (fn.Tie.spec
+    Inv-loop μ-loop
     (λ c. search needs)
     (λ c. search needs)
     (λ c κs. search needs)

@@ -3,19 +3,13 @@ use lib.Seq.{length-take-le}
 use native.Mathlib.Omega.{arith}
 use mathlib.Core.Path.{sym}
 use borrow.Author.Needs.{needs}
-use Rattle.shown.proofs.write_digits.Statement.{statement}
-use Rattle.shown.proofs.write_digits.Tie as tie
+use Rattle.shown.proofs.write_digits as fn
 
-slice-aggregate-write : tie.Need-slice-aggregate-write
-slice-aggregate-write c = sym (length-take-le (c .before .before .before .before .before .args .count) (c .before .before .digits .result) (omega arith))
-
-pub write-digits-spec : {M : Type 1} → statement M
-write-digits-spec =
-    tie.close
-    (tie.spec
+pub write-digits-spec : {M : Type 1} → fn.Statement.statement M
+write-digits-spec = fn.Tie.close (fn.Tie.spec
     (λ c κs. search needs)
     (λ c. search needs)
-    slice-aggregate-write
+    (λ c. sym (length-take-le (c .before .before .before .before .before .args .count) (c .before .before .digits .result) (omega arith)))
     (λ c κs. search needs)
     (λ c. search needs)
     (λ c. search needs))

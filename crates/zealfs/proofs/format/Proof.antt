@@ -1,38 +1,34 @@
+-- A length that is not allowed is refused; else page 0 is cleared and the header put in front of it, which is what the model writes.
 use Rattle.zealfs.proofs.Formats.{allowed, inside, still-inside, format-refused, format-done}
-use native.Mathlib.Omega.{arith}
-use mathlib.Core.Path.{sym, _∙_}
-use borrow.Author.Tests.{not-true, not-false}
-use borrow.Author.Needs.{needs}
-use Rattle.zealfs.proofs.format.Statement.{statement}
-use Rattle.zealfs.proofs.format.Tie as tie
+use Rattle.fields.proofs.Plain.{needs, arith, told, untold}
+use Rattle.zealfs.proofs.format as fn
 
-returns : tie.Need-returns
-returns c = format-refused (c .before .before .before .args .image .now) (sym (c .before .length-is-allowed .ensures) ∙ not-true _ (c .if1 .taken))
+fill-page-requires : fn.Tie.Need-fill-page-requires
+fill-page-requires c κs =
+    let zero-page = c .before .before .before .before in
+    let test1 = zero-page .before .before .before in (
+      still-inside (test1 .before .before .before .args .image .now) (zero-page .zero-page .last .0) (zero-page .zero-page .kept .0)
+          (inside (test1 .before .before .before .args .image .now) (told (test1 .before .length-is-allowed .ensures) (test1 .if1 .left))),
+      omega arith,
+    )
 
-sub-t11 : tie.Need-sub-t11
-sub-t11 c = let s = allowed (c .before .before .before .before .args .image .now) (sym (c .before .before .length-is-allowed .ensures) ∙ not-false _ (c .before .if1 .left)) in omega (arith, s .low, c .page-count .ensures)
+returns-2 : fn.Tie.Need-returns-2
+returns-2 c =
+    let zero-page = c .before .before .before .before .before .before .before in
+    format-done _ _ _ _ (told (zero-page .before .before .before .before .length-is-allowed .ensures) (zero-page .before .before .before .if1 .left)) (zero-page .before .before .page-count .ensures) (zero-page .zero-page .ensures)
+    (c .before .before .fill-page .ensures)
 
-zero-page-requires : tie.Need-zero-page-requires
-zero-page-requires c κs = inside (c .before .before .before .before .before .args .image .now) (sym (c .before .before .before .length-is-allowed .ensures) ∙ not-false _ (c .before .before .if1 .left))
-
-fill-page-requires : tie.Need-fill-page-requires
-fill-page-requires c κs = (still-inside (c .before .before .before .before .before .before .before .before .before .before .args .image .now) (c .before .before .before .before .zero-page .last .0) (c .before .before .before .before .zero-page .kept .0) (inside (c .before .before .before .before .before .before .before .before .before .before .args .image .now) (sym (c .before .before .before .before .before .before .before .before .length-is-allowed .ensures) ∙ not-false _ (c .before .before .before .before .before .before .before .if1 .left))), omega arith)
-
-returns-2 : tie.Need-returns-2
-returns-2 c = format-done (c .before .before .before .before .before .before .before .before .before .before .before .before .before .args .image .now) _ _ (c .before .before .before .before .before .before .before .before .before .page-count .result) (sym (c .before .before .before .before .before .before .before .before .before .before .before .length-is-allowed .ensures) ∙ not-false _ (c .before .before .before .before .before .before .before .before .before .before .if1 .left)) (c .before .before .before .before .before .before .before .before .before .page-count .ensures) (c .before .before .before .before .before .before .before .zero-page .ensures) (c .before .before .fill-page .ensures)
-
-pub format-spec : {M : Type 1} → statement M
-format-spec =
-    tie.close
-    (tie.spec
-    (λ c κs. search needs)
-    returns
-    (λ c κs. search needs)
+pub format-spec : {M : Type 1} → fn.Statement.statement M
+format-spec = fn.Tie.close (fn.Tie.spec
     (λ c. search needs)
-    sub-t11
+    (λ c. format-refused _ (untold (c .before .length-is-allowed .ensures) (c .if1 .taken)))
+    (λ c. search needs) (λ c. search needs)
+    (λ c.
+    let s = allowed (c .before .before .before .before .args .image .now)
+    (told (c .before .before .length-is-allowed .ensures) (c .before .if1 .left)) in
+    omega arith)
     (λ c. search needs)
-    zero-page-requires
-    (λ c. search needs)
-    fill-page-requires
-    (λ c. search needs)
-    returns-2)
+    (λ c κs.
+    inside (c .before .before .before .before .before .args .image .now)
+    (told (c .before .before .before .length-is-allowed .ensures) (c .before .before .if1 .left)))
+    (λ c. search needs) fill-page-requires (λ c. search needs) returns-2)

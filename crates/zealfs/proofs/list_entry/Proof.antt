@@ -1,68 +1,21 @@
+-- An index past the end is refused; else the entry at the position says what it is, and its name and date are read beside it.
 use Rattle.zealfs.proofs.Lists.{past-end, blank-refused, blank-empty, listed-vacant, listed-file, listed-directory}
-use native.Mathlib.Omega.{arith}
-use borrow.Author.Needs.{needs}
-use Rattle.zealfs.proofs.list_entry.Statement.{statement}
-use Rattle.zealfs.proofs.list_entry.Tie as tie
+use Rattle.fields.proofs.Plain.{needs, arith}
+use Rattle.zealfs.proofs.list_entry as fn
 
-returns : tie.Need-returns
-returns c =
-    let count = c .before .before in
-    let s = count .before .before in
-    blank-refused (c .unnamed .result) (c .unnamed .ensures)
-    (past-end (s .args .image .now) (s .args .directory .0) (s .args .i) (omega (arith, c .before .if1 .taken, count .entry-count .ensures)))
-
-returns-2 : tie.Need-returns-2
-returns-2 c =
-    let read = c .before .before .before in
-    let position = read .before in
-    let test1 = position .before in
-    let count = test1 .before in
-    let s = count .before .before in
-    blank-empty (c .unnamed2 .result) (c .unnamed2 .ensures)
-    (listed-vacant (s .args .image .now) (s .args .directory .0) (s .args .i) (omega (arith, test1 .if1 .left, count .entry-count .ensures)) (position .entry-position .ensures .0)
-    (rw (c .before .enum-told .given .1) at (read .entry-at .ensures .0)))
-
-returns-3 : tie.Need-returns-3
-returns-3 c =
-    let asked = c .before .before in
-    let sized = asked .before .before in
-    let read = sized .before .before in
-    let position = read .before in
-    let test1 = position .before in
-    let count = test1 .before in
-    let s = count .before .before in
-    listed-file (s .args .image .now) (s .args .directory .0) (s .args .i) (omega (arith, test1 .if1 .left, count .entry-count .ensures))
-    (position .entry-position .ensures .0) (c .before .name-of .ensures) (c .date-of .ensures) (asked .is-locked .ensures) (rw (sized .size .given .1) at (read .entry-at .ensures .0))
-
-returns-4 : tie.Need-returns-4
-returns-4 c =
-    let told = c .before .before in
-    let read = told .before .before in
-    let position = read .before in
-    let test1 = position .before in
-    let count = test1 .before in
-    let s = count .before .before in
-    listed-directory (s .args .image .now) (s .args .directory .0) (s .args .i) (omega (arith, test1 .if1 .left, count .entry-count .ensures))
-    (position .entry-position .ensures .0) (c .before .name-of2 .ensures) (c .date-of2 .ensures) (rw (told .enum-told2 .given .1) at (read .entry-at .ensures .0))
-
-pub list-entry-spec : {M : Type 1} → statement M
-list-entry-spec =
-    tie.close
-    (tie.spec
-    (λ c κs. search needs)
-    (λ c κs. search needs)
-    returns
-    (λ c κs. search needs)
-    (λ c κs. search needs)
-    (λ c. search needs)
-    (λ c κs. search needs)
-    (λ c. search needs)
-    (λ c κs. search needs)
-    (λ c κs. search needs)
-    (λ c κs. search needs)
-    (λ c. search needs)
-    (λ c κs. search needs)
-    (λ c κs. search needs)
-    returns-2
-    returns-3
-    returns-4)
+pub list-entry-spec : {M : Type 1} → fn.Statement.statement M
+list-entry-spec = fn.Tie.close (fn.Tie.spec
+    (λ c. search needs) (λ c. search needs)
+    (λ c. blank-refused _ (c .unnamed .ensures) (past-end _ _ _ (omega arith)))
+    (λ c. search needs) (λ c. search needs) (λ c. search needs) (λ c. search needs) (λ c. search needs) (λ c. search needs) (λ c. search needs) (λ c. search needs) (λ c. search needs)
+    (λ c. search needs) (λ c. search needs)
+    (λ c.
+    blank-empty _ (c .unnamed2 .ensures) (listed-vacant _ _ _ (omega arith) (c .before .before .before .before .entry-position .ensures .0)
+    (rw (c .before .enum-told .given .1) at (c .before .before .before .entry-at .ensures .0))))
+    (λ c.
+    let size = c .before .before .before .before in
+    listed-file _ _ _ (omega arith) (size .before .before .before .entry-position .ensures .0) (c .before .name-of .ensures) (c .date-of .ensures)
+    (c .before .before .is-locked .ensures) (rw (size .size .given .1) at (size .before .before .entry-at .ensures .0)))
+    (λ c.
+    listed-directory _ _ _ (omega arith) (c .before .before .before .before .before .entry-position .ensures .0) (c .before .name-of2 .ensures)
+    (c .date-of2 .ensures) (rw (c .before .before .enum-told2 .given .1) at (c .before .before .before .before .entry-at .ensures .0))))

@@ -1,11 +1,15 @@
+-- A directory of one page: what `make` ensures of these is the model's answer.
 use Rattle.zealfs.proofs.Makes.{directory-answer, directory-after}
 use mathlib.Core.Path.{_∙_}
 use borrow.Author.Needs.{needs}
-use Rattle.zealfs.proofs.make_directory.Statement.{statement}
-use Rattle.zealfs.proofs.make_directory.Tie as tie
+use Rattle.zealfs.proofs.make_directory as fn
 
-returns : tie.Need-returns
-returns c = (c .before .before .make .ensures .0 ∙ directory-answer (c .before .before .before .before .before .before .before .args .image .now) (c .before .before .before .before .before .before .before .args .path .now) (c .before .before .before .before .before .before .before .args .date .now), c .before .before .make .ensures .1 ∙ directory-after (c .before .before .before .before .before .before .before .args .image .now) (c .before .before .before .before .before .before .before .args .path .now) (c .before .before .before .before .before .before .before .args .date .now))
+returns : fn.Tie.Need-returns
+returns c =
+    let start = c .before .before .before .before .before .before .before in (
+      c .before .before .make .ensures .0 ∙ directory-answer (start .args .image .now) (start .args .path .now) (start .args .date .now),
+      c .before .before .make .ensures .1 ∙ directory-after (start .args .image .now) (start .args .path .now) (start .args .date .now),
+    )
 
-pub make-directory-spec : {M : Type 1} → statement M
-make-directory-spec = tie.close (tie.spec (λ c κs. search needs) (λ c. search needs) returns)
+pub make-directory-spec : {M : Type 1} → fn.Statement.statement M
+make-directory-spec = fn.Tie.close (fn.Tie.spec (λ c. search needs) (λ c. search needs) returns)

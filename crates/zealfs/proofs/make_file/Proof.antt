@@ -1,11 +1,18 @@
+-- A file of no page and no byte: what `make` ensures of these is the model's answer.
 use Rattle.zealfs.proofs.Makes.{file-answer, file-after}
 use mathlib.Core.Path.{_∙_}
 use borrow.Author.Needs.{needs}
-use Rattle.zealfs.proofs.make_file.Statement.{statement}
-use Rattle.zealfs.proofs.make_file.Tie as tie
+use Rattle.zealfs.proofs.make_file as fn
 
-returns : tie.Need-returns
-returns c = ((rw (c .before .before .before .pages-for .ensures) at (c .before .before .make .ensures .0)) ∙ file-answer (c .before .before .before .before .before .before .before .before .args .image .now) (c .before .before .before .before .before .before .before .before .args .path .now) (c .before .before .before .before .before .before .before .before .args .date .now), (rw (c .before .before .before .pages-for .ensures) at (c .before .before .make .ensures .1)) ∙ file-after (c .before .before .before .before .before .before .before .before .args .image .now) (c .before .before .before .before .before .before .before .before .args .path .now) (c .before .before .before .before .before .before .before .before .args .date .now))
+returns : fn.Tie.Need-returns
+returns c =
+    let make = c .before .before in
+    let start = make .before .before .before .before .before .before in (
+      (rw (make .before .pages-for .ensures) at (make .make .ensures .0)) ∙ file-answer (start .args .image .now) (start .args .path .now)
+          (start .args .date .now),
+      (rw (make .before .pages-for .ensures) at (make .make .ensures .1)) ∙ file-after (start .args .image .now)
+          (start .args .path .now) (start .args .date .now),
+    )
 
-pub make-file-spec : {M : Type 1} → statement M
-make-file-spec = tie.close (tie.spec (λ c κs. search needs) (λ c κs. search needs) (λ c. search needs) returns)
+pub make-file-spec : {M : Type 1} → fn.Statement.statement M
+make-file-spec = fn.Tie.close (fn.Tie.spec (λ c. search needs) (λ c. search needs) (λ c. search needs) returns)

@@ -1,91 +1,30 @@
-use Rattle.zealfs.proofs.Removes.{file-refused, file-root, file-is-directory, file-inside, file-asked, file-locked, file-done}
+-- The place decides: none, the root, a directory and a locked file are refused, each in its line; any other file is removed as the model removes it.
+use Rattle.zealfs.proofs.Removes.{file-refused, file-root, file-is-directory, file-asked, file-locked, file-done}
 use Rattle.places.proofs.Places.{stopped-refused}
-use mathlib.Core.Path.{sym, _∙_}
+use Rattle.zealfs.proofs.Files.{at-root, file-entry}
 use borrow.Author.Needs.{needs}
-use Rattle.zealfs.proofs.remove_file.Statement.{statement}
-use Rattle.zealfs.proofs.remove_file.Tie as tie
+use Rattle.zealfs.proofs.remove_file as fn
 
-returns : tie.Need-returns
-returns c =
-    let arrive = c .before .before .before in
-    let s = arrive .before .before .before .before in
-    file-refused (s .args .image .now) (s .args .path .now)
-    (stopped-refused (arrive .arrive .result) _ (c .before .enum-told .given .1) (c .refusal-of .ensures) (arrive .arrive .ensures))
-
-is-locked-requires : tie.Need-is-locked-requires
-is-locked-requires c κs =
-    let place = c .before .before in
-    let arrival = place .before .before .before in
-    let arrive = arrival .before .before in
-    let s = arrive .before .before .before .before in
-    file-inside (s .args .image .now) (s .args .path .now) (rw (arrival .arrival .given .1, place .place .given .1) at (arrive .arrive .ensures))
-
-returns-2 : tie.Need-returns-2
-returns-2 c =
+pub remove-file-spec : {M : Type 1} → fn.Statement.statement M
+remove-file-spec = fn.Tie.close (fn.Tie.spec
+    (λ c. search needs) (λ c. search needs) (λ c. search needs) (λ c. search needs) (λ c. search needs)
+    (λ c. file-refused _ _ (search stopped-refused))
+    (λ c. search needs) (λ c. search needs)
+    (λ c κs. search file-entry)
+    (λ c. search needs)
+    (λ c.
     let place = c .before .before .before .before in
-    let arrival = place .before .before .before in
-    let arrive = arrival .before .before in
-    let s = arrive .before .before .before .before in
-    file-locked (s .args .image .now) (s .args .path .now) (rw (arrival .arrival .given .1, place .place .given .1) at (arrive .arrive .ensures))
-    (sym (c .before .is-locked .ensures) ∙ c .if1 .taken)
-
-remove-entry-requires : tie.Need-remove-entry-requires
-remove-entry-requires c κs =
+    file-locked _ _ _ _ _ (place .before .before .before .arrival .given .1) (place .place .given .1) (place .before .before .before .before .before .arrive .ensures) _ (c .before .is-locked .ensures) (c .if1 .taken))
+    (λ c. search needs)
+    (λ c κs.
     let place = c .before .before .before .before .before .before in
-    let arrival = place .before .before .before in
-    let arrive = arrival .before .before in
-    let s = arrive .before .before .before .before in
-    rw (c .before .pages-for .ensures)
-    (file-asked (s .args .image .now) (s .args .path .now) (rw (arrival .arrival .given .1, place .place .given .1) at (arrive .arrive .ensures)))
-
-returns-3 : tie.Need-returns-3
-returns-3 c =
-    let arrival = c .before .before .before in
-    let arrive = arrival .before .before in
-    let s = arrive .before .before .before .before in
-    file-root (s .args .image .now) (s .args .path .now) (rw (arrival .arrival .given .1, c .enum-told2 .given .1) at (arrive .arrive .ensures))
-
-returns-4 : tie.Need-returns-4
-returns-4 c =
-    let removes = c .before .before in
-    let pages = removes .before .before in
-    let test1 = pages .before in
-    let asked = test1 .before in
-    let place = asked .before .before .before in
-    let arrival = place .before .before .before in
-    let arrive = arrival .before .before in
-    let s = arrive .before .before .before .before in
-    file-done (s .args .image .now) (s .args .path .now) (rw (arrival .arrival .given .1, place .place .given .1) at (arrive .arrive .ensures))
-    (sym (asked .is-locked .ensures) ∙ test1 .if1 .left) (rw (pages .pages-for .ensures) at (removes .remove-entry .ensures))
-
-returns-5 : tie.Need-returns-5
-returns-5 c =
-    let arrival = c .before .before .before in
-    let arrive = arrival .before .before in
-    let s = arrive .before .before .before .before in
-    file-is-directory (s .args .image .now) (s .args .path .now) (rw (arrival .arrival .given .1, c .enum-told3 .given .1) at (arrive .arrive .ensures))
-
-pub remove-file-spec : {M : Type 1} → statement M
-remove-file-spec =
-    tie.close
-    (tie.spec
-    (λ c κs. search needs)
+    file-asked _ _ _ _ _ (place .before .before .before .arrival .given .1) (place .place .given .1) (place .before .before .before .before .before .arrive .ensures) _ (c .before .pages-for .ensures))
+    (λ c. search needs) (λ c. search needs)
+    (λ c. file-root _ _ (search at-root))
     (λ c. search needs)
+    (λ c.
+    let test1 = c .before .before .before .before .before in
+    let place = test1 .before .before .before .before in
+    file-done _ _ _ _ _ (place .before .before .before .arrival .given .1) (place .place .given .1) (place .before .before .before .before .before .arrive .ensures) _ (test1 .before .is-locked .ensures) (test1 .if1 .left) _ (c .before .before .before .before .pages-for .ensures) (c .before .before .remove-entry .ensures))
     (λ c. search needs)
-    (λ c κs. search needs)
-    (λ c. search needs)
-    returns
-    (λ c. search needs)
-    (λ c. search needs)
-    is-locked-requires
-    (λ c. search needs)
-    returns-2
-    (λ c κs. search needs)
-    remove-entry-requires
-    (λ c. search needs)
-    (λ c. search needs)
-    returns-3
-    (λ c. search needs)
-    returns-4
-    (λ c. search needs)
-    returns-5)
+    (λ c. file-is-directory _ _ _ _ _ (c .before .before .before .arrival .given .1) (c .enum-told3 .given .1) (c .before .before .before .before .before .arrive .ensures)))

@@ -1,15 +1,11 @@
+-- A place that fits has 48 bits, so number and place have no bit in common.
+use Rattle.fields.proofs.Plain.{arith, needs}
 use Rattle.zealfs_c.proofs.Codes.{place-low}
-use native.Mathlib.Omega.{arith}
-use borrow.Author.Needs.{needs}
-use Rattle.zealfs_c.proofs.code.Statement.{statement}
-use Rattle.zealfs_c.proofs.code.Tie as tie
+use Rattle.zealfs_c.proofs.code as fn
 
-mul-result : tie.Need-mul-result
-mul-result c = omega (arith, c .place .ensures, place-low (c .before .before .pre))
-
-add-result : tie.Need-add-result
-add-result c = omega (arith, c .place .ensures, place-low (c .before .before .pre))
-
-pub code-spec : {M : Type 1} → statement M
-code-spec =
-    tie.close (tie.spec (λ c κs. search needs) (λ c. search needs) (λ c κs. search needs) mul-result add-result (λ c. search needs))
+pub code-spec : {M : Type 1} → fn.Statement.statement M
+code-spec = fn.Tie.close (fn.Tie.spec
+    (λ c. search needs) (λ c. search needs) (λ c. search needs)
+    (λ c. omega (arith, c .place .ensures, place-low (c .before .before .pre)))
+    (λ c. omega (arith, c .place .ensures, place-low (c .before .before .pre)))
+    (λ c. search needs))

@@ -1,15 +1,9 @@
 -- `lock_number` tells the mark as the model's number does.
 use Rattle.zealfs_c.specs.Codes.{lockNumber}
-use Rattle.zealfs_c.proofs.lock_number.Statement.{statement}
-use Rattle.zealfs_c.proofs.lock_number.Tie as tie
+use Rattle.zealfs_c.proofs.lock_number as fn
 
-returns : tie.Need-returns
+pub lock-number-spec : {M : Type 1} → fn.Statement.statement M
 unfolding lockNumber
-returns c = rw (c .if1 .taken)
-
-returns-2 : tie.Need-returns-2
-unfolding lockNumber
-returns-2 c = rw (c .if1 .left)
-
-pub lock-number-spec : {M : Type 1} → statement M
-lock-number-spec = tie.close (tie.spec returns returns-2)
+lock-number-spec = fn.Tie.close (fn.Tie.spec
+    (λ c. rw (c .if1 .taken))
+    (λ c. rw (c .if1 .left)))

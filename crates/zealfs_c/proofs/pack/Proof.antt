@@ -1,12 +1,10 @@
+-- Three numbers of 16 bits stand side by side.
+use Rattle.fields.proofs.Plain.{arith, needs}
 use Rattle.zealfs_c.specs.Codes.{packed}
-use native.Mathlib.Omega.{arith}
-use borrow.Author.Needs.{needs}
-use Rattle.zealfs_c.proofs.pack.Statement.{statement}
-use Rattle.zealfs_c.proofs.pack.Tie as tie
+use Rattle.zealfs_c.proofs.pack as fn
 
-returns : tie.Need-returns
+pub pack-spec : {M : Type 1} → fn.Statement.statement M
 unfolding packed
-returns c = omega arith
-
-pub pack-spec : {M : Type 1} → statement M
-pack-spec = tie.close (tie.spec (λ c. search needs) (λ c. search needs) (λ c. search needs) (λ c. search needs) returns)
+pack-spec = fn.Tie.close (fn.Tie.spec
+    (λ c. search needs) (λ c. search needs) (λ c. search needs) (λ c. search needs)
+    (λ c. omega arith))

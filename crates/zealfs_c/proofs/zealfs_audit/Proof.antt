@@ -2,24 +2,21 @@
 use Rattle.zealfs_c.specs.Codes.{soundNumber}
 use mathlib.Core.Path.{_∙_}
 use borrow.Author.Needs.{needs}
-use Rattle.zealfs_c.proofs.zealfs_audit.Statement.{statement}
-use Rattle.zealfs_c.proofs.zealfs_audit.Tie as tie
+use Rattle.zealfs_c.proofs.zealfs_audit as fn
 
-returns : tie.Need-returns
+returns : fn.Tie.Need-returns
 unfolding soundNumber
 returns c =
     let copy = c .before .before in
     let row = copy .before .before .before .before .audit in
     (rw (← row .ensures .0, c .if1 .taken), copy .copy-owners .ensures ∙ row .ensures .1)
 
-returns-2 : tie.Need-returns-2
+returns-2 : fn.Tie.Need-returns-2
 unfolding soundNumber
 returns-2 c =
     let copy = c .before .before in
     let row = copy .before .before .before .before .audit in
     (rw (← row .ensures .0, c .if1 .left), copy .copy-owners .ensures ∙ row .ensures .1)
 
-pub zealfs-audit-spec : {M : Type 1} → statement M
-zealfs-audit-spec =
-    tie.close
-    (tie.spec (λ c κs. search needs) (λ c. search needs) (λ c. search needs) (λ c κs. search needs) returns returns-2)
+pub zealfs-audit-spec : {M : Type 1} → fn.Statement.statement M
+zealfs-audit-spec = fn.Tie.close (fn.Tie.spec (λ c κs. search needs) (λ c. search needs) (λ c. search needs) (λ c κs. search needs) returns returns-2)

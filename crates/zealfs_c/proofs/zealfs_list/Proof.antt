@@ -1,43 +1,28 @@
 -- Each arm knows its case, so what the call ensures is the model's answer in that case, and code and out array are read off it.
+use Rattle.fields.proofs.Plain.{ap, _∙_, needs}
 use Rattle.model.specs.Call.{list}
 use Rattle.zealfs_c.specs.Codes.{codeOf, kindNumber, lockNumber, listOut}
 use Rattle.zealfs_c.proofs.Fits.{refused-fits}
-use mathlib.Core.Path.{ap, _∙_}
-use borrow.Author.Needs.{needs}
-use Rattle.zealfs_c.proofs.zealfs_list.Statement.{statement}
-use Rattle.zealfs_c.proofs.zealfs_list.Tie as tie
+use Rattle.zealfs_c.proofs.zealfs_list as fn
 
-code-requires : tie.Need-code-requires
-code-requires c κs = let s = c .before .before .before .before .before .before .before .before .before in refused-fits (list (s .args .path .now) (s .args .entry)) (s .args .image .now) (rw (c .before .before .answer2 .given .1) at (c .before .before .before .before .before .before .list .ensures .0))
-
-returns : tie.Need-returns
-unfolding codeOf listOut
-returns c = let e = rw (c .before .enum-told .given .1) at (c .before .before .before .before .before .list .ensures .0) in (ap codeOf e, (ap listOut e, (c .before .before .before .before .before .list .ensures .1, c .before .before .before .before .before .list .ensures .2)))
-
-returns-2 : tie.Need-returns-2
-unfolding codeOf listOut kindNumber
-returns-2 c = let e = rw (c .before .before .before .answer .given .1) at (c .before .before .before .before .before .before .before .list .ensures .0) in (ap codeOf e, (rw (c .before .lock-number .ensures) (ap listOut e), (c .before .before .before .before .before .before .before .list .ensures .1, c .before .before .before .before .before .before .before .list .ensures .2)))
-
-returns-3 : tie.Need-returns-3
+pub zealfs-list-spec : {M : Type 1} → fn.Statement.statement M
 unfolding codeOf listOut kindNumber lockNumber
-returns-3 c = let e = rw (c .before .enum-told2 .given .1) at (c .before .before .before .before .before .list .ensures .0) in (ap codeOf e, (ap listOut e, (c .before .before .before .before .before .list .ensures .1, c .before .before .before .before .before .list .ensures .2)))
-
-returns-4 : tie.Need-returns-4
-unfolding codeOf listOut
-returns-4 c = let e = rw (c .before .before .before .answer2 .given .1) at (c .before .before .before .before .before .before .before .list .ensures .0) in (c .code .ensures ∙ ap codeOf e, (ap listOut e, (c .before .before .before .before .before .before .before .list .ensures .1, c .before .before .before .before .before .before .before .list .ensures .2)))
-
-pub zealfs-list-spec : {M : Type 1} → statement M
-zealfs-list-spec =
-    tie.close
-    (tie.spec
-    (λ c κs. search needs)
-    (λ c. search needs)
-    (λ c. search needs)
-    (λ c κs. search needs)
-    (λ c. search needs)
-    (λ c. search needs)
-    code-requires
-    returns
-    returns-2
-    returns-3
-    returns-4)
+zealfs-list-spec = fn.Tie.close (fn.Tie.spec
+    (λ c. search needs) (λ c. search needs) (λ c. search needs) (λ c. search needs) (λ c. search needs) (λ c. search needs)
+    (λ c κs. refused-fits (list _ _) _ (rw (c .before .before .answer2 .given .1) at (c .before .before .before .before .before .before .list .ensures .0)))
+    (λ c.
+    let list = c .before .before .before .before .before in
+    let e = rw (c .before .enum-told .given .1) at (list .list .ensures .0) in
+    (ap codeOf e, (ap listOut e, (list .list .ensures .1, list .list .ensures .2))))
+    (λ c.
+    let list = c .before .before .before .before .before .before .before in
+    let e = rw (c .before .before .before .answer .given .1) at (list .list .ensures .0) in
+    (ap codeOf e, (rw (c .before .lock-number .ensures) (ap listOut e), (list .list .ensures .1, list .list .ensures .2))))
+    (λ c.
+    let list = c .before .before .before .before .before in
+    let e = rw (c .before .enum-told2 .given .1) at (list .list .ensures .0) in
+    (ap codeOf e, (ap listOut e, (list .list .ensures .1, list .list .ensures .2))))
+    (λ c.
+    let list = c .before .before .before .before .before .before .before in
+    let e = rw (c .before .before .before .answer2 .given .1) at (list .list .ensures .0) in
+    (c .code .ensures ∙ ap codeOf e, (ap listOut e, (list .list .ensures .1, list .list .ensures .2)))))
