@@ -1,36 +1,17 @@
 /*
- * ZealFS version 1 over an image in memory: the functions of libzealfs_c.a (crates/zealfs_c, built by `rt staticlib zealfs_c`).
+ * ZealFS version 1 over an image in memory: the functions of libzealfs_c.a (crates/zealfs_c, built by `rt staticlib zealfs_c`), and of
+ * libzealfs.a and libzealfs.so, which hold the same with zealfs_text and zealfs_advice beside it (`make`).
  *
  * Whatever the bytes, each function answers, and always returns. The result is 0 when the call is granted, else the code of a refusal
- * (zealfs_audit alone returns something else):
+ * (zealfs_audit and zealfs_listing return something else):
  *
  *     number + 256 * (a + 65536 * (b + 65536 * c))
  *
  * a, b, c being its place, 0 where nothing is said of them.
  *
- *      1  the image's length is not one of the allowed         8  make: the name is there already, or the path is "/"
- *      2  byte 0, 1 or 2 of the image is wrong                 9  make: no empty entry
- *      3  bit 0 of the bitmap or the count in byte 3 is wrong 10  make or write: more pages wanted than are free
- *      4  the path is no path                                 11  make: the date is not good
- *      5  a name of the path isn't in its directory           12  position past the size, or entry past the directory's last
- *      6  a file stands where a directory is needed           13  remove directory: it holds something
- *      7  read, write, remove file, lock or unlock: the       14  removals: the path is "/"
- *         path is a directory                                 25  write or remove file: the file is locked
- *
- * For 5 and 6, a is the byte of the path at which the name begins.
- *
- * An image that is given neither 1 nor 2 is judged from its root on, and its first fault is told: 3, or
- *
- *     16  an entry's name is not legal or that of an earlier entry, or a directory's size is not 256: a is the page of the directory that
- *         holds the entry, 0 for the root, and b the entry's number there, from 0
- *     17  a page of an entry is not one of 1 to N-1, or its chain does not end where the size says: a and b as above, and c is how many of
- *         its pages before that were good
- *     18  a page belongs to two owners, or twice to one: a is the page
- *     19  a page is marked as taken and belongs to nobody: a is the lowest such page
- *     20  a page belongs to a file or directory and is marked as free: a is the page
- *
- * Entries go in order, what a directory holds before the entry after it; of one entry 16 comes first, then its pages one after the other. 19
- * comes after all entries, and 3 last.
+ * The numbers stand in the enum below, each with what it says and what its place is. An image that is given neither ZEALFS_WRONG_LENGTH nor
+ * ZEALFS_WRONG_HEADER is judged from its root on, and its first fault is told. Entries go in order, what a directory holds before the entry after
+ * it; of one entry 16 comes first, then its pages one after the other. 19 comes after all entries, and 3 last. There is no number 15.
  *
  * A refused call sets its out arrays to zeros and changes no other byte.
  *
@@ -43,9 +24,64 @@
 #include <stddef.h>
 #include <stdint.h>
 
+/* The compiled functions take lengths of 64 bits. */
+#ifdef __cplusplus
+static_assert(sizeof(size_t) == 8, "zealfs wants a size_t of 8 bytes");
+#else
+_Static_assert(sizeof(size_t) == 8, "zealfs wants a size_t of 8 bytes");
+#endif
+
 #ifdef __cplusplus
 extern "C" {
 #endif
+
+/* Made from words/numbers.txt by tools/words.py; edit it there. */
+enum zealfs_numbers {
+    ZEALFS_GRANTED = 0,
+    ZEALFS_WRONG_LENGTH = 1,
+        /* the image's length is not one of the allowed */
+    ZEALFS_WRONG_HEADER = 2,
+        /* byte 0, 1 or 2 of the image is wrong */
+    ZEALFS_WRONG_COUNT = 3,
+        /* bit 0 of the bitmap or the count in byte 3 is wrong, and nothing else */
+    ZEALFS_NOT_A_PATH = 4,
+        /* the path is no path */
+    ZEALFS_NO_SUCH_NAME = 5,
+        /* a name of the path isn't in its directory: a is the byte of the path at which it begins */
+    ZEALFS_NOT_A_DIRECTORY = 6,
+        /* a file stands where a directory is needed: a is the byte of the path at which its name begins */
+    ZEALFS_IS_A_DIRECTORY = 7,
+        /* read, write, remove file, lock or unlock: the path is a directory */
+    ZEALFS_NAME_EXISTS = 8,
+        /* make: the name is there already, or the path is "/" */
+    ZEALFS_DIRECTORY_FULL = 9,
+        /* make: no empty entry */
+    ZEALFS_NO_FREE_PAGES = 10,
+        /* make or write: more pages wanted than are free */
+    ZEALFS_BAD_DATE = 11,
+        /* make: the date is not good */
+    ZEALFS_PAST_THE_END = 12,
+        /* position past the size, or entry past the directory's last */
+    ZEALFS_NOT_EMPTY = 13,
+        /* remove directory: it holds something */
+    ZEALFS_IS_THE_ROOT = 14,
+        /* removals: the path is "/" */
+    ZEALFS_BAD_ENTRY = 16,
+        /* an entry's name is not legal or that of an earlier entry, or a directory's size is not 256: a is the page of the directory that
+           holds the entry, 0 for the root, and b the entry's number there, from 0 */
+    ZEALFS_BAD_CHAIN = 17,
+        /* a page of an entry is not one of 1 to N-1, or its chain does not end where the size says: a and b as for 16, and c is how many of
+           its pages before that were good */
+    ZEALFS_OWNED_TWICE = 18,
+        /* a page belongs to two owners, or twice to one: a is the page */
+    ZEALFS_LOST_PAGE = 19,
+        /* a page is marked as taken and belongs to nobody: a is the lowest such page */
+    ZEALFS_MARKED_FREE = 20,
+        /* a page belongs to a file or directory and is marked as free: a is the page */
+    ZEALFS_LOCKED = 25,
+        /* write or remove file: the file is locked */
+};
+/* end of numbers */
 
 /* Writes page 0; every other byte stays. It judges only the image's length. */
 uint64_t zealfs_format(uint8_t *image, size_t image_len);
@@ -96,6 +132,19 @@ uint64_t zealfs_repair(uint8_t *image, size_t image_len);
  * begins that owns it (64 or more); nobody owns a page past N. All are 0 when it returns 0.
  */
 uint64_t zealfs_audit(const uint8_t *image, size_t image_len, uint64_t owners[256]);
+
+/*
+ * The listing as text, a window at a time: the bytes of it from byte `from` on, as many as there are and as the buffer has room for. It returns how
+ * many; fewer than the room has are the last. An image that is not sound has a listing too, `refused` and the number, so this is never refused.
+ */
+uint64_t zealfs_listing(const uint8_t *image, size_t image_len, uint64_t from, uint8_t *text, size_t text_len);
+
+/*
+ * The words of a number: what is wrong, and what to do about it. In libzealfs.a and libzealfs.so; plain C beside the proved functions, for they
+ * look at no image. "done" and "" for 0, and "" for what is no number.
+ */
+const char *zealfs_text(unsigned number);
+const char *zealfs_advice(unsigned number);
 
 /* The parts of a code: the number, 0 when the call was granted, and number i of the place, i being 0, 1 or 2. */
 static inline unsigned zealfs_number(uint64_t code) { return (unsigned)(code & 0xff); }

@@ -2,6 +2,8 @@
 """Makes images of ZealFS version 1, laid out as document 01 and 02 §1 say, for runs of the program `listing`.
 
     image.py example > FILE    document 01's example of a listing: 2,048 bytes with /0042 of 256 bytes, /A, and /A/7 of 0 bytes
+    image.py pulled > FILE     the example as if its cartridge had been pulled too early: page 5 is marked, and nobody owns it (number 19)
+    image.py shared > FILE     the example damaged: /A begins on the first page of /0042 (number 18)
     image.py nest > FILE       65,536 bytes with 255 directories, one inside the other, each with a name of 16 bytes
     image.py wide > FILE       65,536 bytes with 30 directories along one path of names of 16 bytes, and empty files in every entry that is left
 
@@ -76,8 +78,17 @@ def nest(depth, files):
     return image
 
 
+def changed(at, byte):
+    """The example with one byte changed."""
+    image = example()
+    image.bytes[at] = byte
+    return image
+
+
 MADE = {
     "example": example,
+    "pulled": lambda: changed(4, 0x3F),
+    "shared": lambda: changed(64 + 32 + 17, 1),
     "nest": lambda: nest(255, False),
     "wide": lambda: nest(30, True),
 }

@@ -94,6 +94,25 @@ static void audit(void)
     expect("  the header is nobody's", owners[0], 0);
 }
 
+/* The listing, whole and from its 15th byte on, and that of an image that is not sound; the buffer stays behind what is copied. */
+static void list_all(void)
+{
+    static const char whole[] = "pages 8 free 4\nD 256 /A\nF 256 /A/0042\n";
+    uint8_t text[sizeof whole + 10], kept = image[3];
+
+    memset(text, 0xEE, sizeof text);
+    expect("listing", zealfs_listing(IMAGE, 0, text, sizeof text), sizeof whole - 1);
+    expect("  the text", memcmp(text, whole, sizeof whole - 1) == 0, 1);
+    expect("  the buffer behind it stays", text[sizeof whole - 1], 0xEE);
+    expect("listing from 15, 8 bytes", zealfs_listing(IMAGE, 15, text, 8), 8);
+    expect("  the text", memcmp(text, "D 256 /A", 8) == 0, 1);
+    expect("listing past its end", zealfs_listing(IMAGE, sizeof whole, text, 8), 0);
+    image[3] = 5;
+    expect("listing, the free count wrong", zealfs_listing(IMAGE, 0, text, sizeof text), 10);
+    image[3] = kept;
+    expect("  refused 3", memcmp(text, "refused 3\n", 10) == 0, 1);
+}
+
 int main(void)
 {
     const uint8_t made[8] = {0x20, 0x26, 0x11, 0x15, 0x07, 0x21, 0x05, 0x00};
@@ -126,7 +145,7 @@ int main(void)
 
     uint64_t code = zealfs_find(IMAGE, PATH("/A/42"), out, date);
     expect("find /A/42, refused", code, 5 + 256 * 3);
-    expect("  number", zealfs_number(code), 5);
+    expect("  number", zealfs_number(code), ZEALFS_NO_SUCH_NAME);
     expect("  byte of the path", zealfs_place(code, 0), 3);
     expect("  out is zeros", out[0] + out[1] + out[2], 0);
 
@@ -150,6 +169,7 @@ int main(void)
         judge(&damages[i]);
     repair();
     audit();
+    list_all();
     expect("remove file /A, refused", zealfs_remove_file(IMAGE, PATH("/A")), 7);
     expect("remove directory /A, refused", zealfs_remove_directory(IMAGE, PATH("/A")), 13);
     expect("remove directory 0042, refused", zealfs_remove_directory(IMAGE, PATH("/A/0042")), 6 + 256 * 3);

@@ -53,10 +53,20 @@ declare! {
     zealfs_unlock(image: *mut u8, image_len: usize, path: *const u8, path_len: usize;);
     zealfs_repair(image: *mut u8, image_len: usize;);
     zealfs_audit(image: *const u8, image_len: usize; owners: u64);
+    zealfs_listing(image: *const u8, image_len: usize, from: u64, text: *mut u8, text_len: usize;);
 }
 
 /// The C library.
 pub struct Library;
+
+impl Library {
+    /// The bytes of the listing from `from` on, to the front of the buffer; answers
+    /// how many.
+    pub fn listing(&self, image: &[u8], from: u64, buffer: &mut [u8]) -> u64 {
+        call!(zealfs_listing(
+            image.as_ptr(), image.len(), from, buffer.as_mut_ptr(), buffer.len();))
+    }
+}
 
 /// What the out arrays hold before a call, so that one the library forgets to
 /// set is seen.

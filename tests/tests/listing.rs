@@ -9,6 +9,32 @@ use zealfs_tests::random::Random;
 use zealfs_tests::subjects::compared;
 use zealfs_tests::{listing, settings};
 
+/// Checks the windows of the library's own listing: every byte, their number, and
+/// that the buffer stays behind them.
+#[cfg(feature = "library")]
+fn check_windows(image: &[u8], expected: &[u8]) {
+    const KEPT: u8 = 0xEE;
+    let rooms: &[usize] = if expected.len() < 500 { &[0, 1, 7, 64, 4096] } else { &[4096, 65_536, 1_000_000] };
+    for &room in rooms {
+        let starts = (0..expected.len() + 2).step_by(room.max(1));
+        for from in starts {
+            let mut buffer = vec![KEPT; room];
+            let count = zealfs_tests::c::Library.listing(image, from as u64, &mut buffer) as usize;
+            let rest = expected.get(from..).unwrap_or(b"");
+            let window = &rest[..room.min(rest.len())];
+            assert_eq!(count, window.len(), "from {from} with room {room}");
+            listing::assert_same("a window of the library", &buffer[..count], window);
+            assert!(buffer[count..].iter().all(|&byte| byte == KEPT));
+        }
+    }
+    for from in [u64::MAX, u64::MAX - 1, 1 << 63] {
+        assert_eq!(zealfs_tests::c::Library.listing(image, from, &mut [KEPT; 8]), 0);
+    }
+}
+
+#[cfg(not(feature = "library"))]
+fn check_windows(_: &[u8], _: &[u8]) {}
+
 /// Checks all listings of the image, and answers the text.
 fn listed(image: &[u8]) -> Vec<u8> {
     let expected = listing::plain(image);
@@ -20,6 +46,7 @@ fn listed(image: &[u8]) -> Vec<u8> {
         let text = listing::by_program(&program, image);
         listing::assert_same("the program", &text, &expected);
     }
+    check_windows(image, &expected);
     expected
 }
 

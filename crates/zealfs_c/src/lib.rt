@@ -13,9 +13,11 @@ ghost use mathlib.Core.Path.{_≡_};
 ghost use mathlib.Core.Bool.{true, false};
 ghost use Prim.Native.Nat.{_≤_};
 ghost use lib.ListN.{length};
+ghost use Rattle.volume.specs.Bytes.{put};
+ghost use Rattle.model.specs.Listing.{listing};
 ghost use Rattle.model.specs.Sound.{sound};
 ghost use Rattle.model.specs.Call.{format, verdict, find, list, read, makeFile, makeDirectory, write, removeFile, removeDirectory, setLock, isFile};
-ghost use Rattle.model.specs.Meaning.{faultTold, answer, after, bufferAfter};
+ghost use Rattle.model.specs.Meaning.{faultTold, answer, after, bufferAfter, copied};
 ghost use Rattle.judge.specs.Answers.{faultOf};
 ghost use Rattle.refusals.specs.Told.{told};
 ghost use Rattle.zealfs.specs.Answers.{changeAnswer, findDate, listName, listDate};
@@ -301,4 +303,14 @@ pub extern "C" fn zealfs_audit(image: &[u8], owners: &mut [u64; 256]) -> u64
     copy_owners(&row, &mut numbers);
     *owners = numbers;
     if findings.sound { 1 } else { 0 }
+}
+
+// The bytes of the listing from byte `from` on, as many as there are and as the buffer has room for; the result is how many. An image that is not
+// sound has a listing too, which says so, and so this is never refused.
+#[no_mangle]
+pub extern "C" fn zealfs_listing(image: &[u8], from: u64, buffer: &mut [u8]) -> u64
+    ensures { λ r. ⌜ r ≡ length (copied (listing (now (image .entry))) from (now (buffer .entry))) ⌝ }
+    ensures { λ _. ⌜ now (buffer .exit) ≡ put 0 (copied (listing (now (image .entry))) from (now (buffer .entry))) (now (buffer .entry)) ⌝ }
+{
+    listing_text::listing_part(image, from as usize, buffer) as u64
 }

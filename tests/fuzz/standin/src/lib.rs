@@ -254,3 +254,21 @@ pub unsafe extern "C" fn zealfs_audit(image: *const u8, image_len: usize, owners
     tell::<_, OWNERS>(owners, &audit.owners);
     audit.sound
 }
+
+/// # Safety
+///
+/// As include/zealfs.h says.
+#[no_mangle]
+pub unsafe extern "C" fn zealfs_listing(
+    image: *const u8,
+    image_len: usize,
+    from: u64,
+    text: *mut u8,
+    text_len: usize,
+) -> u64 {
+    let listing = zealfs_tests::listing::plain(lent(image, image_len));
+    let from = usize::try_from(from).map_or(listing.len(), |from| from.min(listing.len()));
+    let count = text_len.min(listing.len() - from);
+    lent_mut(text, text_len)[..count].copy_from_slice(&listing[from..from + count]);
+    count as u64
+}

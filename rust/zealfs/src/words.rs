@@ -1,0 +1,128 @@
+// Made from words/numbers.txt by tools/words.py; edit it there.
+
+/// Number, name, what is wrong, what to do.
+pub type Words = (u8, &'static str, &'static str, &'static str);
+
+/// All numbers, in order.
+pub const WORDS: &[Words] = &[
+    (
+        1,
+        "WrongLength",
+        "the image is not as long as any cartridge: 2,048 to 65,536 bytes, a multiple of 2,048",
+        "read the cartridge again, whole",
+    ),
+    (
+        2,
+        "WrongHeader",
+        "its first three bytes are not those of ZealFS version 1 of this length",
+        "read the cartridge again, whole; if it stays so it is not formatted, or another system's: do not write to it",
+    ),
+    (
+        3,
+        "WrongCount",
+        "the header's own mark or its count of free pages is wrong; all files and directories are in order",
+        "nothing is lost, but no call reads the image until it is mended: repair it (zealfs repair), and it is as good as before",
+    ),
+    (
+        4,
+        "NotAPath",
+        "the path is not written as a path: /, or names of 1 to 16 characters, each after a /",
+        "correct the path",
+    ),
+    (
+        5,
+        "NoSuchName",
+        "a name of the path is not there",
+        "look at the listing",
+    ),
+    (
+        6,
+        "NotADirectory",
+        "a file's name stands where a directory's is needed, also when a directory is to be removed",
+        "look at the listing; a file is removed as a file",
+    ),
+    (
+        7,
+        "IsADirectory",
+        "a directory cannot be read, written, locked or unlocked, nor removed as a file",
+        "name a file in it; or remove it as a directory, if you mean to",
+    ),
+    (
+        8,
+        "NameExists",
+        "the name is there already",
+        "choose another, or remove the old one",
+    ),
+    (
+        9,
+        "DirectoryFull",
+        "the directory has no empty entry: the root has 6, any other 8",
+        "remove something from it, or take another directory",
+    ),
+    (
+        10,
+        "NoFreePages",
+        "not enough free pages",
+        "remove something, or take another cartridge",
+    ),
+    (
+        11,
+        "BadDate",
+        "the date or the time does not exist, or is not 8 bytes of two decimal digits each",
+        "correct it",
+    ),
+    (
+        12,
+        "PastTheEnd",
+        "the position is past the end of the file, or the entry past the directory's last",
+        "begin at the end at most",
+    ),
+    (
+        13,
+        "NotEmpty",
+        "the directory to be removed holds something",
+        "empty it first",
+    ),
+    (
+        14,
+        "IsTheRoot",
+        "the root cannot be removed, neither as a file nor as a directory",
+        "name what is to be removed",
+    ),
+    (
+        16,
+        "BadEntry",
+        "damaged: a name is not legal or stands twice in a directory, or a directory's size is wrong",
+        "keep a copy of the image; then format the cartridge and make its directories and files anew from a backup",
+    ),
+    (
+        17,
+        "BadChain",
+        "damaged: a file or directory leads out of the cartridge or into its header, or a file has fewer or more pages than its size wants",
+        "keep a copy of the image; then format the cartridge and make its directories and files anew from a backup; what it holds cannot be trusted",
+    ),
+    (
+        18,
+        "OwnedTwice",
+        "damaged: two files or directories share a page, or one returns to a page of its own",
+        "keep a copy of the image; then format the cartridge and make its directories and files anew from a backup; neither of the two can be trusted",
+    ),
+    (
+        19,
+        "LostPage",
+        "a page is marked as taken and nobody owns it, as when a cartridge is pulled too early; all files and directories are in order",
+        "nothing is lost, but no call reads the image until it is mended: repair it (zealfs repair), and it is as good as before; the repair wins the page back",
+    ),
+    (
+        20,
+        "MarkedFree",
+        "damaged: a page of a file or directory is marked as free",
+        "keep a copy of the image; then format the cartridge and make its directories and files anew from a backup; a write since then may have gone over that page",
+    ),
+    (
+        25,
+        "Locked",
+        "the file is locked: it is neither written nor removed",
+        "leave it as it is; if it is to be altered after all, let whoever answers for it unlock it first",
+    ),
+];
