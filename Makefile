@@ -2,7 +2,9 @@
 # make test       tests of the tool and of what is built around the library (tests/desk); tests/run has all tests of what is built
 # make check      the gate: every proof from nothing, then all tests
 # make install    to PREFIX, below DESTDIR if that is given
-# make release    one tar with the static tool, library, header and man page, and its checksum, in target/release
+# make release    one tar with the static tool, library, header, man page and page, and its checksum, in target/release
+# make deb        the same as a Debian package, in target/deb
+# make page       the page for a browser: target/page/zealfs.html
 # make words      after an edit of words/numbers.txt
 
 PREFIX ?= /usr/local
@@ -13,7 +15,7 @@ TOOL := target/desk/release/zealfs
 # Static, so that the tool runs wherever Linux does.
 CARGO := RUSTFLAGS='-C target-feature=+crt-static' CARGO_TARGET_DIR=target/desk cargo
 
-.PHONY: build archive library tool man words test check install release clean
+.PHONY: build archive library tool man page words test check install release deb clean
 
 build: library tool man
 
@@ -36,6 +38,15 @@ target/zealfs.1: docs/zealfs.1 rust/zealfs/Cargo.toml tools/manpage
 	@mkdir -p target
 	tools/manpage > $@
 
+page: target/page/zealfs.html
+
+target/page/module.bc: $(ARCHIVE)
+	tools/module
+	touch $@
+
+target/page/zealfs.html: target/page/module.bc include/zealfs.h tools/page.py tools/image.py tools/words.py words/numbers.txt rust/zealfs/Cargo.toml $(wildcard web/*)
+	tools/page.py
+
 words:
 	tools/words.py
 
@@ -45,16 +56,19 @@ test:
 check:
 	.ci/run
 
-install: build
+install: build page
 	PREFIX='$(PREFIX)' DESTDIR='$(DESTDIR)' VERSION='$(VERSION)' tools/install
 
-release: build
+release: build page
 	rm -rf target/release
 	PREFIX='' DESTDIR='target/release/$(RELEASE)' PC_PREFIX='$${pcfiledir}/../..' VERSION='$(VERSION)' tools/install
 	tar -C target/release --sort=name --mtime=@0 --owner=0 --group=0 --numeric-owner -cf - $(RELEASE) | gzip -9n > target/release/$(RELEASE).tar.gz
 	cd target/release && sha256sum $(RELEASE).tar.gz > $(RELEASE).tar.gz.sha256
 	rm -rf target/release/$(RELEASE)
 
+deb: build page
+	VERSION='$(VERSION)' tools/deb
+
 # what make made; the proofs' results stay
 clean:
-	rm -rf target/desk target/lib target/release target/zealfs.1
+	rm -rf target/deb target/desk target/lib target/page target/release target/zealfs.1

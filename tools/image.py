@@ -6,6 +6,7 @@
     image.py shared > FILE     the example damaged: /A begins on the first page of /0042 (number 18)
     image.py nest > FILE       65,536 bytes with 255 directories, one inside the other, each with a name of 16 bytes
     image.py wide > FILE       65,536 bytes with 30 directories along one path of names of 16 bytes, and empty files in every entry that is left
+    image.py cabinet > FILE    16,384 bytes with the records of a cabinet: the example that the page shows
 
 The images are written byte by byte from the layout and not by the library, so that a listing of them is an outside check.
 """
@@ -33,25 +34,25 @@ class Image:
         self.bytes[3] -= 1
         return page
 
-    def entry(self, directory, i, flags, name, start, size):
+    def entry(self, directory, i, flags, name, start, size, date=DATE):
         """Writes entry i of the directory on a page: 32 bytes, behind the header's fields in the root."""
         at = (64 if directory == 0 else PAGE * directory) + 32 * i
-        fields = bytes([flags]) + name.ljust(16, b"\0") + bytes([start, size % 256, size // 256]) + DATE
+        fields = bytes([flags]) + name.ljust(16, b"\0") + bytes([start, size % 256, size // 256]) + date
         self.bytes[at : at + 28] = fields
 
-    def file(self, directory, i, name, content):
+    def file(self, directory, i, name, content, flags=0x80, date=DATE):
         """Makes a file, which has a page also when it is empty. The first byte of each page is the link, 0 on the last."""
         pages = [self.take() for _ in range(max(1, (len(content) + ROOM - 1) // ROOM))]
         for k, page in enumerate(pages):
             part = content[ROOM * k : ROOM * (k + 1)]
             link = pages[k + 1] if k + 1 < len(pages) else 0
             self.bytes[PAGE * page : PAGE * page + 1 + len(part)] = bytes([link]) + part
-        self.entry(directory, i, 0x80, name, pages[0], len(content))
+        self.entry(directory, i, flags, name, pages[0], len(content), date)
 
-    def directory(self, directory, i, name):
+    def directory(self, directory, i, name, date=DATE):
         """Makes a directory, on one page, and answers the page."""
         page = self.take()
-        self.entry(directory, i, 0x81, name, page, 0x0100)
+        self.entry(directory, i, 0x81, name, page, 0x0100, date)
         return page
 
 
@@ -85,12 +86,37 @@ def changed(at, byte):
     return image
 
 
+def cabinet():
+    """Records of a cabinet in two directories, two of them locked; 0042 and 42 are two specimens."""
+    image = Image(64)
+    date = lambda day: bytes.fromhex("2026" + day)
+    about = b"Cabinet 7, drawers 1 to 12.\nOne directory for each family, one file for each accession.\n"
+    image.file(0, 0, b"README.TXT", about, date=date("0302010915 00"))
+    ammonites = image.directory(0, 1, b"AMMONOIDEA", date("0302010916 00"))
+    loans = image.directory(0, 2, b"LOANS", date("0302010917 00"))
+    figure = b"Figured: plate 3, figure 1.\n"
+    measures = b"".join(b"%4d.%d%s" % (*divmod(614 * 985**k // 1000**k, 10), b"\n" if k % 8 == 7 else b"") for k in range(72))
+    record = b"Accession %s\nDactylioceras commune (Sowerby, 1815)\nWhitby, Yorkshire; Lower Jurassic, Toarcian\nDrawer %d\n"
+    holotype = record % (b"0042", 3) + b"HOLOTYPE. " + figure + b"Measured along the whorls, in mm:\n" + measures
+    image.file(ammonites, 0, b"0042", holotype, 0xC0, date("0302010924 10"))
+    image.file(ammonites, 1, b"42", record % (b"42", 5), date=date("0303020930 00"))
+    image.file(ammonites, 2, b"0043", record % (b"0043", 3) + b"Paratype. " + figure, 0xC0, date("0303020941 30"))
+    plates = image.directory(ammonites, 3, b"PLATES", date("0309010800 00"))
+    image.file(plates, 0, b"3-1.PIX", bytes(x * y % 256 for y in range(64) for x in range(64)), date=date("0309011012 00"))
+    image.file(plates, 1, b"3-2.PIX", bytes((x ^ y) * 4 for y in range(48) for x in range(48)), date=date("0309011015 00"))
+    loan = b"Loan 2026-014\n0042, 0043 to the university, for casting.\nDue back 2026-12-01.\n"
+    image.file(loans, 0, b"2026-014", loan, date=date("1015041400 00"))
+    image.file(loans, 1, b"OPEN", b"", date=date("1102010830 00"))
+    return image
+
+
 MADE = {
     "example": example,
     "pulled": lambda: changed(4, 0x3F),
     "shared": lambda: changed(64 + 32 + 17, 1),
     "nest": lambda: nest(255, False),
     "wide": lambda: nest(30, True),
+    "cabinet": cabinet,
 }
 
 if __name__ == "__main__":

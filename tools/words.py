@@ -1,7 +1,8 @@
 #!/usr/bin/env python3
 """The words of the numbers, from their one source words/numbers.txt to every place that shows them; and README's table of commands.
 
-    tools/words.py          writes README.md's tables, include/zealfs.h's enum, lib/zealfs_text.c and rust/zealfs/src/words.rs
+    tools/words.py          writes README.md's tables, include/zealfs.h's enum, lib/zealfs_text.c, rust/zealfs/src/words.rs and the table of
+                            python/zealfs.py
     tools/words.py check    says which of them differs from the source, and then exits 1
     tools/words.py json     prints them as JSON, for a page
 """
@@ -99,6 +100,14 @@ def rust(rows):
     return lines + ["];"]
 
 
+def python(rows):
+    lines = ["WORDS = {"]
+    for number, name, words in rows:
+        texts = [json.dumps(alone(rows, words[key]), ensure_ascii=False) for key in ("is", "do")]
+        lines += [f'    {number}: ("{name}",', f"         {texts[0]},", f"         {texts[1]}),"]
+    return lines + ["}"]
+
+
 def between(text, first, last, lines):
     """The text with the lines between two marks exchanged."""
     before, rest = text.split(first + "\n", 1)
@@ -115,6 +124,8 @@ def made():
     yield "include/zealfs.h", between(c_header, "/* " + MADE + " */", "/* end of numbers */", header(rows))
     yield "lib/zealfs_text.c", "\n".join(c_text(rows)) + "\n"
     yield "rust/zealfs/src/words.rs", "\n".join(rust(rows)) + "\n"
+    module = (ROOT / "python/zealfs.py").read_text()
+    yield "python/zealfs.py", between(module, "# " + MADE, "# end of numbers", python(rows))
 
 
 def main():
@@ -136,7 +147,7 @@ def main():
     if differing:
         sys.exit(f"words: not as words/numbers.txt has them: {', '.join(differing)}; run make words")
     if is_check:
-        print(f"words: {len(numbers())} numbers, the same in README.md, zealfs.h, zealfs_text.c and words.rs")
+        print(f"words: {len(numbers())} numbers, the same in README.md, zealfs.h, zealfs_text.c, words.rs and zealfs.py")
 
 
 main()

@@ -1,0 +1,475 @@
+"""ZealFS version 1 over an image in memory: the proved calls of libzealfs, by ctypes alone. No class to open, no state.
+
+An image is a bytearray, or for the calls that only look at it any bytes. Each call judges it first and ends with an answer, whatever the bytes, or
+raises Refusal; then image and buffer hold what they held before. Names, words and types are those of the Rust crate (rust/zealfs). What is promised
+of the calls says docs/PROMISES.md; this module adds types and no decision of its own.
+
+>>> image = bytearray(8192)
+>>> format(image)
+>>> make_directory(image, "/A", Date.new(2026, 11, 15, 12, 0, 0))
+>>> verdict(image)
+Space(pages=32, free=30)
+
+The library is libzealfs.so, as `make library` builds it and `make install` installs it; the environment variable ZEALFS_LIBRARY names another.
+"""
+import ctypes
+import datetime
+import os
+import pathlib
+import re
+from typing import Iterator, NamedTuple, Optional, Union
+
+# The longest image, in bytes.
+LONGEST = 65536
+
+Path = Union[str, bytes]
+
+# Number: name, what is wrong, what to do.
+# Made from words/numbers.txt by tools/words.py; edit it there.
+WORDS = {
+    1: ("WrongLength",
+         "the image is not as long as any cartridge: 2,048 to 65,536 bytes, a multiple of 2,048",
+         "read the cartridge again, whole"),
+    2: ("WrongHeader",
+         "its first three bytes are not those of ZealFS version 1 of this length",
+         "read the cartridge again, whole; if it stays so it is not formatted, or another system's: do not write to it"),
+    3: ("WrongCount",
+         "the header's own mark or its count of free pages is wrong; all files and directories are in order",
+         "nothing is lost, but no call reads the image until it is mended: repair it (zealfs repair), and it is as good as before"),
+    4: ("NotAPath",
+         "the path is not written as a path: /, or names of 1 to 16 characters, each after a /",
+         "correct the path"),
+    5: ("NoSuchName",
+         "a name of the path is not there",
+         "look at the listing"),
+    6: ("NotADirectory",
+         "a file's name stands where a directory's is needed, also when a directory is to be removed",
+         "look at the listing; a file is removed as a file"),
+    7: ("IsADirectory",
+         "a directory cannot be read, written, locked or unlocked, nor removed as a file",
+         "name a file in it; or remove it as a directory, if you mean to"),
+    8: ("NameExists",
+         "the name is there already",
+         "choose another, or remove the old one"),
+    9: ("DirectoryFull",
+         "the directory has no empty entry: the root has 6, any other 8",
+         "remove something from it, or take another directory"),
+    10: ("NoFreePages",
+         "not enough free pages",
+         "remove something, or take another cartridge"),
+    11: ("BadDate",
+         "the date or the time does not exist, or is not 8 bytes of two decimal digits each",
+         "correct it"),
+    12: ("PastTheEnd",
+         "the position is past the end of the file, or the entry past the directory's last",
+         "begin at the end at most"),
+    13: ("NotEmpty",
+         "the directory to be removed holds something",
+         "empty it first"),
+    14: ("IsTheRoot",
+         "the root cannot be removed, neither as a file nor as a directory",
+         "name what is to be removed"),
+    16: ("BadEntry",
+         "damaged: a name is not legal or stands twice in a directory, or a directory's size is wrong",
+         "keep a copy of the image; then format the cartridge and make its directories and files anew from a backup"),
+    17: ("BadChain",
+         "damaged: a file or directory leads out of the cartridge or into its header, or a file has fewer or more pages than its size wants",
+         "keep a copy of the image; then format the cartridge and make its directories and files anew from a backup; what it holds cannot be trusted"),
+    18: ("OwnedTwice",
+         "damaged: two files or directories share a page, or one returns to a page of its own",
+         "keep a copy of the image; then format the cartridge and make its directories and files anew from a backup; neither of the two can be trusted"),
+    19: ("LostPage",
+         "a page is marked as taken and nobody owns it, as when a cartridge is pulled too early; all files and directories are in order",
+         "nothing is lost, but no call reads the image until it is mended: repair it (zealfs repair), and it is as good as before; the repair wins the page back"),
+    20: ("MarkedFree",
+         "damaged: a page of a file or directory is marked as free",
+         "keep a copy of the image; then format the cartridge and make its directories and files anew from a backup; a write since then may have gone over that page"),
+    25: ("Locked",
+         "the file is locked: it is neither written nor removed",
+         "leave it as it is; if it is to be altered after all, let whoever answers for it unlock it first"),
+}
+# end of numbers
+
+# What the numbers of a place are, by the name of the refusal.
+_PLACES = {
+    "NoSuchName": ["byte"],
+    "NotADirectory": ["byte"],
+    "BadEntry": ["directory", "entry"],
+    "BadChain": ["directory", "entry", "passed"],
+    "OwnedTwice": ["page"],
+    "LostPage": ["page"],
+    "MarkedFree": ["page"],
+}
+
+
+def text(number: int) -> str:
+    """What is wrong, by the number; nothing for what is no number. As zealfs_text of C."""
+    return WORDS[number][1] if number in WORDS else ""
+
+
+def advice(number: int) -> str:
+    """What to do about it, by the number; nothing for what is no number. As zealfs_advice of C."""
+    return WORDS[number][2] if number in WORDS else ""
+
+
+class Refusal(Exception):
+    """Why a call was refused: the paper's `number`, its `name`, and the `place` where the paper gives one, by name.
+
+    A `directory` is the page of the directory that holds the entry, 0 for the root; an `entry` counts from 0 in it; a `byte` is that of the path at
+    which the name begins.
+
+    >>> try: verdict(bytes(100))
+    ... except Refusal as refusal: print(refusal, "-", refusal.advice)
+    refused 1: the image is not as long as any cartridge: 2,048 to 65,536 bytes, a multiple of 2,048 - read the cartridge again, whole
+    """
+
+    def __init__(self, code: int) -> None:
+        self.code = code
+        self.number = code & 0xFF
+        # a number that this module does not know: the library is newer
+        self.name = WORDS[self.number][0] if self.number in WORDS else "Unknown"
+        self.place = {name: code >> 8 + 16 * i & 0xFFFF for i, name in enumerate(_PLACES.get(self.name, []))}
+        super().__init__(f"refused {self.number}: {self.text}")
+
+    def __repr__(self) -> str:
+        return f"{self.name}({', '.join(f'{name}={number}' for name, number in self.place.items())})"
+
+    def __reduce__(self):
+        return Refusal, (self.code,)
+
+    @property
+    def text(self) -> str:
+        """What is wrong, in words."""
+        return text(self.number)
+
+    @property
+    def advice(self) -> str:
+        """What to do about it, in words."""
+        return advice(self.number)
+
+    @property
+    def is_of_the_image(self) -> bool:
+        """Whether the image is at fault (1 to 3 and 16 to 20), and not what was asked of it."""
+        return self.number in (1, 2, 3, 16, 17, 18, 19, 20)
+
+
+class Date(bytes):
+    """A date and time as an image holds it: eight bytes of two decimal digits each, for century, year, month, day, weekday, hour, minute, second.
+
+    Whether it exists is the library's to judge: a make with one that does not is refused with 11. Stored dates are not judged, so that these bytes
+    may be anything.
+
+    >>> date = Date.parse("2026-11-15 12:00:00")
+    >>> date.hex(), str(date)
+    ('2026111507120000', '2026-11-15 12:00:00')
+    """
+
+    @classmethod
+    def new(cls, year: int, month: int, day: int, hour: int = 0, minute: int = 0, second: int = 0) -> "Date":
+        """From numbers, with the weekday that the calendar gives (Monday is 1, Sunday 7), or 0 for a day that does not exist."""
+        if not 0 <= year <= 9999 or not all(0 <= part <= 99 for part in (month, day, hour, minute, second)):
+            raise ValueError("a number has too many digits")
+        try:
+            # the calendar repeats every 400 years, and Python's begins with the year 1
+            weekday = datetime.date(year + 400 if year < 400 else year, month, day).isoweekday()
+        except ValueError:
+            weekday = 0
+        return cls.fromhex(f"{year:04}{month:02}{day:02}{weekday:02}{hour:02}{minute:02}{second:02}")
+
+    @classmethod
+    def now(cls) -> "Date":
+        """This second, by the local clock."""
+        return cls.new(*datetime.datetime.now().timetuple()[:6])
+
+    @classmethod
+    def parse(cls, text: str) -> "Date":
+        """Reads YYYY-MM-DD, with HH:MM or HH:MM:SS after a space or a T if wanted."""
+        found = re.fullmatch(r"(\d{4})-(\d\d)-(\d\d)(?:[ T](\d\d):(\d\d)(?::(\d\d))?)?", text, re.ASCII)
+        if not found:
+            raise ValueError("a date is written YYYY-MM-DD, YYYY-MM-DD HH:MM or YYYY-MM-DD HH:MM:SS")
+        return cls.new(*(int(part or 0) for part in found.groups()))
+
+    def __str__(self) -> str:
+        return "{}{}-{}-{} {}:{}:{}".format(*(f"{byte:02x}" for i, byte in enumerate(self) if i != 4))
+
+    def __repr__(self) -> str:
+        return f"Date.fromhex('{self.hex()}')"
+
+
+class Space(NamedTuple):
+    """The pages of an image: all of them, the header's among them, and those that nobody owns."""
+
+    pages: int
+    free: int
+
+
+class File(NamedTuple):
+    """A file: the bytes of its content, and whether it may be neither written nor removed."""
+
+    size: int
+    locked: bool
+    is_directory = False
+
+
+class Directory(NamedTuple):
+    """A directory; its size is 256, as the listing has it."""
+
+    size: int = 256
+    locked: bool = False
+    is_directory = True
+
+
+Kind = Union[File, Directory]
+
+
+class Found(NamedTuple):
+    """What find tells: what it is, and when it was made; the root's date is zeros."""
+
+    kind: Kind
+    date: Date
+
+
+class Entry(NamedTuple):
+    """An occupied entry of a directory: its name of 1 to 16 printable characters, what it is, and when it was made."""
+
+    name: str
+    kind: Kind
+    date: Date
+
+
+class Owner(NamedTuple):
+    """The file or directory that owns a page, by its entry: the page of the directory that holds it, 0 for the root, and its number there, from 0."""
+
+    directory: int
+    entry: int
+
+
+# In audit's row: page 0.
+HEADER = "header"
+
+
+def _load() -> ctypes.CDLL:
+    here = pathlib.Path(__file__).resolve().parent
+    named = os.environ.get("ZEALFS_LIBRARY")
+    near = [here / "libzealfs.so", here.parent / "target" / "lib" / "libzealfs.so", here.parent.parent / "lib" / "libzealfs.so.0"]
+    return ctypes.CDLL(named or next((str(path) for path in near if path.exists()), "libzealfs.so.0"))
+
+
+_library = _load()
+
+
+def _function(name: str, *arguments):
+    """A function of zealfs.h. Its result has 64 bits: taken for an int, as ctypes does unasked, a place would be cut off without a word."""
+    found = getattr(_library, "zealfs_" + name)
+    found.argtypes, found.restype = arguments, ctypes.c_uint64
+    return found
+
+
+_bytes = (ctypes.c_void_p, ctypes.c_size_t)
+_number, _out = ctypes.c_uint64, ctypes.c_void_p
+_format = _function("format", *_bytes)
+_verdict = _function("verdict", *_bytes, _out)
+_find = _function("find", *_bytes, *_bytes, _out, _out)
+_list = _function("list", *_bytes, *_bytes, _number, _out, _out, _out)
+_read = _function("read", *_bytes, *_bytes, _number, *_bytes, _out)
+_make_file = _function("make_file", *_bytes, *_bytes, *_bytes)
+_make_directory = _function("make_directory", *_bytes, *_bytes, *_bytes)
+_write = _function("write", *_bytes, *_bytes, _number, *_bytes)
+_remove_file = _function("remove_file", *_bytes, *_bytes)
+_remove_directory = _function("remove_directory", *_bytes, *_bytes)
+_lock = _function("lock", *_bytes, *_bytes)
+_unlock = _function("unlock", *_bytes, *_bytes)
+_repair = _function("repair", *_bytes)
+_audit = _function("audit", *_bytes, _out)
+_listing = _function("listing", *_bytes, _number, *_bytes)
+
+
+def _lent(image):
+    """An image to look at: as it is where it can be lent so, else a copy."""
+    if not isinstance(image, (bytes, bytearray)):
+        image = bytes(image)
+    return _lent_to_change(image) if isinstance(image, bytearray) else (image, len(image))
+
+
+def _lent_to_change(image):
+    """A buffer to change, in its place. It is lent for one call alone: as long as it is lent it cannot be resized."""
+    if not isinstance(image, bytearray):
+        raise TypeError("an image that is to be changed must be a bytearray")
+    return (ctypes.c_uint8 * len(image)).from_buffer(image), len(image)
+
+
+def _path(path: Path):
+    """The bytes of a path. Letters beyond ASCII come to bytes that no legal name has, so such a path is refused with 4 as any other that is none."""
+    raw = path if isinstance(path, bytes) else path.encode("utf-8", "surrogatepass")
+    return raw, len(raw)
+
+
+def _position(number: int) -> int:
+    """ctypes would cut a number without a word."""
+    if not 0 <= number < 1 << 64:
+        raise ValueError("a position is a number of 64 bits")
+    return number
+
+
+def _granted(code: int) -> None:
+    if code != 0:
+        raise Refusal(code)
+
+
+def _kind(is_directory: int, size: int, locked: int) -> Kind:
+    return Directory() if is_directory else File(size, locked == 1)
+
+
+def _name(raw: bytes) -> str:
+    return raw.rstrip(b"\0").decode("ascii")
+
+
+def format(image: bytearray) -> None:
+    """Makes the image an empty one of its length: writes page 0, every other byte stays. Judges the length alone."""
+    _granted(_format(*_lent_to_change(image)))
+
+
+def verdict(image) -> Space:
+    """Judges the image: its pages, or its first fault as a refusal."""
+    out = (ctypes.c_uint64 * 2)()
+    _granted(_verdict(*_lent(image), out))
+    return Space(*out)
+
+
+def find(image, path: Path) -> Found:
+    """What stands at the path."""
+    out, date = (ctypes.c_uint64 * 3)(), (ctypes.c_uint8 * 8)()
+    _granted(_find(*_lent(image), *_path(path), out, date))
+    return Found(_kind(*out), Date(date))
+
+
+def list(image, path: Path, entry: int) -> Optional[Entry]:
+    """The entry of that number of a directory, counted from 0; None if it is empty. `entries` goes through them all."""
+    out, name, date = (ctypes.c_uint64 * 4)(), (ctypes.c_uint8 * 16)(), (ctypes.c_uint8 * 8)()
+    _granted(_list(*_lent(image), *_path(path), _position(entry), out, name, date))
+    return Entry(_name(bytes(name)), _kind(*out[1:]), Date(date)) if out[0] else None
+
+
+def entries(image, path: Path) -> Iterator[Entry]:
+    """The occupied entries of a directory, in order.
+
+    >>> image = bytearray(2048)
+    >>> format(image)
+    >>> for path in "/0042", "/42": make_file(image, path, Date.parse("2026-11-15"))
+    >>> [entry.name for entry in entries(image, "/")]
+    ['0042', '42']
+    """
+    number = 0
+    while True:
+        try:
+            entry = list(image, path, number)
+        except Refusal as refusal:
+            if refusal.name == "PastTheEnd":  # past the directory's last entry is the end
+                return
+            raise
+        if entry is not None:
+            yield entry
+        number += 1
+
+
+def read(image, path: Path, position: int = 0, room: Optional[int] = None) -> bytes:
+    """The file's bytes from a position on, as many as there are and as there is room for; without `room` all.
+
+    >>> image = bytearray(2048)
+    >>> format(image)
+    >>> make_file(image, "/0042", Date.parse("2026-11-15"))
+    >>> write(image, "/0042", 0, b"ammonite")
+    >>> read(image, "/0042", 2)
+    b'monite'
+    """
+    buffer = bytearray(LONGEST if room is None else min(room, LONGEST))  # no file is longer
+    out = (ctypes.c_uint64 * 1)()
+    _granted(_read(*_lent(image), *_path(path), _position(position), *_lent_to_change(buffer), out))
+    return bytes(buffer[: out[0]])
+
+
+def make_file(image: bytearray, path: Path, date: bytes) -> None:
+    """Makes an empty file."""
+    _granted(_make_file(*_lent_to_change(image), *_path(path), bytes(date), len(date)))
+
+
+def make_directory(image: bytearray, path: Path, date: bytes) -> None:
+    """Makes an empty directory."""
+    _granted(_make_directory(*_lent_to_change(image), *_path(path), bytes(date), len(date)))
+
+
+def write(image: bytearray, path: Path, position: int, content: bytes) -> None:
+    """Replaces the file's bytes from a position on that is at most its size, and lengthens it where they reach past its end."""
+    content = bytes(content)
+    _granted(_write(*_lent_to_change(image), *_path(path), _position(position), content, len(content)))
+
+
+def remove_file(image: bytearray, path: Path) -> None:
+    """Removes a file that is not locked."""
+    _granted(_remove_file(*_lent_to_change(image), *_path(path)))
+
+
+def remove_directory(image: bytearray, path: Path) -> None:
+    """Removes an empty directory."""
+    _granted(_remove_directory(*_lent_to_change(image), *_path(path)))
+
+
+def lock(image: bytearray, path: Path) -> None:
+    """Locks a file: it is then neither written nor removed."""
+    _granted(_lock(*_lent_to_change(image), *_path(path)))
+
+
+def unlock(image: bytearray, path: Path) -> None:
+    """Unlocks a file."""
+    _granted(_unlock(*_lent_to_change(image), *_path(path)))
+
+
+def repair(image: bytearray) -> None:
+    """Wins back lost pages and corrects the count of free ones. Files and directories stay as they are; what is damaged is refused.
+
+    >>> image = bytearray(2048)
+    >>> format(image)
+    >>> image[4] |= 0x80  # page 7 is marked, and nobody owns it
+    >>> try: verdict(image)
+    ... except Refusal as refusal: refusal
+    LostPage(page=7)
+    >>> repair(image)
+    >>> verdict(image).free
+    7
+    """
+    _granted(_repair(*_lent_to_change(image)))
+
+
+def audit(image) -> Optional[tuple]:
+    """The second judge: who owns each page of a sound image, None, HEADER or an Owner for each of 256; and None for any other image. It says sound
+    exactly when verdict does, and shares no walk with it.
+
+    >>> image = bytearray(2048)
+    >>> format(image)
+    >>> make_directory(image, "/A", Date.parse("2026-11-15"))
+    >>> audit(image)[:3]
+    ('header', Owner(directory=0, entry=0), None)
+    """
+    owners = (ctypes.c_uint64 * 256)()
+    return tuple(map(_owner, owners)) if _audit(*_lent(image), owners) == 1 else None
+
+
+def _owner(position: int) -> Union[None, str, Owner]:
+    if position < 2:
+        return HEADER if position == 1 else None
+    directory, byte = divmod(position, 256)
+    return Owner(directory, (byte - (0 if directory else 64)) // 32)
+
+
+def listing(image) -> str:
+    """The image's listing. An image that is not sound has one too, which says so.
+
+    >>> listing(bytes(2048))
+    'refused 2\\n'
+    """
+    told, window = bytearray(), bytearray(4096)
+    while True:
+        count = _listing(*_lent(image), len(told), *_lent_to_change(window))
+        told += window[:count]
+        if count < len(window):
+            return told.decode("ascii")
