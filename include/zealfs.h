@@ -80,6 +80,10 @@ enum zealfs_numbers {
         /* a page belongs to a file or directory and is marked as free: a is the page */
     ZEALFS_LOCKED = 25,
         /* write or remove file: the file is locked */
+    ZEALFS_BAD_PROPOSAL = 27,
+        /* tidy: the proposal is not accepted, or has not N numbers; propose: the row has not N numbers */
+    ZEALFS_WRONG_TARGET = 28,
+        /* tidy: the second buffer is not as long as the image */
 };
 /* end of numbers */
 
@@ -132,6 +136,18 @@ uint64_t zealfs_repair(uint8_t *image, size_t image_len);
  * begins that owns it (64 or more); nobody owns a page past N. All are 0 when it returns 0.
  */
 uint64_t zealfs_audit(const uint8_t *image, size_t image_len, uint64_t owners[256]);
+
+/*
+ * Tidy pages: the board reads neighbouring pages faster. A proposal has one byte for each of the N pages of the image: places[p] is the new place of
+ * page p. It is accepted exactly if each number 0 to N-1 occurs once, page 0 stays, and the pages of each file, in the order of its chain, get rising
+ * neighbouring numbers. Neither function changes the image. The verdict's refusals come first, then 28, then 27.
+ *
+ * zealfs_propose writes a proposal that is accepted, on any sound image, to a row of N bytes. zealfs_tidy writes the image to the target with its pages
+ * at their new places: links, the bitmap and the start pages of occupied entries follow, every other byte is carried along with its page. The target is
+ * then a sound image with the same contents. A refused call leaves row and target as they were.
+ */
+uint64_t zealfs_propose(const uint8_t *image, size_t image_len, uint8_t *places, size_t places_len);
+uint64_t zealfs_tidy(const uint8_t *image, size_t image_len, const uint8_t *places, size_t places_len, uint8_t *target, size_t target_len);
 
 /*
  * The listing as text, a window at a time: the bytes of it from byte `from` on, as many as there are and as the buffer has room for. It returns how

@@ -25,6 +25,8 @@ const char *zealfs_text(unsigned number)
     case 19: return "a page is marked as taken and nobody owns it, as when a cartridge is pulled too early; all files and directories are in order";
     case 20: return "damaged: a page of a file or directory is marked as free";
     case 25: return "the file is locked: it is neither written nor removed";
+    case 27: return "the proposed places are not one for every page, or part the pages of a file";
+    case 28: return "the buffer for the tidied image is not as long as the image";
     default: return "";
     }
 }
@@ -53,6 +55,8 @@ const char *zealfs_advice(unsigned number)
     case 19: return "nothing is lost, but no call reads the image until it is mended: repair it (zealfs repair), and it is as good as before; the repair wins the page back";
     case 20: return "keep a copy of the image; then format the cartridge and make its directories and files anew from a backup; a write since then may have gone over that page";
     case 25: return "leave it as it is; if it is to be altered after all, let whoever answers for it unlock it first";
+    case 27: return "take the proposal that the library makes";
+    case 28: return "lend one of the same length";
     default: return "";
     }
 }

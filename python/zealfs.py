@@ -87,6 +87,12 @@ WORDS = {
     25: ("Locked",
          "the file is locked: it is neither written nor removed",
          "leave it as it is; if it is to be altered after all, let whoever answers for it unlock it first"),
+    27: ("BadProposal",
+         "the proposed places are not one for every page, or part the pages of a file",
+         "take the proposal that the library makes"),
+    28: ("WrongTarget",
+         "the buffer for the tidied image is not as long as the image",
+         "lend one of the same length"),
 }
 # end of numbers
 

@@ -12,7 +12,7 @@ use std::process::Command;
 /// The environment variable that overrides the library's directory.
 const DIRECTORY: &str = "ZEALFS_LIBRARY_DIR";
 
-const CALLS: [&str; 15] = [
+const CALLS: [&str; 17] = [
     "zealfs_format",
     "zealfs_verdict",
     "zealfs_find",
@@ -27,6 +27,8 @@ const CALLS: [&str; 15] = [
     "zealfs_unlock",
     "zealfs_repair",
     "zealfs_audit",
+    "zealfs_propose",
+    "zealfs_tidy",
     "zealfs_listing",
 ];
 

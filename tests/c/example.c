@@ -113,6 +113,26 @@ static void list_all(void)
     expect("  refused 3", memcmp(text, "refused 3\n", 10) == 0, 1);
 }
 
+static void tidy(void)
+{
+    uint8_t places[8], target[2048], again[8];
+    uint64_t out[2];
+
+    memset(target, 0xEE, sizeof target);
+    expect("propose", zealfs_propose(IMAGE, places, 8), 0);
+    expect("  page 0 stays", places[0], 0);
+    expect("propose, 7 numbers", zealfs_propose(IMAGE, places, 7), 27);
+    expect("tidy, a short target", zealfs_tidy(IMAGE, places, 8, target, 2047), 28);
+    expect("tidy, 7 numbers", zealfs_tidy(IMAGE, places, 7, target, 2048), 27);
+    expect("  the target stays", target[0], 0xEE);
+    expect("tidy", zealfs_tidy(IMAGE, places, 8, target, 2048), 0);
+    expect("  the target is sound", zealfs_verdict(target, 2048, out), 0);
+    expect("  free pages", out[1], image[3]);
+    expect("propose for it", zealfs_propose(target, 2048, again, 8), 0);
+    for (unsigned page = 0; page < 8; page++)
+        expect("  each page is in its place", again[page], page);
+}
+
 int main(void)
 {
     const uint8_t made[8] = {0x20, 0x26, 0x11, 0x15, 0x07, 0x21, 0x05, 0x00};
@@ -170,6 +190,7 @@ int main(void)
     repair();
     audit();
     list_all();
+    tidy();
     expect("remove file /A, refused", zealfs_remove_file(IMAGE, PATH("/A")), 7);
     expect("remove directory /A, refused", zealfs_remove_directory(IMAGE, PATH("/A")), 13);
     expect("remove directory 0042, refused", zealfs_remove_directory(IMAGE, PATH("/A/0042")), 6 + 256 * 3);

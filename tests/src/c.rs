@@ -53,6 +53,9 @@ declare! {
     zealfs_unlock(image: *mut u8, image_len: usize, path: *const u8, path_len: usize;);
     zealfs_repair(image: *mut u8, image_len: usize;);
     zealfs_audit(image: *const u8, image_len: usize; owners: u64);
+    zealfs_propose(image: *const u8, image_len: usize, places: *mut u8, places_len: usize;);
+    zealfs_tidy(image: *const u8, image_len: usize, places: *const u8, places_len: usize,
+        target: *mut u8, target_len: usize;);
     zealfs_listing(image: *const u8, image_len: usize, from: u64, text: *mut u8, text_len: usize;);
 }
 
@@ -209,5 +212,18 @@ impl Calls for Library {
             sound,
             owners: owners[..OWNERS].try_into().expect("a row and its rest"),
         }
+    }
+
+    fn propose(&self, image: &[u8], places: &mut [u8]) -> Answer {
+        answer(call!(zealfs_propose(
+            image.as_ptr(), image.len(), places.as_mut_ptr(), places.len();
+        )))
+    }
+
+    fn tidy(&self, image: &[u8], places: &[u8], target: &mut [u8]) -> Answer {
+        answer(call!(zealfs_tidy(
+            image.as_ptr(), image.len(), places.as_ptr(), places.len(),
+            target.as_mut_ptr(), target.len();
+        )))
     }
 }

@@ -1,5 +1,6 @@
 //! The calls on raw bytes, as a trait, and the form of their answers.
 
+use crate::tidy;
 use std::fmt;
 
 /// Bytes of a stored date.
@@ -224,6 +225,14 @@ pub trait Calls {
     fn unlock(&self, image: &mut [u8], path: &[u8]) -> Answer;
     fn repair(&self, image: &mut [u8]) -> Answer;
     fn audit(&self, image: &[u8]) -> Audit;
+
+    /// Tidy pages has one second implementation; the library has its own.
+    fn propose(&self, image: &[u8], places: &mut [u8]) -> Answer {
+        tidy::propose(image, places)
+    }
+    fn tidy(&self, image: &[u8], places: &[u8], target: &mut [u8]) -> Answer {
+        tidy::tidy(image, places, target)
+    }
 }
 
 /// One call with its arguments. The bytes of a read are what the reader's

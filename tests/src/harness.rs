@@ -107,6 +107,7 @@ pub fn compare(
     let mut actual_image = Guarded::new(&scenario.image, scenario.calls.len());
     let mut what = String::new();
     describe_audits(&mut what, expected, actual, &actual_image);
+    describe_tidies(&mut what, expected, actual, &actual_image);
     if !what.is_empty() {
         return Some(Difference { step: 0, what });
     }
@@ -127,6 +128,7 @@ pub fn compare(
     }
     if actual_image.bytes() != scenario.image {
         describe_audits(&mut what, expected, actual, &actual_image);
+        describe_tidies(&mut what, expected, actual, &actual_image);
     }
     if let Some(replay) = replay {
         describe_end(&mut what, &replay, actual, actual_image.bytes());
@@ -203,6 +205,30 @@ fn describe_audits(what: &mut String, expected: &dyn Calls, actual: &dyn Calls, 
     if let Some(page) = different {
         let (owner, named) = (wanted.owners[page], got.owners[page]);
         let _ = writeln!(what, "  page {page}: expected owner {owner}, got {named}");
+    }
+}
+
+/// What the helpers propose for an image, and what tidy makes of that and of the
+/// pages as they are.
+fn describe_tidies(what: &mut String, expected: &dyn Calls, actual: &dyn Calls, image: &Guarded) {
+    let image = image.bytes();
+    let pages = image.len() / 256;
+    let mut places = vec![9; pages];
+    let mut proposed = places.clone();
+    let wanted = expected.propose(image, &mut places);
+    let got = actual.propose(image, &mut proposed);
+    if wanted != got || places != proposed {
+        let _ = writeln!(what, "propose: expected {wanted}, got {got}");
+    }
+    let as_they_are: Vec<u8> = (0..pages).map(|page| page as u8).collect();
+    for places in [places, as_they_are] {
+        let mut target = vec![9; image.len()];
+        let mut written = target.clone();
+        let wanted = expected.tidy(image, &places, &mut target);
+        let got = actual.tidy(image, &places, &mut written);
+        if wanted != got || target != written {
+            let _ = writeln!(what, "tidy: expected {wanted}, got {got}");
+        }
     }
 }
 

@@ -25,5 +25,6 @@ pub mod random;
 pub mod settings;
 pub mod shrink;
 pub mod subjects;
+pub mod tidy;
 pub mod workloads;
 pub mod wrong;

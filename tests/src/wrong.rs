@@ -5,7 +5,7 @@ use crate::calls::{Answer, Audit, Call, Calls, Refusal};
 use crate::misjudge::misjudged;
 use crate::plain::reader::is_allocated;
 use crate::plain::writer::entry_at;
-use crate::plain::{pages_of_image, Plain, BITMAP_AT, CONTENT, PAGE};
+use crate::plain::{pages_of_image, Plain, BITMAP_AT, CONTENT, ENTRY, PAGE, ROOT_ENTRIES_AT};
 
 /// What is broken.
 #[derive(Clone, Copy, Debug, PartialEq, Eq, PartialOrd)]
@@ -76,6 +76,10 @@ pub enum Fault {
     OwnerOnePageOn,
     /// The second judge trusts byte 3.
     AuditTrustsCount,
+    /// A tidy leaves the bits where they were.
+    TidyLeavesBits,
+    /// A tidy moves the start pages of the root's vacant entries too.
+    TidyMovesVacant,
     // From here on the fault that is told of an image is not its first one, or
     // its place is another.
     /// The page that fails is counted among those that passed.
@@ -95,7 +99,7 @@ pub enum Fault {
 }
 
 /// All faults.
-pub const FAULTS: [Fault; 40] = [
+pub const FAULTS: [Fault; 42] = [
     Fault::LeadingZeros,
     Fault::TrustedFreeCount,
     Fault::WholeBitmap,
@@ -129,6 +133,8 @@ pub const FAULTS: [Fault; 40] = [
     Fault::RepairMarksOwned,
     Fault::OwnerOnePageOn,
     Fault::AuditTrustsCount,
+    Fault::TidyLeavesBits,
+    Fault::TidyMovesVacant,
     Fault::FailedPageCounted,
     Fault::EarlierOfEqualNames,
     Fault::HighestLostPage,
@@ -475,5 +481,22 @@ impl Calls for Wrong {
             audit.owners[1..].rotate_right(1);
         }
         audit
+    }
+
+    fn tidy(&self, image: &[u8], places: &[u8], target: &mut [u8]) -> Answer {
+        let answer = Plain.tidy(image, places, target);
+        if answer.is_granted() && self.has(Fault::TidyLeavesBits) {
+            let bits = BITMAP_AT..BITMAP_AT + places.len() / 8;
+            target[bits.clone()].copy_from_slice(&image[bits]);
+        }
+        if answer.is_granted() && self.has(Fault::TidyMovesVacant) {
+            for at in (ROOT_ENTRIES_AT..PAGE).step_by(ENTRY) {
+                let start = usize::from(image[at + 17]);
+                if image[at] & 0x80 == 0 && start < places.len() {
+                    target[at + 17] = places[start];
+                }
+            }
+        }
+        answer
     }
 }

@@ -4,6 +4,7 @@
 use fields::Position;
 use judge::Fault;
 use refusals::Refusal;
+use tidy::TidyAnswer;
 use zealfs::ChangeAnswer;
 use zealfs::FindAnswer;
 use zealfs::ListAnswer;
@@ -23,6 +24,9 @@ ghost use Rattle.refusals.specs.Told.{told};
 ghost use Rattle.zealfs.specs.Answers.{changeAnswer, findDate, listName, listDate};
 ghost use Rattle.repair.specs.Repair.{repairAnswer, repairAfter};
 ghost use Rattle.audit.specs.Owner.{ownerNumbers};
+ghost use Rattle.moves.specs.Tidy.{tidyAnswer, tidyAfter};
+ghost use Rattle.moves.specs.Propose.{proposeAnswer, proposeAfter};
+ghost use Rattle.tidy.specs.Answer.{answerOf};
 ghost use Rattle.zealfs_c.specs.Codes.{packed, refusalCode, codeOf, Fits, placeOf, lockNumber, soundNumber, verdictOut, findOut, listOut, readOut};
 
 // The three numbers of a place as one.
@@ -313,4 +317,35 @@ pub extern "C" fn zealfs_listing(image: &[u8], from: u64, buffer: &mut [u8]) -> 
     ensures { λ _. ⌜ now (buffer .exit) ≡ put 0 (copied (listing (now (image .entry))) from (now (buffer .entry))) (now (buffer .entry)) ⌝ }
 {
     listing_text::listing_part(image, from as usize, buffer) as u64
+}
+
+// The code of the two calls of 02 §13, whose own numbers point nowhere.
+fn tidy_code(a: TidyAnswer) -> u64
+    requires { ⌜ Fits (placeOf (answerOf a)) ⌝ }
+    ensures { λ n. ⌜ n ≡ codeOf (answerOf a) ⌝ }
+{
+    match a {
+        TidyAnswer::Done => 0,
+        TidyAnswer::Refused(r) => code(r),
+        TidyAnswer::OtherLength => 28,
+        TidyAnswer::NotAccepted => 27,
+    }
+}
+
+// A proposal for `zealfs_tidy` (02 §13): places[p] is the new place of page p.
+#[no_mangle]
+pub extern "C" fn zealfs_propose(image: &[u8], places: &mut [u8]) -> u64
+    ensures { λ r. ⌜ r ≡ codeOf (proposeAnswer (now (image .entry)) (now (places .entry))) ⌝ }
+    ensures { λ _. ⌜ now (places .exit) ≡ proposeAfter (now (image .entry)) (now (places .entry)) ⌝ }
+{
+    tidy_code(tidy::propose(image, places))
+}
+
+// Writes the image to the target with its pages where the proposal puts them (02 §13).
+#[no_mangle]
+pub extern "C" fn zealfs_tidy(image: &[u8], places: &[u8], target: &mut [u8]) -> u64
+    ensures { λ r. ⌜ r ≡ codeOf (tidyAnswer (now (image .entry)) (now (places .entry)) (now (target .entry))) ⌝ }
+    ensures { λ _. ⌜ now (target .exit) ≡ tidyAfter (now (image .entry)) (now (places .entry)) (now (target .entry)) ⌝ }
+{
+    tidy_code(tidy::tidy(image, places, target))
 }

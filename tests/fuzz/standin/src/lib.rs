@@ -272,3 +272,33 @@ pub unsafe extern "C" fn zealfs_listing(
     lent_mut(text, text_len)[..count].copy_from_slice(&listing[from..from + count]);
     count as u64
 }
+
+/// # Safety
+///
+/// As include/zealfs.h says.
+#[no_mangle]
+pub unsafe extern "C" fn zealfs_propose(
+    image: *const u8,
+    image_len: usize,
+    places: *mut u8,
+    places_len: usize,
+) -> u64 {
+    code(&calls().propose(lent(image, image_len), lent_mut(places, places_len)))
+}
+
+/// # Safety
+///
+/// As include/zealfs.h says.
+#[no_mangle]
+pub unsafe extern "C" fn zealfs_tidy(
+    image: *const u8,
+    image_len: usize,
+    places: *const u8,
+    places_len: usize,
+    target: *mut u8,
+    target_len: usize,
+) -> u64 {
+    let places = lent(places, places_len);
+    let target = lent_mut(target, target_len);
+    code(&calls().tidy(lent(image, image_len), places, target))
+}

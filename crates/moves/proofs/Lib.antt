@@ -1,0 +1,14 @@
+pub mod Reached
+pub mod Renamed
+pub mod Places
+pub mod Bytewise
+pub mod Moved
+pub mod Tidied
+pub mod Carried
+pub mod Near
+pub mod Order
+pub mod Helper
+pub mod Links
+pub mod Answers
+pub mod Promise
+pub mod Table

@@ -1,0 +1,5 @@
+pub mod Owned
+pub mod Check
+pub mod Laid
+pub mod Target
+pub mod Numbers
