@@ -53,15 +53,15 @@ enum zealfs_numbers {
     ZEALFS_IS_A_DIRECTORY = 7,
         /* read, write, remove file, lock or unlock: the path is a directory */
     ZEALFS_NAME_EXISTS = 8,
-        /* make: the name is there already, or the path is "/" */
+        /* make, store: the name is there already, or the path is "/" */
     ZEALFS_DIRECTORY_FULL = 9,
-        /* make: no empty entry */
+        /* make, store: no empty entry */
     ZEALFS_NO_FREE_PAGES = 10,
-        /* make or write: more pages wanted than are free */
+        /* make, write, store: more pages wanted than are free */
     ZEALFS_BAD_DATE = 11,
-        /* make: the date is not good */
+        /* make, store: the date is not good */
     ZEALFS_PAST_THE_END = 12,
-        /* position past the size, or entry past the directory's last */
+        /* position past the size, entry past the directory's last, or store past the last */
     ZEALFS_NOT_EMPTY = 13,
         /* remove directory: it holds something */
     ZEALFS_IS_THE_ROOT = 14,
@@ -84,6 +84,8 @@ enum zealfs_numbers {
         /* tidy: the proposal is not accepted, or has not N numbers; propose: the row has not N numbers */
     ZEALFS_WRONG_TARGET = 28,
         /* tidy: the second buffer is not as long as the image */
+    ZEALFS_WRONG_PAGE_BUFFER = 29,
+        /* store: the page's buffer has not 256 bytes */
 };
 /* end of numbers */
 
@@ -122,6 +124,16 @@ uint64_t zealfs_remove_directory(uint8_t *image, size_t image_len, const uint8_t
 /* A locked file is read as before, and neither written nor removed. To lock or unlock twice is to do it once. */
 uint64_t zealfs_lock(uint8_t *image, size_t image_len, const uint8_t *path, size_t path_len);
 uint64_t zealfs_unlock(uint8_t *image, size_t image_len, const uint8_t *path, size_t path_len);
+
+/*
+ * A new file with its content by whole pages, which a board stores one after the other, so that a cartridge may be pulled amid them: as long as not all
+ * are stored, zealfs_repair yields exactly what the cartridge held, and after the last it is as zealfs_make_file and then zealfs_write of all the
+ * bytes leave it. Stores count from 0: the pages of the file along its chain, then the header, then the page of the file's directory unless that is
+ * the header. out: the number of the page; its 256 bytes are put into page. The image is not changed, and for each store it is the one before the
+ * first. 29 is given before all others, 10 counts the pages of the whole file, and 12, after 10, says that the number is past the last store.
+ */
+uint64_t zealfs_store(const uint8_t *image, size_t image_len, const uint8_t *path, size_t path_len, const uint8_t *date, size_t date_len,
+                      const uint8_t *bytes, size_t bytes_len, uint64_t number, uint8_t *page, size_t page_len, uint64_t out[1]);
 
 /*
  * Wins back lost pages, as when a cartridge was pulled too early: of an image that is sound, or given 19 or 3, it marks exactly the header and

@@ -16,7 +16,7 @@ const char *zealfs_text(unsigned number)
     case 9: return "the directory has no empty entry: the root has 6, any other 8";
     case 10: return "not enough free pages";
     case 11: return "the date or the time does not exist, or is not 8 bytes of two decimal digits each";
-    case 12: return "the position is past the end of the file, or the entry past the directory's last";
+    case 12: return "the position is past the end of the file, the entry past the directory's last, or the store past the last one";
     case 13: return "the directory to be removed holds something";
     case 14: return "the root cannot be removed, neither as a file nor as a directory";
     case 16: return "damaged: a name is not legal or stands twice in a directory, or a directory's size is wrong";
@@ -27,6 +27,7 @@ const char *zealfs_text(unsigned number)
     case 25: return "the file is locked: it is neither written nor removed";
     case 27: return "the proposed places are not one for every page, or part the pages of a file";
     case 28: return "the buffer for the tidied image is not as long as the image";
+    case 29: return "the buffer for a page is not 256 bytes long";
     default: return "";
     }
 }
@@ -46,7 +47,7 @@ const char *zealfs_advice(unsigned number)
     case 9: return "remove something from it, or take another directory";
     case 10: return "remove something, or take another cartridge";
     case 11: return "correct it";
-    case 12: return "begin at the end at most";
+    case 12: return "begin at the end at most; of stores: all are done";
     case 13: return "empty it first";
     case 14: return "name what is to be removed";
     case 16: return "keep a copy of the image; then format the cartridge and make its directories and files anew from a backup";
@@ -57,6 +58,7 @@ const char *zealfs_advice(unsigned number)
     case 25: return "leave it as it is; if it is to be altered after all, let whoever answers for it unlock it first";
     case 27: return "take the proposal that the library makes";
     case 28: return "lend one of the same length";
+    case 29: return "lend one of 256 bytes";
     default: return "";
     }
 }

@@ -61,8 +61,8 @@ WORDS = {
          "the date or the time does not exist, or is not 8 bytes of two decimal digits each",
          "correct it"),
     12: ("PastTheEnd",
-         "the position is past the end of the file, or the entry past the directory's last",
-         "begin at the end at most"),
+         "the position is past the end of the file, the entry past the directory's last, or the store past the last one",
+         "begin at the end at most; of stores: all are done"),
     13: ("NotEmpty",
          "the directory to be removed holds something",
          "empty it first"),
@@ -93,6 +93,9 @@ WORDS = {
     28: ("WrongTarget",
          "the buffer for the tidied image is not as long as the image",
          "lend one of the same length"),
+    29: ("WrongPageBuffer",
+         "the buffer for a page is not 256 bytes long",
+         "lend one of 256 bytes"),
 }
 # end of numbers
 
@@ -254,6 +257,13 @@ class Owner(NamedTuple):
 HEADER = "header"
 
 
+class Store(NamedTuple):
+    """One store of a file: a page's number and all its bytes."""
+
+    page: int
+    bytes: bytes
+
+
 def _load() -> ctypes.CDLL:
     here = pathlib.Path(__file__).resolve().parent
     named = os.environ.get("ZEALFS_LIBRARY")
@@ -285,8 +295,11 @@ _remove_file = _function("remove_file", *_bytes, *_bytes)
 _remove_directory = _function("remove_directory", *_bytes, *_bytes)
 _lock = _function("lock", *_bytes, *_bytes)
 _unlock = _function("unlock", *_bytes, *_bytes)
+_store = _function("store", *_bytes, *_bytes, *_bytes, *_bytes, _number, *_bytes, _out)
 _repair = _function("repair", *_bytes)
 _audit = _function("audit", *_bytes, _out)
+_propose = _function("propose", *_bytes, *_bytes)
+_tidy = _function("tidy", *_bytes, *_bytes, *_bytes)
 _listing = _function("listing", *_bytes, _number, *_bytes)
 
 
@@ -430,6 +443,21 @@ def unlock(image: bytearray, path: Path) -> None:
     _granted(_unlock(*_lent_to_change(image), *_path(path)))
 
 
+def store(image, path: Path, date: bytes, content: bytes, number: int) -> Store:
+    """The store of that number, from 0, of a new file with its content, on a board that stores a whole page at a time. The image stays as it is: ask
+    for every store before the first is done. A number past the last is refused with 12.
+
+    >>> image = bytearray(2048)
+    >>> format(image)
+    >>> day = Date.parse("2026-11-15")
+    >>> [store(image, "/0042", day, b"ammonite", number).page for number in (0, 1)]  # the content, then the header, which has the root's entries
+    [1, 0]
+    """
+    content, page, out = bytes(content), bytearray(256), (ctypes.c_uint64 * 1)()
+    _granted(_store(*_lent(image), *_path(path), bytes(date), len(date), content, len(content), _position(number), *_lent_to_change(page), out))
+    return Store(out[0], bytes(page))
+
+
 def repair(image: bytearray) -> None:
     """Wins back lost pages and corrects the count of free ones. Files and directories stay as they are; what is damaged is refused.
 
@@ -465,6 +493,26 @@ def _owner(position: int) -> Union[None, str, Owner]:
         return HEADER if position == 1 else None
     directory, byte = divmod(position, 256)
     return Owner(directory, (byte - (0 if directory else 64)) // 32)
+
+
+def propose(image) -> bytes:
+    """A new place for every page, by which files come on neighbouring pages."""
+    places = bytearray(len(image) // 256)
+    _granted(_propose(*_lent(image), *_lent_to_change(places)))
+    return bytes(places)
+
+
+def tidy(image, places: bytes) -> bytearray:
+    """The image with its pages in their new places: the same files and directories. What is no tidy proposal is refused with 27.
+
+    >>> image = bytearray(2048)
+    >>> format(image)
+    >>> tidy(image, propose(image)) == image
+    True
+    """
+    places, target = bytes(places), bytearray(len(image))
+    _granted(_tidy(*_lent(image), places, len(places), *_lent_to_change(target)))
+    return target
 
 
 def listing(image) -> str:

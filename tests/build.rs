@@ -12,7 +12,7 @@ use std::process::Command;
 /// The environment variable that overrides the library's directory.
 const DIRECTORY: &str = "ZEALFS_LIBRARY_DIR";
 
-const CALLS: [&str; 17] = [
+const CALLS: [&str; 18] = [
     "zealfs_format",
     "zealfs_verdict",
     "zealfs_find",
@@ -25,6 +25,7 @@ const CALLS: [&str; 17] = [
     "zealfs_remove_directory",
     "zealfs_lock",
     "zealfs_unlock",
+    "zealfs_store",
     "zealfs_repair",
     "zealfs_audit",
     "zealfs_propose",

@@ -180,7 +180,8 @@ def do_read(root, path, position, room):
     return root, f"{len(copied)} buffer {quoted(copied.ljust(room, b'.'))}"
 
 
-def do_make(root, path, date, made, pages):
+def opening(root, path, date, pages):
+    """The names of a new path, and its parent with an empty entry, where so many pages are free."""
     names = names_of(path)
     if not is_good(date):
         raise Refused(11)
@@ -191,6 +192,11 @@ def do_make(root, path, date, made, pages):
         raise Refused(9)
     if pages > free_number(root):
         raise Refused(10)
+    return names, parent
+
+
+def do_make(root, path, date, made, pages):
+    names, parent = opening(root, path, date, pages)
     parent.entries[parent.entries.index(None)] = made(names[-1][0])
     return root, "done"
 
@@ -239,6 +245,17 @@ def do_remove_directory(root, path):
     return vacate(root, names, directory)
 
 
+def do_store(root, path, date, content, number, room):
+    """What the tree decides of a store (document 02 §11): whether it is there. It has no pages to tell of."""
+    if room != 256:
+        raise Refused(29)
+    pages = pages_for(len(content))
+    names, _ = opening(root, path, date, pages)
+    if number >= pages + (1 if len(names) == 1 else 2):
+        raise Refused(12)
+    return root, "done"
+
+
 def do_lock(root, path):
     file_at(root, names_of(path)).locked = True
     return root, "done"
@@ -252,7 +269,7 @@ def do_unlock(root, path):
 CALLS_BY_NAME = {
     "format": do_format, "verdict": do_verdict, "find": do_find, "list": do_list, "read": do_read, "make_file": do_make_file,
     "make_directory": do_make_directory, "write": do_write, "remove_file": do_remove_file, "remove_directory": do_remove_directory,
-    "lock": do_lock, "unlock": do_unlock,
+    "lock": do_lock, "unlock": do_unlock, "store": do_store,
 }
 
 
@@ -278,6 +295,8 @@ def asked(name, path=None, *rest):
         return f"{text} at {rest[0]} room {rest[1]}"
     if name == "write":
         return f"{text} at {rest[0]} {counted(rest[1])}"
+    if name == "store":
+        return f"{text} date {rest[0].hex()} {counted(rest[1])} number {rest[2]} room {rest[3]}"
     if name in ("make_file", "make_directory"):
         return f"{text} date {rest[0].hex()}"
     return text
@@ -482,6 +501,24 @@ FORMATS = [
     ("verdict",),
 ]
 
+STORES = [
+    ("store", b"/D/x", NOON, b"stored", 0, 256),
+    ("store", b"/D/x", NOON, b"stored", 2, 256),
+    ("store", b"/D/x", NOON, b"stored", 3, 256),
+    ("store", b"/x", NOON, b"stored", 1, 256),
+    ("store", b"/x", NOON, b"", 2, 256),
+    ("store", b"/D", SHORT, b"stored", 9, 255),
+    ("store", b"/D", SHORT, b"stored", 9, 256),
+    ("store", b"/D", NOON, b"stored", 9, 256),
+    ("store", b"/D/E/f/x", NOON, b"stored", 9, 256),
+    ("find", b"/D/x"),
+    ("make_file", b"/D/x", NOON),
+    ("store", b"/D/x", NOON, b"stored", 0, 256),
+    ("write", b"/D/x", 0, digits(1020)),
+    ("store", b"/y", NOON, b"", 9, 256),
+    ("verdict",),
+]
+
 CALLS = [
     *FRESH_IMAGE,
     *TWO_NAMES,
@@ -494,6 +531,7 @@ CALLS = [
     *FULL_ROOT,
     *LOCKS,
     *FORMATS,
+    *STORES,
 ]
 
 

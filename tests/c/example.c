@@ -77,6 +77,30 @@ static void repair(void)
     memcpy(image, sound, sizeof image);
 }
 
+/* The stores of a new file, one page each; before the last the old header is all that a repair needs. */
+static void stores(void)
+{
+    const uint8_t made[8] = {0x20, 0x26, 0x11, 0x15, 0x07, 0x21, 0x05, 0x00};
+    static const uint64_t of_stores[] = {4, 5, 0, 1};
+    uint8_t before[sizeof image], content[300], page[256];
+    uint64_t out[1] = {99};
+
+    memcpy(before, image, sizeof image);
+    memset(content, 0x5A, sizeof content);
+    for (uint64_t i = 0; i < 4; i++) {
+        expect("store of /A/new", zealfs_store(before, sizeof before, PATH("/A/new"), made, 8, content, 300, i, page, 256, out), 0);
+        expect("  page", out[0], of_stores[i]);
+        if (i < 3)
+            memcpy(image + 256 * out[0], page, 256);
+    }
+    expect("store on the pulled cartridge", zealfs_store(IMAGE, PATH("/x"), made, 8, content, 0, 2, page, 256, out), 19 + 256 * 4);
+    expect("repair the pulled cartridge", zealfs_repair(IMAGE), 0);
+    expect("  the old header", memcmp(image, before, 256) == 0, 1);
+    expect("past the last", zealfs_store(IMAGE, PATH("/x"), made, 8, content, 0, 2, page, 256, out), 12);
+    expect("no page", zealfs_store(IMAGE, PATH("/x"), made, 8, content, 0, 2, page, 255, out), 29);
+    memcpy(image, before, sizeof image);
+}
+
 /* The second judge names an owner for each page of a sound image, and of any other nobody. */
 static void audit(void)
 {
@@ -188,6 +212,7 @@ int main(void)
     for (size_t i = 0; i < sizeof damages / sizeof damages[0]; i++)
         judge(&damages[i]);
     repair();
+    stores();
     audit();
     list_all();
     tidy();

@@ -51,6 +51,9 @@ declare! {
     zealfs_remove_directory(image: *mut u8, image_len: usize, path: *const u8, path_len: usize;);
     zealfs_lock(image: *mut u8, image_len: usize, path: *const u8, path_len: usize;);
     zealfs_unlock(image: *mut u8, image_len: usize, path: *const u8, path_len: usize;);
+    zealfs_store(image: *const u8, image_len: usize, path: *const u8, path_len: usize,
+        date: *const u8, date_len: usize, bytes: *const u8, bytes_len: usize, number: u64,
+        page: *mut u8, page_len: usize; out: u64);
     zealfs_repair(image: *mut u8, image_len: usize;);
     zealfs_audit(image: *const u8, image_len: usize; owners: u64);
     zealfs_propose(image: *const u8, image_len: usize, places: *mut u8, places_len: usize;);
@@ -198,6 +201,27 @@ impl Calls for Library {
     fn unlock(&self, image: &mut [u8], path: &[u8]) -> Answer {
         answer(call!(zealfs_unlock(
             image.as_mut_ptr(), image.len(), path.as_ptr(), path.len();)))
+    }
+
+    fn store(
+        &self,
+        image: &[u8],
+        path: &[u8],
+        date: &[u8],
+        content: &[u8],
+        number: u64,
+        page: &mut [u8],
+    ) -> Answer {
+        let mut values = [UNSET; 2];
+        let returned = call!(zealfs_store(
+            image.as_ptr(), image.len(), path.as_ptr(), path.len(),
+            date.as_ptr(), date.len(), content.as_ptr(), content.len(), number,
+            page.as_mut_ptr(), page.len(); values[..1]));
+        check_rest(&values[1..], UNSET);
+        Answer {
+            values: [values[0], 0, 0, 0],
+            ..answer(returned)
+        }
     }
 
     fn repair(&self, image: &mut [u8]) -> Answer {

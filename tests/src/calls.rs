@@ -10,7 +10,7 @@ pub const NAME_BYTES: usize = 16;
 /// The size that a directory answers.
 pub const DIRECTORY_SIZE: u64 = 256;
 /// One more than the highest number of the refusal table.
-pub const NUMBERS: usize = 26;
+pub const NUMBERS: usize = 30;
 
 /// A number of the refusal table, with its place.
 #[derive(Clone, Copy, Debug, PartialEq, Eq)]
@@ -83,7 +83,7 @@ pub struct Answer {
     pub number: u8,
     pub place: [u64; 3],
     /// verdict: pages, free; find: kind, size, locked; list: occupied, kind,
-    /// size, locked; read: count.
+    /// size, locked; read: count; store: the page.
     pub values: [u64; 4],
     pub name: [u8; NAME_BYTES],
     pub date: [u8; DATE_BYTES],
@@ -143,6 +143,14 @@ impl Answer {
     pub fn count(count: u64) -> Answer {
         Answer {
             values: [count, 0, 0, 0],
+            ..Answer::default()
+        }
+    }
+
+    /// The page that a store is for.
+    pub fn page(page: u64) -> Answer {
+        Answer {
+            values: [page, 0, 0, 0],
             ..Answer::default()
         }
     }
@@ -223,6 +231,16 @@ pub trait Calls {
     fn remove_directory(&self, image: &mut [u8], path: &[u8]) -> Answer;
     fn lock(&self, image: &mut [u8], path: &[u8]) -> Answer;
     fn unlock(&self, image: &mut [u8], path: &[u8]) -> Answer;
+    /// The store of that number of a new file with this content (02 §11).
+    fn store(
+        &self,
+        image: &[u8],
+        path: &[u8],
+        date: &[u8],
+        content: &[u8],
+        number: u64,
+        page: &mut [u8],
+    ) -> Answer;
     fn repair(&self, image: &mut [u8]) -> Answer;
     fn audit(&self, image: &[u8]) -> Audit;
 
@@ -235,8 +253,8 @@ pub trait Calls {
     }
 }
 
-/// One call with its arguments. The bytes of a read are what the reader's
-/// buffer holds beforehand.
+/// One call with its arguments. The last bytes of a read and of a store are
+/// what the lent buffer holds beforehand.
 #[derive(Clone, Debug, PartialEq, Eq)]
 pub enum Call {
     Format,
@@ -251,12 +269,14 @@ pub enum Call {
     RemoveDirectory(Vec<u8>),
     Lock(Vec<u8>),
     Unlock(Vec<u8>),
+    /// Path, date, content, the store's number, the lent page.
+    Store(Vec<u8>, Vec<u8>, Vec<u8>, u64, Vec<u8>),
     /// No call of the lists: they start afresh from its result.
     Repair,
 }
 
 /// How many calls there are that lists are made of; they come first.
-pub const CALL_COUNT: usize = 12;
+pub const CALL_COUNT: usize = 13;
 /// How many there are with those that stand outside the lists.
 pub const EVERY_CALL: usize = CALL_COUNT + 1;
 
@@ -274,6 +294,7 @@ pub const CALL_NAMES: [&str; EVERY_CALL] = [
     "remove_directory",
     "lock",
     "unlock",
+    "store",
     "repair",
 ];
 
@@ -293,7 +314,8 @@ impl Call {
             Call::RemoveDirectory(..) => 9,
             Call::Lock(..) => 10,
             Call::Unlock(..) => 11,
-            Call::Repair => 12,
+            Call::Store(..) => 12,
+            Call::Repair => 13,
         }
     }
 
@@ -301,7 +323,8 @@ impl Call {
         CALL_NAMES[self.index()]
     }
 
-    /// Performs the call with `calls`; a read fills the buffer in `self`.
+    /// Performs the call with `calls`; a read and a store fill the buffer in
+    /// `self`.
     pub fn perform(&mut self, calls: &dyn Calls, image: &mut [u8]) -> Answer {
         match self {
             Call::Format => calls.format(image),
@@ -316,6 +339,9 @@ impl Call {
             Call::RemoveDirectory(path) => calls.remove_directory(image, path),
             Call::Lock(path) => calls.lock(image, path),
             Call::Unlock(path) => calls.unlock(image, path),
+            Call::Store(path, date, content, number, page) => {
+                calls.store(image, path, date, content, *number, page)
+            }
             Call::Repair => calls.repair(image),
         }
     }

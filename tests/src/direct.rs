@@ -613,6 +613,78 @@ fn set_lock(image: &mut [u8], path: &[u8], locked: bool) -> Result<Answer, Refus
     Ok(Answer::granted())
 }
 
+/// The lowest free pages of an image, in order.
+fn free_pages(image: &[u8], pages: usize) -> impl Iterator<Item = usize> + '_ {
+    (0..pages).filter(|&page| image[BITMAP_AT + page / 8] >> (page % 8) & 1 == 0)
+}
+
+/// One store, worked out with no copy of the image.
+fn store(
+    image: &[u8],
+    path: &[u8],
+    date: &[u8],
+    content: &[u8],
+    number: u64,
+    buffer: &mut [u8],
+) -> Result<Answer, Refusal> {
+    if buffer.len() != PAGE {
+        return refuse(29);
+    }
+    let sound = judge(image)?;
+    let path = Path::check(path)?;
+    check_date(date)?;
+    let Some((parents, _, name)) = path.split_last() else {
+        return refuse(8);
+    };
+    let entries = walk(image, parents)?;
+    if entries.position(image, &name).is_some() {
+        return refuse(8);
+    }
+    let Some(at) = entries.lowest_empty(image) else {
+        return refuse(9);
+    };
+    if content.len() > sound.free * CONTENT || sound.free == 0 {
+        return refuse(10);
+    }
+    let wanted = pages_of_file(content.len()) as u64;
+    let parent = at / PAGE;
+    let last = if parent == 0 { wanted } else { wanted + 1 };
+    if number > last {
+        return refuse(12);
+    }
+    let mut free = free_pages(image, sound.pages);
+    if number < wanted {
+        let number = number as usize;
+        let page = free.nth(number).expect("pages enough");
+        let is_last = number as u64 + 1 == wanted;
+        let link = if is_last { None } else { free.next() };
+        buffer[0] = link.unwrap_or(0) as u8;
+        let rest = &content[(number * CONTENT).min(content.len())..];
+        let here = &rest[..rest.len().min(CONTENT)];
+        buffer[1..=here.len()].copy_from_slice(here);
+        buffer[1 + here.len()..].fill(0);
+        return Ok(Answer::page(page as u64));
+    }
+    let page = if number == wanted { 0 } else { parent };
+    buffer.copy_from_slice(&image[page * PAGE..(page + 1) * PAGE]);
+    if page == parent {
+        let entry = &mut buffer[at % PAGE..at % PAGE + ENTRY];
+        entry.fill(0);
+        entry[0] = OCCUPIED;
+        entry[1..=NAME_BYTES].copy_from_slice(&name);
+        entry[START] = free.next().expect("pages enough") as u8;
+        entry[SIZE..SIZE + 2].copy_from_slice(&(content.len() as u16).to_le_bytes());
+        entry[DATE..DATE + DATE_BYTES].copy_from_slice(date);
+    }
+    if page == 0 {
+        for taken in free_pages(image, sound.pages).take(wanted as usize) {
+            buffer[BITMAP_AT + taken / 8] |= 1 << (taken % 8);
+        }
+        buffer[3] -= wanted as u8;
+    }
+    Ok(Answer::page(page as u64))
+}
+
 /// After a clean walk the owned pages are marked already, so that bits of lost
 /// pages are cleared and no other but the header's is set.
 fn repair(image: &mut [u8]) -> Result<Answer, Refusal> {
@@ -787,6 +859,18 @@ impl Calls for Direct {
 
     fn unlock(&self, image: &mut [u8], path: &[u8]) -> Answer {
         set_lock(image, path, false).into()
+    }
+
+    fn store(
+        &self,
+        image: &[u8],
+        path: &[u8],
+        date: &[u8],
+        content: &[u8],
+        number: u64,
+        page: &mut [u8],
+    ) -> Answer {
+        store(image, path, date, content, number, page).into()
     }
 
     fn repair(&self, image: &mut [u8]) -> Answer {

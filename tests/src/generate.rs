@@ -42,15 +42,15 @@ const LENGTHS: [usize; 14] = [
 /// order of [`Call::index`].
 const PROFILES: [[usize; CALL_COUNT]; 5] = [
     // Everything.
-    [1, 3, 6, 8, 10, 14, 10, 22, 8, 7, 5, 4],
+    [1, 3, 6, 8, 10, 14, 10, 22, 8, 7, 5, 4, 12],
     // Filling up and making room.
-    [0, 1, 1, 1, 3, 8, 3, 30, 7, 2, 1, 2],
+    [0, 1, 1, 1, 3, 8, 3, 30, 7, 2, 1, 2, 12],
     // Nesting.
-    [0, 1, 3, 4, 1, 4, 24, 3, 2, 5, 1, 1],
+    [0, 1, 3, 4, 1, 4, 24, 3, 2, 5, 1, 1, 5],
     // Making and removing.
-    [0, 1, 2, 3, 1, 14, 14, 3, 9, 9, 3, 2],
+    [0, 1, 2, 3, 1, 14, 14, 3, 9, 9, 3, 2, 6],
     // Looking.
-    [0, 3, 10, 14, 16, 4, 2, 6, 1, 1, 3, 2],
+    [0, 3, 10, 14, 16, 4, 2, 6, 1, 1, 3, 2, 8],
 ];
 
 /// A random list of calls from a random sound image.
@@ -174,7 +174,8 @@ impl<'r> Generator<'r> {
             8 => Call::RemoveFile(self.removed_path(is_file)),
             9 => Call::RemoveDirectory(self.removed_path(is_directory)),
             10 => Call::Lock(self.file_path()),
-            _ => Call::Unlock(self.unlocked_path()),
+            11 => Call::Unlock(self.unlocked_path()),
+            _ => self.store_call(),
         };
         self.replay.step(&mut call.clone());
         call
@@ -200,6 +201,30 @@ impl<'r> Generator<'r> {
             _ => *self.random.pick(&LENGTHS),
         };
         Call::Read(path, position, self.random.bytes(room))
+    }
+
+    fn store_call(&mut self) -> Call {
+        let path = self.new_path();
+        let date = self.date();
+        let length = self.write_length(0, 0);
+        let stores = pages_of_file(length) as u64;
+        let number = match self.random.below(8) {
+            0 => 0,
+            1 => stores,
+            2 => stores + 1,
+            3 => stores + 2,
+            4 => stores.wrapping_sub(1),
+            5 => self.random.below(stores as usize + 1) as u64,
+            6 => self.random.below(4) as u64,
+            _ => self.far_position(stores),
+        };
+        let room = match self.random.below(40) {
+            0 => self.random.below(300),
+            1 => *self.random.pick(&[0, 1, 255, 257, 512, 65_536]),
+            _ => PAGE,
+        };
+        let content = self.random.bytes(length);
+        Call::Store(path, date, content, number, self.random.bytes(room))
     }
 
     fn write_call(&mut self) -> Call {

@@ -149,6 +149,16 @@ fn simpler(call: &Call) -> Vec<Call> {
             let with = |(path, position, bytes)| Call::Write(path, position, bytes);
             simpler_transfer(path, *position, bytes).map(with).collect()
         }
+        Call::Store(path, date, content, number, page) => {
+            let with =
+                |(path, number, content)| Call::Store(path, date.clone(), content, number, page.clone());
+            let simpler_lent = shorter(page).chain(plainer(page));
+            let lent = simpler_lent.map(|page| {
+                Call::Store(path.clone(), date.clone(), content.clone(), *number, page)
+            });
+            let others = simpler_transfer(path, *number, content).map(with);
+            others.chain(lent).collect()
+        }
     }
 }
 
@@ -255,6 +265,16 @@ fn call_text(call: &Call) -> String {
                 "{name} {} at {position} {length} bytes: {}",
                 text(path),
                 hex(bytes)
+            )
+        }
+        Call::Store(path, date, content, number, page) => {
+            let (length, room) = (content.len(), page.len());
+            format!(
+                "{name} {} date {} number {number} {length} bytes: {} into {room}: {}",
+                text(path),
+                hex(date),
+                hex(content),
+                hex(page)
             )
         }
     }

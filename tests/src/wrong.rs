@@ -5,7 +5,7 @@ use crate::calls::{Answer, Audit, Call, Calls, Refusal};
 use crate::misjudge::misjudged;
 use crate::plain::reader::is_allocated;
 use crate::plain::writer::entry_at;
-use crate::plain::{pages_of_image, Plain, BITMAP_AT, CONTENT, ENTRY, PAGE, ROOT_ENTRIES_AT};
+use crate::plain::{pages_of_file, pages_of_image, Plain, BITMAP_AT, CONTENT, ENTRY, PAGE, ROOT_ENTRIES_AT};
 
 /// What is broken.
 #[derive(Clone, Copy, Debug, PartialEq, Eq, PartialOrd)]
@@ -72,6 +72,20 @@ pub enum Fault {
     RepairKeepsCount,
     /// A repair also marks owned pages that are marked as free.
     RepairMarksOwned,
+    /// The header is stored before the content.
+    StoreHeaderFirst,
+    /// The parent's page is stored before the header.
+    StoreParentFirst,
+    /// The last page of a stored file has a link.
+    StoreLinksOn,
+    /// What stood on a page stays behind the last byte that is stored there.
+    StoreKeepsRest,
+    /// The number past the last store is told before want of pages.
+    StorePastBeforeFull,
+    /// Every content page is stored on the first free one.
+    StoreFirstPage,
+    /// A refused store empties the buffer.
+    StoreEmptiesBuffer,
     /// The second judge names each owner one page on.
     OwnerOnePageOn,
     /// The second judge trusts byte 3.
@@ -99,7 +113,7 @@ pub enum Fault {
 }
 
 /// All faults.
-pub const FAULTS: [Fault; 42] = [
+pub const FAULTS: [Fault; 49] = [
     Fault::LeadingZeros,
     Fault::TrustedFreeCount,
     Fault::WholeBitmap,
@@ -131,6 +145,13 @@ pub const FAULTS: [Fault; 42] = [
     Fault::RepairLeavesBit,
     Fault::RepairKeepsCount,
     Fault::RepairMarksOwned,
+    Fault::StoreHeaderFirst,
+    Fault::StoreParentFirst,
+    Fault::StoreLinksOn,
+    Fault::StoreKeepsRest,
+    Fault::StorePastBeforeFull,
+    Fault::StoreFirstPage,
+    Fault::StoreEmptiesBuffer,
     Fault::OwnerOnePageOn,
     Fault::AuditTrustsCount,
     Fault::TidyLeavesBits,
@@ -464,6 +485,49 @@ impl Calls for Wrong {
 
     fn unlock(&self, image: &mut [u8], path: &[u8]) -> Answer {
         self.perform(image, Call::Unlock(path.to_vec())).0
+    }
+
+    fn store(
+        &self,
+        image: &[u8],
+        path: &[u8],
+        date: &[u8],
+        content: &[u8],
+        number: u64,
+        page: &mut [u8],
+    ) -> Answer {
+        let pages = pages_of_file(content.len()) as u64;
+        let asked = match self.0 {
+            Fault::StoreHeaderFirst if number == 0 => pages,
+            Fault::StoreHeaderFirst if number <= pages => number - 1,
+            Fault::StoreParentFirst if number == pages => pages + 1,
+            Fault::StoreParentFirst if number == pages + 1 => pages,
+            _ => number,
+        };
+        let right = |asked, page: &mut [u8]| Plain.store(image, path, date, content, asked, page);
+        let before = page.to_vec();
+        let mut answer = right(asked, page);
+        if answer.number == 12 {
+            // There is no parent's page to store first.
+            answer = right(number, page);
+        }
+        let at = answer.values[0] as usize;
+        match self.0 {
+            Fault::StoreLinksOn if answer.is_granted() && number + 1 == pages => page[0] = 1,
+            Fault::StoreKeepsRest if answer.is_granted() && number + 1 == pages => {
+                let kept = 1 + content.len() - (pages as usize - 1) * CONTENT;
+                page[kept..].copy_from_slice(&image[at * PAGE + kept..(at + 1) * PAGE]);
+            }
+            Fault::StorePastBeforeFull if answer.number == 10 && number > pages + 1 => {
+                answer = Answer::refused(Refusal::number(12));
+            }
+            Fault::StoreFirstPage if answer.is_granted() && number < pages => {
+                answer = right(0, &mut before.clone());
+            }
+            Fault::StoreEmptiesBuffer if !answer.is_granted() => page.fill(0),
+            _ => {}
+        }
+        answer
     }
 
     fn repair(&self, image: &mut [u8]) -> Answer {

@@ -214,7 +214,7 @@ fn in_family(call: &Call, family: &[u8], changes: bool) -> Option<Call> {
         Call::RemoveDirectory(at) => path(&at).map(Call::RemoveDirectory),
         Call::Lock(at) => path(&at).map(Call::Lock),
         Call::Unlock(at) => path(&at).map(Call::Unlock),
-        Call::Format | Call::Verdict | Call::Repair => None,
+        Call::Format | Call::Verdict | Call::Store(..) | Call::Repair => None,
     }
 }
 

@@ -27,6 +27,7 @@ const POSSIBLE: [&[usize]; CALL_COUNT] = [
     &[0, 4, 5, 6, 13, 14],
     &[0, 4, 5, 6, 7],
     &[0, 4, 5, 6, 7],
+    &[0, 4, 5, 6, 8, 9, 10, 11, 12, 29],
 ];
 
 fn check(origin: &Origin, scenario: &Scenario, subject: &Subject, tally: &mut Tally) {

@@ -18,6 +18,7 @@ use Rattle.model.specs.Entry.{entries, Entry, vacant, aFile, aDirectory, entryA
 use Rattle.model.specs.Sound.{sound, pagesAt, reachedBy, reached, reachedEntries, owners}
 use Rattle.model.specs.Image.{treeOf}
 use Rattle.model.specs.Call.{verdict}
+use Rattle.model.specs.Refusal.{settle}
 use Rattle.model.specs.Meaning.{isFormat, answer}
 use Rattle.model.specs.Demands as Model
 use Rattle.laws.proofs.Facts.{Facts, valid-sized, sound-facts}
@@ -93,7 +94,7 @@ reached-far (suc d) b p at m =
 -- ---- the verdict
 
 alike : (b : Bytes) → sound b ≡ isGranted (answer verdict b)
-unfolding isFormat
+unfolding isFormat settle
 alike b = go (sound b) refl
   where
     sounds : T (sound b) → isGranted (answer verdict b) ≡ true
@@ -106,7 +107,7 @@ alike b = go (sound b) refl
 
     go : (c : Bool) → sound b ≡ c → sound b ≡ isGranted (answer verdict b)
     go true e = e ∙ sym (sounds (subst (λ (x : Bool). T x) (sym e) tt))
-    go false e = e ∙ sym (stops (demand-2 .unsound verdict b tt (subst (λ (x : Bool). T (not x)) (sym e) tt)))
+    go false e = e ∙ sym (stops (demand-2 .unsound verdict b tt refl (subst (λ (x : Bool). T (not x)) (sym e) tt)))
 
 pub audit-demand : AuditDemand
 unfolding ownerOf

@@ -189,6 +189,37 @@ fn locks(image: &mut Image) {
     shown::verdict(image);
 }
 
+// A store into a page of its own.
+fn store_page(image: &Image, path: &[u8], date: &[u8], content: &[u8], number: usize) {
+    let mut page = [0u8; 256];
+    shown::store(image, path, date, content, number, &mut page);
+}
+
+// A store into one byte less.
+fn store_short(image: &Image, path: &[u8], date: &[u8], content: &[u8], number: usize) {
+    let mut page = [0u8; 255];
+    shown::store(image, path, date, content, number, &mut page);
+}
+
+// A store changes nothing. 29 is given before all, and 12 after 10.
+fn stores(image: &mut Image) {
+    store_page(image, b"/D/x", &NOON, b"stored", 0);
+    store_page(image, b"/D/x", &NOON, b"stored", 2);
+    store_page(image, b"/D/x", &NOON, b"stored", 3);
+    store_page(image, b"/x", &NOON, b"stored", 1);
+    store_page(image, b"/x", &NOON, b"", 2);
+    store_short(image, b"/D", &SHORT, b"stored", 9);
+    store_page(image, b"/D", &SHORT, b"stored", 9);
+    store_page(image, b"/D", &NOON, b"stored", 9);
+    store_page(image, b"/D/E/f/x", &NOON, b"stored", 9);
+    shown::find(image, b"/D/x");
+    shown::make_file(image, b"/D/x", &NOON);
+    store_page(image, b"/D/x", &NOON, b"stored", 0);
+    shown::write_digits(image, b"/D/x", 0, 1020);
+    store_page(image, b"/y", &NOON, b"", 9);
+    shown::verdict(image);
+}
+
 fn formats(image: &mut Image) {
     shown::format(image);
     shown::verdict(image);
@@ -219,4 +250,5 @@ fn main() {
     full_root(&mut image);
     locks(&mut image);
     formats(&mut image);
+    stores(&mut image);
 }

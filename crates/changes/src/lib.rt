@@ -110,7 +110,7 @@ fn size_bytes(size: usize) -> [u8; 2]
 }
 
 // The bytes of an entry whose start page is yet to come. What is not written stays 0: the start page, and the reserved bytes at the end.
-fn new_entry(flags: u8, name: &[u8], size: usize, date: &[u8]) -> [u8; 32]
+pub fn new_entry(flags: u8, name: &[u8], size: usize, date: &[u8]) -> [u8; 32]
     requires { ⌜ (length (now name) ≡ 16) × (length (now date) ≡ 8) × (size < 65536) ⌝ }
     ensures { λ r. ⌜ r ≡ newEntry flags (now (name .entry)) 0 size (now (date .entry)) ⌝ }
 {

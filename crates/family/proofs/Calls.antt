@@ -10,13 +10,32 @@ use Rattle.volume.specs.Bytes.{Bytes}
 use Rattle.model.specs.Tree.{Row, Tree, needs, freeNumber, lookup}
 use Rattle.model.specs.Path.{Name, Path, pathOf, isNoPath, parents, names}
 use Rattle.model.specs.Walk.{Walked, arrived, walk, nodeNamed, inWalked, walkTo, changeAt}
-use Rattle.model.specs.Call.{Call, find, list, read, makeFile, makeDirectory, write, removeFile, removeDirectory, setLock, bufferBefore, Refusal, refusal, refused, granted}
+use Rattle.model.specs.Call.{Call, find, list, read, makeFile, makeDirectory, write, removeFile, removeDirectory, setLock, Told, bufferBefore, Refusal, refusal, Answer, refused, granted}
 use Rattle.model.specs.Refusal.{Line, pathLine, makeLines, earlier, later, wanted, refusals, settle, walkedDirectory}
-use Rattle.model.specs.Meaning.{told, filled, inParent, changed, treeAnswer, treeBuffer, treeAfter}
+use Rattle.model.specs.Meaning.{shown, lentShown, told, filled, inParent, changed, treeAnswer, treeBuffer, treeAfter}
 use Rattle.laws.proofs.Lines.{settle-holds, settle-both}
 use Rattle.family.specs.Family.{Below, Looks, finds, reads, lists, listsBelow, Works, looks, makesFile, makesDirectory, writes, removesFile, removesDirectory, locks}
 use Rattle.family.proofs.Onward.{Goes, nowhere, on, goes-on}
 use Rattle.family.proofs.Rows.{walk-append, change-append, walk-changed, needs-changed}
+
+-- None of these calls is a store: all that it answers, and its whole buffer, is what the tree says.
+abbrev pub AllShown : Call → Type 0
+AllShown c = ((a : Answer (Told c)) → shown c a ≡ a) × ((x : Bytes) → lentShown c x ≡ x)
+
+pub look-shown : (family : Bytes) (c : Call) → Looks family c → AllShown c
+look-shown family c (finds path b) = (λ a. refl, λ x. refl)
+look-shown family c (reads path at room b) = (λ a. refl, λ x. refl)
+look-shown family c (lists i) = (λ a. refl, λ x. refl)
+look-shown family c (listsBelow path i b) = (λ a. refl, λ x. refl)
+
+pub work-shown : (family : Bytes) (c : Call) → Works family c → AllShown c
+work-shown family c (looks d l) = look-shown family d l
+work-shown family c (makesFile path date b) = (λ a. refl, λ x. refl)
+work-shown family c (makesDirectory path date b) = (λ a. refl, λ x. refl)
+work-shown family c (writes path at v b) = (λ a. refl, λ x. refl)
+work-shown family c (removesFile path b) = (λ a. refl, λ x. refl)
+work-shown family c (removesDirectory path b) = (λ a. refl, λ x. refl)
+work-shown family c (locks locked path b) = (λ a. refl, λ x. refl)
 
 -- two trees in which a path is a directory with the row s
 module _ (family : Bytes) (isPath : T (not (isNoPath (pathOf family)))) (s : Row) (t u : Tree)
@@ -76,7 +95,7 @@ module _ (family : Bytes) (isPath : T (not (isNoPath (pathOf family)))) (s : Row
   unfolding treeAnswer treeBuffer treeAfter
   agrees c e₁ e₂ e₃ m = record {
     answered = λ i. settle (e₁ i) refused (granted (e₂ i));
-    lent = λ i. settle (e₁ i) (λ f. bufferBefore c) (e₃ i);
+    lent = λ i. settle (e₁ i) (λ f. lentShown c (bufferBefore c)) (e₃ i);
     moved = subst (λ (ls : List Line). Moved (settle (refusals c t) (λ f. t) (changed c t)) (settle ls (λ f. u) (changed c u))) e₁
         (settle-both Moved (refusals c t) (λ f. t) (changed c t) (λ f. u) (changed c u) (λ f. stays) (λ e. m));
   }
@@ -86,7 +105,7 @@ module _ (family : Bytes) (isPath : T (not (isNoPath (pathOf family)))) (s : Row
   unfolding treeAnswer treeBuffer treeAfter
   no-path c path ls ms h e₁ e₂ = record {
     answered = stopped refused (granted (told c t)) (granted (told c u));
-    lent = stopped (λ f. bufferBefore c) (filled c t) (filled c u);
+    lent = stopped (λ f. lentShown c (bufferBefore c)) (filled c t) (filled c u);
     moved = subst (Moved (treeAfter c t)) (sym (stop u e₂ (λ f. u) (changed c u))) (subst (λ (x : Tree). Moved x u) (sym (stop t e₁ (λ f. t) (changed c t))) stays);
   }
     where

@@ -18,7 +18,7 @@ use Rattle.laws.proofs.Counting.{free-sum, free-number}
 use Rattle.laws.proofs.Steps.{as-tree}
 use Rattle.laws.proofs.Lists.{length-kept}
 use Rattle.family.specs.Family.{Looks, Works, Each, Holds, LooksAlike, WorksAlike}
-use Rattle.family.proofs.Calls.{Agrees, look, work}
+use Rattle.family.proofs.Calls.{AllShown, look-shown, work-shown, Agrees, look, work}
 
 module _ (family : Bytes) where
   -- one call on two images
@@ -41,15 +41,15 @@ module _ (family : Bytes) where
       let long = ap (λ (n : ℕ). n / pageSize) (length-kept c b) in
       omega (arith, before, later, tree, long, e)
 
-  step : (c : Call) (s : Row) (b₁ b₂ : Bytes) (h₁ : Holds b₁ family s) (h₂ : Holds b₂ family s)
+  step : (c : Call) → AllShown c → (s : Row) (b₁ b₂ : Bytes) (h₁ : Holds b₁ family s) (h₂ : Holds b₂ family s)
       → Agrees family (h₁ .isPath) s (treeOf b₁) (treeOf b₂) (h₁ .leads) (h₂ .leads) c → Alike₁ c b₁ b₂
-  step c s b₁ b₂ h₁ h₂ g =
+  step c w s b₁ b₂ h₁ h₂ g =
       let a₁ = as-tree c b₁ (h₁ .isSound) in
       let a₂ = as-tree c b₂ (h₂ .isSound) in
       let m = g .moved in
       record {
-        answered = a₁ .answered ∙ g .answered ∙ sym (a₂ .answered);
-        lent = a₁ .lent ∙ g .lent ∙ sym (a₂ .lent);
+        answered = sym (w .0 (answer c b₁)) ∙ a₁ .answered ∙ g .answered ∙ sym (a₂ .answered) ∙ w .0 (answer c b₂);
+        lent = sym (w .1 (bufferAfter c b₁)) ∙ a₁ .lent ∙ g .lent ∙ sym (a₂ .lent) ∙ w .1 (bufferAfter c b₂);
         row = m .0;
         first = record { isSound = a₁ .isSound; isPath = h₁ .isPath; leads = ap (walkedDirectory family) (a₁ .means) ∙ m .1 };
         second = record { isSound = a₂ .isSound; isPath = h₂ .isPath; leads = ap (walkedDirectory family) (a₂ .means) ∙ m .2 };
@@ -85,7 +85,7 @@ module _ (family : Bytes) where
 pub looks-alike : LooksAlike
 looks-alike family row b₁ b₂ h₁ h₂ cs l rs₁ rs₂ after₁ after₂ run₁ run₂ =
     all-alike family (Looks family) (λ x y. Unit {0})
-    (λ c k s x₁ x₂ k₁ k₂ q. (step family c s x₁ x₂ k₁ k₂ (look family (k₁ .isPath) s (treeOf x₁) (treeOf x₂) (k₁ .leads) (k₂ .leads) c k), tt))
+    (λ c k s x₁ x₂ k₁ k₂ q. (step family c (look-shown family c k) s x₁ x₂ k₁ k₂ (look family (k₁ .isPath) s (treeOf x₁) (treeOf x₂) (k₁ .leads) (k₂ .leads) c k), tt))
     cs l row b₁ b₂ h₁ h₂ tt rs₁ rs₂ after₁ after₂ run₁ run₂ .0
 
 pub works-alike : WorksAlike
@@ -93,7 +93,7 @@ works-alike family row b₁ b₂ h₁ h₂ free cs l rs₁ rs₂ after₁ after�
     let r = all-alike family (Works family) (λ x y. freeCount x ≡ freeCount y)
     (λ c k s x₁ x₂ k₁ k₂ q.
     let number = free-number (sound-facts (k₁ .isSound)) ∙ q ∙ sym (free-number (sound-facts (k₂ .isSound))) in
-    let a = step family c s x₁ x₂ k₁ k₂ (work family (k₁ .isPath) s (treeOf x₁) (treeOf x₂) (k₁ .leads) (k₂ .leads) number c k) in
+    let a = step family c (work-shown family c k) s x₁ x₂ k₁ k₂ (work family (k₁ .isPath) s (treeOf x₁) (treeOf x₂) (k₁ .leads) (k₂ .leads) number c k) in
     (a, a .free q))
     cs l row b₁ b₂ h₁ h₂ free rs₁ rs₂ after₁ after₂ run₁ run₂ in
     record { answered = r .0; row = r .1; first = r .2; second = r .3; free = r .4 }

@@ -26,7 +26,7 @@ use Rattle.model.specs.Path.{Name, Path, pathOf}
 use Rattle.model.specs.Image.{treeOf}
 use Rattle.model.specs.Walk.{entryPosition}
 use Rattle.model.specs.Effect.{formatted, made, rewritten, written, removed, withLock, relocked}
-use Rattle.model.specs.Call.{Call, format, verdict, find, list, read, makeFile, makeDirectory, write, removeFile, removeDirectory, setLock, refusal}
+use Rattle.model.specs.Call.{Call, format, verdict, find, list, read, makeFile, makeDirectory, write, removeFile, removeDirectory, setLock, store, refusal}
 use Rattle.model.specs.Refusal.{wanted, earlier, later, refusals, size, Passes}
 use Rattle.model.specs.Meaning.{isFormat, lines, effect, after}
 use Rattle.model.proofs.Version1.{home}
@@ -222,6 +222,7 @@ SmallCall (write path at v) = Small v
 SmallCall (removeFile path) = Unit {0}
 SmallCall (removeDirectory path) = Unit {0}
 SmallCall (setLock locked path) = Unit {0}
+SmallCall (store path date v k buffer) = Unit {0}
 
 small-effect : (c : Call) (b : Bytes) → Small b → SmallCall c → Passes (lines c b) → Small (effect c b)
 unfolding effect lines isFormat refusals earlier later wanted relocked
@@ -252,6 +253,7 @@ small-effect (removeDirectory path) b s h e =
     small-removed f (remove-directory-passed f (g .1)) s
 small-effect (setLock locked path) b s h e =
     let at = entryPosition b (pathOf path) in small-set b at (withLock locked (byteAt b at)) (lock-small locked (byteAt b at) (s at)) s
+small-effect (store path date v k buffer) b s h e = s
 
 pub small-after : (c : Call) (b : Bytes) → Small b → SmallCall c → Small (after c b)
 unfolding after

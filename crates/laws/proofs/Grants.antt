@@ -10,7 +10,7 @@ use Rattle.model.specs.Tree.{Row, file, dir, emptyRow, fill, rewrite, relock, v
 use Rattle.model.specs.Path.{Path, pathOf, lastName}
 use Rattle.model.specs.Image.{treeOf}
 use Rattle.model.specs.Effect.{fileMade, directoryMade, written, removed, relocked}
-use Rattle.model.specs.Call.{Call, format, verdict, find, list, read, makeFile, makeDirectory, write, removeFile, removeDirectory, setLock, refusal}
+use Rattle.model.specs.Call.{Call, format, verdict, find, list, read, makeFile, makeDirectory, write, removeFile, removeDirectory, setLock, store, refusal}
 use Rattle.model.specs.Refusal.{node, contentIn, wanted, earlier, later, refusals, Passes}
 use Rattle.model.specs.Meaning.{inParent, changed, effect}
 use Rattle.laws.proofs.Facts.{sound-facts}
@@ -54,3 +54,4 @@ granted-law (setLock locked path) b h e =
     let r = lock-passed (sound-facts h) locked e in
     subst (λ (p : Path). Says b p (relock (lastName p) locked) (relocked p locked b)) (sym (r .is))
     (locked-tree (sound-facts h) (r .ns) (r .n) locked (r .reached) (r .entered) (r .isFile))
+granted-law (store path date v k buffer) b h e = (h, refl)

@@ -6,7 +6,7 @@ use Rattle.volume.specs.Bytes.{Bytes}
 use Rattle.model.specs.Sound.{sound}
 use Rattle.model.specs.Image.{treeOf}
 use Rattle.model.specs.Demands.{Demand1, Demand2, Demand3, soundly, freshly, Chains, LockTwice}
-use Rattle.laws.proofs.Steps.{as-tree, untouched, unsound, after-format, format-answers}
+use Rattle.laws.proofs.Steps.{as-tree, untouched, unsound, buffer-refused, after-format, format-answers}
 use Rattle.laws.proofs.Judged.{judge-sound}
 use Rattle.laws.proofs.Lists.{demanded}
 use Rattle.laws.proofs.Exact.{exact-names}
@@ -18,7 +18,7 @@ pub demand-1 : Demand1
 demand-1 = untouched
 
 pub demand-2 : Demand2
-demand-2 = record { faultless = judge-sound; unsound = unsound; asTree = as-tree; formats = format-answers; fresh = after-format; onlyTouched = only-touched; names = exact-names }
+demand-2 = record { faultless = judge-sound; unsound = unsound; buffers = buffer-refused; asTree = as-tree; formats = format-answers; fresh = after-format; onlyTouched = only-touched; names = exact-names }
 
 pub demand-3 : Demand3
 demand-3 b t (soundly h e) cs rs b′ run = demanded cs b t h e rs b′ run

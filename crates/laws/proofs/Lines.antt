@@ -2,15 +2,17 @@
 use mathlib.Core.Path.{_≡_, refl, sym, ap, subst, _∙_}
 use mathlib.Core.Logic.{_↔_}
 use Prim.Native.Nat.{ℕ, suc}
+use native.Mathlib.Omega.{arith}
 use mathlib.Core.Bool.{Bool, true, false, not, _||_, true≢false}
 use mathlib.Core.Option.{none, some, Option·some-ne-none}
 use mathlib.Core.List.{List, [], _∷_, _++_, map}
 use lib.Dec.{T, eqb, ltb, eqb→eq}
+use borrow.Author.Tests.{le-ltb}
 use Rattle.volume.specs.Bytes.{if_then_else_}
 use Rattle.volume.specs.Lists.{all, keep, member}
 use Rattle.volume.proofs.Tests.{and-both, both-and}
 use Rattle.model.specs.Call.{Refusal, refusal, Answer, refused, granted}
-use Rattle.model.specs.Refusal.{Line, settle, Passes, tableOrder}
+use Rattle.model.specs.Refusal.{Line, settle, Passes}
 
 -- ---- passing
 
@@ -21,6 +23,19 @@ passed l ls e = go (l .0) e
     go : (c : Bool) → (if c then some (l .1) else settle ls some none) ≡ none → T (not c) × Passes ls
     go true u = absurd (Option·some-ne-none (l .1) u)
     go false u = (tt, u)
+
+pub passes-right : (ls ms : List Line) → Passes (ls ++ ms) → Passes ms
+passes-right [] ms e = e
+passes-right (l ∷ ls) ms e = passes-right ls ms (passed l (ls ++ ms) e .1)
+
+pub passes-left : (ls ms : List Line) → Passes (ls ++ ms) → Passes ls
+unfolding settle
+passes-left [] ms e = refl
+passes-left (l ∷ ls) ms e = go (l .0) e (passes-left ls ms)
+  where
+    go : (c : Bool) → (if c then some (l .1) else settle (ls ++ ms) some none) ≡ none → (Passes (ls ++ ms) → Passes ls) → (if c then some (l .1) else settle ls some none) ≡ none
+    go true u next = u
+    go false u next = next u
 
 module _ {A : Type 0} (f : Refusal → A) where
   pub settle-skip : (c : Bool) (r : Refusal) (ls : List Line) (x : A) → T (not c) → settle ((c, r) ∷ ls) f x ≡ settle ls f x
@@ -37,6 +52,16 @@ module _ {A : Type 0} (f : Refusal → A) where
   unfolding settle
   settle-append [] ms x = refl
   settle-append (l ∷ ls) ms x = ap (λ (y : A). if l .0 then f (l .1) else y) (settle-append ls ms x)
+
+-- what passes settles to what comes after it
+pub settle-open : {A : Type 0} (ls : List Line) (f : Refusal → A) (x : A) → Passes ls → settle ls f x ≡ x
+unfolding settle
+settle-open [] f x e = refl
+settle-open {A} (l ∷ ls) f x e = go (l .0) e (settle-open ls f x)
+  where
+    go : (c : Bool) → (if c then some (l .1) else settle ls some none) ≡ none → (Passes ls → settle ls f x ≡ x) → (if c then f (l .1) else settle ls f x) ≡ x
+    go true u next = absurd (Option·some-ne-none (l .1) u)
+    go false u next = next u
 
 -- two ways to settle the same lines stay related
 pub settle-both : {A B : Type 0} (R : A → B → Type 0) (ls : List Line) (f : Refusal → A) (x : A) (g : Refusal → B) (y : B)
@@ -142,31 +167,28 @@ ten-given {A} (l ∷ ls) c rest x h k =
         (λ u. absurd (let e : s ≡ refusal 10 = cc u in subst (λ (y : Refusal). T (not (eqb (y .number) 10))) e t), λ p. absurd (Option·some-ne-none s (p .0)))
     go false s t next = next
 
--- ---- the order of the table
+-- ---- the order of a table
 
--- how many numbers stand above this one
+-- how many numbers of a table stand above this one
 unfoldable pub rankIn : List ℕ → ℕ → ℕ
 rankIn [] n = 0
 rankIn (m ∷ ms) n = let rest = rankIn ms n in if eqb m n then 0 else suc rest
-
-abbrev pub rank : ℕ → ℕ
-rank n = rankIn tableOrder n
 
 unfoldable pub rising : List ℕ → Bool
 rising [] = true
 rising (x ∷ []) = true
 rising (x ∷ y ∷ ys) = let rest = rising (y ∷ ys) in if ltb x y then rest else false
 
--- the numbers stand in the paper's order, none twice
-abbrev pub InOrder : List ℕ → Type 0
-InOrder ns = T (rising (map rank ns))
+-- the numbers stand in the table's order, none twice
+abbrev pub InOrder : (table : List ℕ) → List ℕ → Type 0
+InOrder table ns = T (rising (map (rankIn table) ns))
 
 -- those above number 10 in the table, and those below it
-abbrev pub aboveTen : List ℕ → List ℕ
-aboveTen ns = keep (λ n. ltb (rank n) (rank 10)) ns
+abbrev pub aboveTen : (table : List ℕ) → List ℕ → List ℕ
+aboveTen table ns = keep (λ n. ltb (rankIn table n) (rankIn table 10)) ns
 
-abbrev pub belowTen : List ℕ → List ℕ
-belowTen ns = keep (λ n. ltb (rank 10) (rank n)) ns
+abbrev pub belowTen : (table : List ℕ) → List ℕ → List ℕ
+belowTen table ns = keep (λ n. ltb (rankIn table 10) (rankIn table n)) ns
 
 -- a test that 10 fails keeps no 10
 without-ten : (f : ℕ → Bool) → f 10 ≡ false → (ns : List ℕ) → T (all (λ n. not (eqb n 10)) (keep f ns))
@@ -182,10 +204,14 @@ without-ten f fails (n ∷ ns) = go (f n) refl (without-ten f fails ns)
     go true e h = both-and (not (eqb n 10)) (all (λ m. not (eqb m 10)) (keep f ns)) (apart (eqb n 10) refl e) h
     go false e h = h
 
-pub above-ten : (ls : List Line) (ns : List ℕ) → lineNumbers ls ≡ aboveTen ns → NoTen ls
-unfolding rankIn tableOrder
-above-ten ls ns e = subst (λ (ms : List ℕ). T (all (λ n. not (eqb n 10)) ms)) (sym e) (without-ten (λ n. ltb (rank n) (rank 10)) refl ns)
+-- 10 itself stands neither above nor below 10
+ten-apart : (table : List ℕ) → ltb (rankIn table 10) (rankIn table 10) ≡ false
+ten-apart table = le-ltb (rankIn table 10) (rankIn table 10) (omega arith)
 
-pub below-ten : (ls : List Line) (ns : List ℕ) → lineNumbers ls ≡ belowTen ns → NoTen ls
-unfolding rankIn tableOrder
-below-ten ls ns e = subst (λ (ms : List ℕ). T (all (λ n. not (eqb n 10)) ms)) (sym e) (without-ten (λ n. ltb (rank 10) (rank n)) refl ns)
+pub above-ten : (table : List ℕ) (ls : List Line) (ns : List ℕ) → lineNumbers ls ≡ aboveTen table ns → NoTen ls
+above-ten table ls ns e =
+    subst (λ (ms : List ℕ). T (all (λ n. not (eqb n 10)) ms)) (sym e) (without-ten (λ n. ltb (rankIn table n) (rankIn table 10)) (ten-apart table) ns)
+
+pub below-ten : (table : List ℕ) (ls : List Line) (ns : List ℕ) → lineNumbers ls ≡ belowTen table ns → NoTen ls
+below-ten table ls ns e =
+    subst (λ (ms : List ℕ). T (all (λ n. not (eqb n 10)) ms)) (sym e) (without-ten (λ n. ltb (rankIn table 10) (rankIn table n)) (ten-apart table) ns)

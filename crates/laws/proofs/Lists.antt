@@ -1,7 +1,7 @@
 -- Lists of calls: each step keeps the image sound and the tree in step with the replay, so the list does; what a sound image says of its pages
 -- and counts then holds at the end.
 use mathlib.Core.Path.{_≡_, refl, sym, ap, _∙_, subst}
-use mathlib.Core.Logic.{inl, inr}
+use mathlib.Core.Logic.{_↔_, inl, inr}
 use Prim.Native.Nat.{ℕ, _≤_, _<_}
 use native.Mathlib.Omega.{arith}
 use mathlib.Core.Bool.{Bool, true, false, not}
@@ -17,15 +17,15 @@ use Rattle.model.specs.Layout.{version1, pageCount, validLength}
 use Rattle.model.specs.Sound.{pagesAt, reachedEntries, sound, owners}
 use Rattle.model.specs.Tree.{Tree, freeNumber}
 use Rattle.model.specs.Image.{treeOf}
-use Rattle.model.specs.Call.{Call, format, verdict, find, list, read, makeFile, makeDirectory, write, removeFile, removeDirectory, setLock, Verdict, Answer, granted}
+use Rattle.model.specs.Call.{Call, format, verdict, find, list, read, makeFile, makeDirectory, write, removeFile, removeDirectory, setLock, store, Told, Verdict, Refusal, refusal, Answer, refused, granted}
 use Rattle.model.specs.Refusal.{earlier, later, wanted, refusals, settle, Passes}
-use Rattle.model.specs.Meaning.{told, inParent, changed, treeAnswer, treeBuffer, treeAfter, isFormat, lines, effect, answer, after, bufferAfter}
+use Rattle.model.specs.Meaning.{withoutPage, shown, lentShown, told, inParent, changed, treeAnswer, treeBuffer, treeAfter, isFormat, lines, effect, answer, after, bufferAfter}
 use Rattle.model.specs.Demands.{Results, Promised, Runs, replay, replayResults, Owned, isFree, isOwned, Account, Demanded, AsTree}
 use Rattle.laws.proofs.Facts.{Facts, sound-facts, valid-sized}
 use Rattle.laws.proofs.Counting.{free-sum, free-number}
 use Rattle.laws.proofs.Format.{formatted-length}
 use Rattle.laws.proofs.Grants.{granted-law}
-use Rattle.laws.proofs.Lines.{passed, settle-both}
+use Rattle.laws.proofs.Lines.{passed, settle-both, not-granted}
 use Rattle.laws.proofs.Passed.{sound-passed}
 use Rattle.laws.proofs.Steps.{as-tree, want-of-pages}
 
@@ -100,6 +100,7 @@ changed-pages (write path at v) t = refl
 changed-pages (removeFile path) t = refl
 changed-pages (removeDirectory path) t = refl
 changed-pages (setLock locked path) t = refl
+changed-pages (store path date v k buffer) t = refl
 
 -- sound images of as many pages are as long
 sound-length : (b b′ : Bytes) → T (sound b) → T (sound b′) → treeOf b′ .pages ≡ treeOf b .pages → length b′ ≡ length b
@@ -128,8 +129,29 @@ length-kept c b = settle-both (λ (x y : Bytes). length x ≡ length b) (lines c
     go (removeFile path) e = other (removeFile path) tt e
     go (removeDirectory path) e = other (removeDirectory path) tt e
     go (setLock locked path) e = other (setLock locked path) tt e
+    go (store path date v k buffer) e = refl
 
 -- ---- the list
+
+-- a refusal is shown whole, and nothing else is shown as one
+shown-refused : (c : Call) (a : Answer (Told c)) (r : Refusal) → (a ≡ refused r) ↔ (shown c a ≡ refused r)
+unfolding withoutPage
+shown-refused format a r = (λ e. e, λ e. e)
+shown-refused verdict a r = (λ e. e, λ e. e)
+shown-refused (find path) a r = (λ e. e, λ e. e)
+shown-refused (list path i) a r = (λ e. e, λ e. e)
+shown-refused (read path at room) a r = (λ e. e, λ e. e)
+shown-refused (makeFile path date) a r = (λ e. e, λ e. e)
+shown-refused (makeDirectory path date) a r = (λ e. e, λ e. e)
+shown-refused (write path at v) a r = (λ e. e, λ e. e)
+shown-refused (removeFile path) a r = (λ e. e, λ e. e)
+shown-refused (removeDirectory path) a r = (λ e. e, λ e. e)
+shown-refused (setLock locked path) a r = (λ e. e, λ e. e)
+shown-refused (store path date v k buffer) a r = go a
+  where
+    go : (x : Answer ℕ) → (x ≡ refused r) ↔ (withoutPage x ≡ refused r)
+    go (refused s) = (λ e. e, λ e. e)
+    go (granted p) = (λ e. absurd (not-granted e), λ e. absurd (not-granted e))
 
 pub demanded : (cs : List Call) (b : Bytes) (t : Tree) → T (sound b) → treeOf b ≡ t → (rs : Results cs) (b′ : Bytes) → Runs b cs rs b′ → Demanded b t cs rs b′
 unfolding replay replayResults
@@ -143,8 +165,8 @@ demanded (c ∷ cs) b t h e rs b′ run =
     let mid : Bytes = run .0 in
     let p : Promised c b (rs .0) mid = run .1 in
     let s : AsTree c b = as-tree c b h in
-    let told-c : rs .0 .answered ≡ treeAnswer c t = p .answered ∙ s .answered ∙ ap (treeAnswer c) e in
-    let lent-c = p .lent ∙ s .lent ∙ ap (treeBuffer c) e in
+    let told-c : shown c (rs .0 .answered) ≡ treeAnswer c t = ap (shown c) (p .answered) ∙ s .answered ∙ ap (treeAnswer c) e in
+    let lent-c = ap (lentShown c) (p .lent) ∙ s .lent ∙ ap (treeBuffer c) e in
     let tree : treeOf mid ≡ treeAfter c t = ap treeOf (p .image) ∙ s .means ∙ ap (treeAfter c) e in
     let r = demanded cs mid (treeAfter c t) (subst (λ (x : Bytes). T (sound x)) (sym (p .image)) (s .isSound)) tree (rs .1) b′ (run .2) in
     let w = want-of-pages c t in
@@ -152,7 +174,7 @@ demanded (c ∷ cs) b t h e rs b′ run =
       account = r .account;
       long = r .long ∙ ap length (p .image) ∙ length-kept c b;
       answered = λ i. (record { answered = told-c i; lent = lent-c i }, r .answered i);
-      wantOfPages = ((λ u. w .0 (sym told-c ∙ u), λ v. told-c ∙ w .1 v), r .wantOfPages);
+      wantOfPages = ((λ u. w .0 (sym told-c ∙ shown-refused c (rs .0 .answered) (refusal 10) .0 u), λ v. shown-refused c (rs .0 .answered) (refusal 10) .1 (told-c ∙ w .1 v)), r .wantOfPages);
     }
 
 -- every list of calls has a run: what the contracts promise is there

@@ -20,7 +20,7 @@ use Rattle.model.specs.Image.{rowAt, treeOf}
 use Rattle.model.specs.Walk.{Walked, arrived, missing, blocked, walk, walkTo, arrivedOr, parentPage, entryPosition}
 use Rattle.model.specs.Effect.{lowestVacant, made}
 use Rattle.model.specs.Call.{Call, write, removeFile, removeDirectory, setLock, Refusal, refusal}
-use Rattle.model.specs.Refusal.{Line, isMissing, isBlocked, isThere, isDirectoryNode, contentIn, rowIn, node, size, wanted, makeLines, earlier, later, refusals, Passes}
+use Rattle.model.specs.Refusal.{Line, isMissing, isBlocked, isThere, isDirectoryNode, contentIn, rowIn, node, size, wanted, bufferLines, makeLines, earlier, later, refusals, Passes}
 use Rattle.model.specs.Meaning.{soundLine, imageLines, isFormat, lines}
 use Rattle.laws.proofs.Facts.{Facts}
 use Rattle.laws.proofs.Counting.{free-number}
@@ -28,7 +28,7 @@ use Rattle.laws.proofs.Focus.{named-found}
 use Rattle.laws.proofs.Walks.{nodeOf, Target, target, last-entered}
 use Rattle.laws.proofs.Make.{Place, Clear, place-of, madeAt}
 use Rattle.laws.proofs.Write.{isFileEntry, node-file, file-content, file-size}
-use Rattle.laws.proofs.Lines.{passed}
+use Rattle.laws.proofs.Lines.{passed, passes-right}
 use Rattle.laws.proofs.Names.{last-legal, date-length}
 
 pub image-passed : (b : Bytes) (ls : List Line) → Passes (imageLines b ++ ls) → T (sound b) × Passes ls
@@ -41,7 +41,7 @@ image-passed b ls e =
 pub sound-passed : (c : Call) (b : Bytes) → T (not (isFormat c)) → Passes (lines c b) → T (sound b) × Passes (refusals c (treeOf b))
 unfolding lines
 sound-passed c b h e =
-    let p1 = passed _ _ e in
+    let p1 = passed _ _ (passes-right (bufferLines c) _ e) in
     let p2 = passed _ _ (subst Passes (if-no (isFormat c) [] _ h) (p1 .1)) in
     let p3 = passed _ _ (p2 .1) in
     (not-not (sound b) (p3 .0), p3 .1)

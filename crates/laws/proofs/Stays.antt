@@ -29,7 +29,7 @@ use Rattle.model.specs.Path.{pathOf}
 use Rattle.model.specs.Image.{treeOf}
 use Rattle.model.specs.Walk.{parentPage, entryPosition}
 use Rattle.model.specs.Effect.{lowestVacant, made, rewritten, written, removed, withLock, relocked}
-use Rattle.model.specs.Call.{Call, format, verdict, find, list, read, makeFile, makeDirectory, write, removeFile, removeDirectory, setLock, refusal}
+use Rattle.model.specs.Call.{Call, format, verdict, find, list, read, makeFile, makeDirectory, write, removeFile, removeDirectory, setLock, store, refusal}
 use Rattle.model.specs.Refusal.{node, size, wanted, earlier, later, refusals, Passes}
 use Rattle.model.specs.Meaning.{isFormat, lines, effect, after}
 use Rattle.model.specs.Touched.{moved, account, bytesOn, lastLink, byMake, byWrite, byRemoval, touched}
@@ -280,6 +280,7 @@ effect-stayed (setLock locked path) {b} n e =
     let g = sound-passed (setLock locked path) b tt e in
     let f = sound-facts (g .0) in
     locked-stayed f locked (lock-passed f locked (g .1))
+effect-stayed (store path date v k buffer) {b} n e = unchanged
 
 stayed : (c : Call) (b : Bytes) → T (not (isFormat c)) → Stayed b (after c b) (touched c b) (moved c b)
 unfolding after
@@ -311,6 +312,7 @@ format-or (write path from v) = inr tt
 format-or (removeFile path) = inr tt
 format-or (removeDirectory path) = inr tt
 format-or (setLock locked path) = inr tt
+format-or (store path date v k buffer) = inr tt
 
 pub only-touched : (c : Call) (b : Bytes) → OnlyTouched c b
 only-touched c b = elim (format-or c) [

@@ -132,6 +132,18 @@ parent {b} f {ns} u v = go (walkOn b ns 0) refl (walk-mirrors b ns (pageCount b)
     go (missing i) q m = absurd (subst (λ (w : Walked Row). T (not (isMissing w))) m u)
     go (blocked i) q m = absurd (subst (λ (w : Walked Row). T (not (isBlocked w))) m v)
 
+-- the parent directory where the walk on the bytes leads to it
+pub parent-at : (b : Bytes) → Facts b → (ns : List Name) (t : ℕ) → walkOn b ns 0 ≡ arrived t → (p : Parent b ns) × (p .t ≡ t)
+unfolding goodDirectory
+parent-at b f ns t q =
+    let m : Mirrors b (pageCount b) 0 ns (arrived t) (walk ns (rowAt (pageCount b) b 0)) =
+    subst (λ (w : Walked ℕ). Mirrors b (pageCount b) 0 ns w (walk ns (rowAt (pageCount b) b 0))) q (walk-mirrors b ns (pageCount b) 0 (f .formed)) in
+    go (m .0) (m .1) (m .2) (m .3)
+  where
+    go : (e : ℕ) → Leads b (pageCount b) 0 ns e t → walk ns (rowAt (pageCount b) b 0) ≡ arrived (rowAt e b t) → T (goodDirectory e b t) → (p : Parent b ns) × (p .t ≡ t)
+    go zero l w g = absurd g
+    go (suc e) l w g = (record { e = e; t = t; leads = l; good = g; page = q; row = w }, refl)
+
 -- ---- the entry that a path leads to
 
 pub record Target (b : Bytes) (ns : List Name) (n : Name) : Type 0 where
@@ -147,6 +159,19 @@ unfolding walkTo inWalked
 walked-last {b} n p =
     ap (λ (w : Walked Row). inWalked w (λ s. nodeNamed n (lookup (n .bytes) s))) (p .row)
     ∙ ap (nodeNamed n) (lookup-named b (p .e) (p .t) (n .bytes))
+
+-- the entry that has the last name
+module _ (b : Bytes) (ns : List Name) (n : Name) (p : Parent b ns) (at : ℕ) (e : entryNamed b (p .t) (n .bytes) ≡ some at) where
+  pub named-node : walkTo (below ns n) (rowAt (pageCount b) b 0) ≡ arrived (nodeOf b (rowAt (p .e) b) (entryAt b at))
+  unfolding nodeNamed
+  named-node = walked-last n p ∙ ap (λ (o : Option ℕ). nodeNamed n (Option·map (λ at. nodeOf b (rowAt (p .e) b) (entryAt b at)) o)) e
+
+  pub named-position : Option·getD (entryNamed b (arrivedOr 0 (walkOn b ns 0)) (n .bytes)) 0 ≡ at
+  unfolding arrivedOr
+  named-position = ap (λ (w : Walked ℕ). Option·getD (entryNamed b (arrivedOr 0 w) (n .bytes)) 0) (p .page) ∙ ap (λ (o : Option ℕ). Option·getD o 0) e
+
+  abbrev pub target-at : Target b ns n
+  target-at = record { above = p; at = at; found = e; node = named-node; position = named-position }
 
 -- the walk on to the last name stops where that of the parents does
 inner-missing : (ns : List Name) (n : Name) (r : Row) → T (not (isMissing (walkTo (below ns n) r))) → T (not (isMissing (walk ns r)))
@@ -187,7 +212,7 @@ last-entered (m ∷ ns) n r s e = go (lookup (m .bytes) r) e (λ u. last-entered
 
 pub target : {b : Bytes} → Facts b → {ns : List Name} {n : Name}
     → T (not (isMissing (walkTo (below ns n) (rowAt (pageCount b) b 0)))) → T (not (isBlocked (walkTo (below ns n) (rowAt (pageCount b) b 0)))) → Target b ns n
-unfolding isMissing nodeNamed arrivedOr
+unfolding isMissing nodeNamed
 target {b} f {ns} {n} u v = go (entryNamed b (p .t) (n .bytes)) refl
   where
     r : Row
@@ -198,10 +223,4 @@ target {b} f {ns} {n} u v = go (entryNamed b (p .t) (n .bytes)) refl
 
     go : (o : Option ℕ) → entryNamed b (p .t) (n .bytes) ≡ o → Target b ns n
     go none e = absurd (subst (λ (w : Walked Node). T (not (isMissing w))) (walked-last n p ∙ ap (λ (o : Option ℕ). nodeNamed n (Option·map (λ at. nodeOf b (rowAt (p .e) b) (entryAt b at)) o)) e) u)
-    go (some at) e = record {
-      above = p;
-      at = at;
-      found = e;
-      node = walked-last n p ∙ ap (λ (o : Option ℕ). nodeNamed n (Option·map (λ at. nodeOf b (rowAt (p .e) b) (entryAt b at)) o)) e;
-      position = ap (λ (w : Walked ℕ). Option·getD (entryNamed b (arrivedOr 0 w) (n .bytes)) 0) (p .page) ∙ ap (λ (o : Option ℕ). Option·getD o 0) e;
-    }
+    go (some at) e = target-at b ns n p at e

@@ -238,14 +238,14 @@ module _ (b : Bytes) (f : Facts b) (ns : List Name) (n : Name) (tg : Target b ns
         let ey : at + 19 ≡ at + 18 + 1 = omega arith in
         ap₂ (λ (p q : ℕ). p + 256 * q) (ap (byteAt b′) ex ∙ x) (ap (byteAt b′) ey ∙ y) ∙ omega arith
 
-    is′ : entryAt b′ at ≡ aFile (isLocked b at) (nameAt b at) (dateAt b at) (startAt b′ at) s
+    pub is′ : entryAt b′ at ≡ aFile (isLocked b at) (nameAt b at) (dateAt b at) (startAt b′ at) s
     is′ =
         file-entry b b′ at isFile (entry-kept at (omega arith) (omega arith) (λ x. omega arith))
         (part-bytes (at + 1) 16 b b′ (write-bytes .size) (λ i l u. entry-kept i (omega arith) (omega arith) (λ x. omega arith)))
         (part-bytes (at + 20) 8 b b′ (write-bytes .size) (λ i l u. entry-kept i (omega arith) (omega arith) (λ x. omega arith)))
         ∙ ap (λ (z : ℕ). aFile (isLocked b at) (nameAt b at) (dateAt b at) (startAt b′ at) z) new-size
 
-    pages′ : chain (link b′) (pagesFor s) (startAt b′ at) ≡ ps ++ qs
+    pub pages′ : chain (link b′) (pagesFor s) (startAt b′ at) ≡ ps ++ qs
     pages′ = ap (λ (m : ℕ). chain (link b′) m (startAt b′ at)) (sym many) ∙ write-bytes .pages
 
     mine′ : own e b′ (entryAt b′ at) ≡ ps ++ qs

@@ -17,6 +17,7 @@ use Rattle.model.specs.Listing.{decimal, newline, treeLines, listingOf, listing
 use Rattle.laws.proofs.Facts.{sound-facts, valid-sized}
 use Rattle.laws.proofs.Counting.{owned-in}
 use Rattle.laws.proofs.Lines.{not-granted}
+use Rattle.model.specs.Refusal.{settle}
 use Rattle.model.specs.Demands.{Unsound, byLength, byHeader, byFault}
 use Rattle.laws.proofs.Lists.{account}
 use Rattle.laws.proofs.Steps.{unsound}
@@ -28,7 +29,7 @@ said (granted v) = v
 
 module _ (b : Bytes) (v : Verdict) (given : granted v ≡ answer verdict b) where
   pub granted-sound : T (sound b)
-  unfolding isFormat
+  unfolding isFormat settle
   granted-sound = go (sound b) refl
     where
       faulty : Unsound verdict b → ⊥
@@ -38,7 +39,7 @@ module _ (b : Bytes) (v : Verdict) (given : granted v ≡ answer verdict b) wher
 
       go : (s : Bool) → sound b ≡ s → T (sound b)
       go true e = subst T (sym e) tt
-      go false e = absurd (faulty (unsound verdict b tt (subst (λ (s : Bool). T (not s)) (sym e) tt)))
+      go false e = absurd (faulty (unsound verdict b tt refl (subst (λ (s : Bool). T (not s)) (sym e) tt)))
 
   pub granted-pages : v .pages ≡ pageCount b
   unfolding treeOf

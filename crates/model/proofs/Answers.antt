@@ -8,13 +8,14 @@ use Rattle.volume.specs.Bytes.{part, put}
 use Rattle.volume.specs.Lists.{keep, upTo}
 use Rattle.model.specs.Name.{legalByte}
 use Rattle.model.specs.Refusal.{tableOrder, ownNumbers}
-use Rattle.model.specs.Call.{format, verdict, find, list, read, makeFile, makeDirectory, write, removeFile, removeDirectory, setLock, isFile, isDirectory, empty, holds, Refusal, refused, granted}
+use Rattle.model.specs.Call.{format, verdict, find, list, read, makeFile, makeDirectory, write, removeFile, removeDirectory, setLock, store, isFile, isDirectory, empty, holds, Refusal, refused, granted}
 use Rattle.model.specs.Image.{treeOf}
 use Rattle.model.specs.Meaning.{told as tells, numbers}
+use Rattle.model.specs.Store.{isNone, storeCount}
 use Rattle.model.specs.Text.{text}
 use Rattle.model.proofs.Run.{computing, Step, Case, _gives_, reads, numbered, refusal, refusalAt, done, sized, answered, shown, Hold, computed, stated, hold}
 use Rattle.model.proofs.Table.{blank}
-use Rattle.model.proofs.Desk.{day1, day2, day3, content, found, entry, whole, header, fresh, one, desk, shelf, far, long}
+use Rattle.model.proofs.Desk.{full, day1, day2, day3, content, found, entry, whole, header, fresh, one, desk, shelf, far, long}
 
 -- ---- the table of numbers
 
@@ -34,6 +35,8 @@ ordered =
     ∷ shown [] [] (λ b. ownNumbers (removeFile [])) (4 ∷ 14 ∷ 5 ∷ 6 ∷ 7 ∷ 25 ∷ [])
     ∷ shown [] [] (λ b. ownNumbers (removeDirectory [])) (4 ∷ 14 ∷ 5 ∷ 6 ∷ 13 ∷ [])
     ∷ shown [] [] (λ b. ownNumbers (setLock true [])) (4 ∷ 5 ∷ 6 ∷ 7 ∷ [])
+    ∷ shown [] [] (λ b. ownNumbers (store [] [] [] 0 [])) (4 ∷ 11 ∷ 5 ∷ 6 ∷ 8 ∷ 9 ∷ 10 ∷ 12 ∷ [])
+    ∷ shown [] [] (λ b. numbers (store [] [] [] 0 [])) (29 ∷ 1 ∷ 2 ∷ 16 ∷ 17 ∷ 18 ∷ 20 ∷ 19 ∷ 3 ∷ 4 ∷ 11 ∷ 5 ∷ 6 ∷ 8 ∷ 9 ∷ 10 ∷ 12 ∷ [])
     ∷ shown [] [] (λ b. numbers (write [] 0 [])) (1 ∷ 2 ∷ 16 ∷ 17 ∷ 18 ∷ 20 ∷ 19 ∷ 3 ∷ 4 ∷ 5 ∷ 6 ∷ 7 ∷ 25 ∷ 12 ∷ 10 ∷ [])
     ∷ []
 
@@ -81,6 +84,7 @@ everyCall r =
     ∷ removeDirectory (text "x") gives refused r
     ∷ setLock true (text "x") gives refused r
     ∷ setLock false (text "x") gives refused r
+    ∷ store (text "x") [] [] 9 (replicate 256 7) gives refused r
     ∷ []
 
 pub judgedFirst : List Case
@@ -114,6 +118,24 @@ judgedFirst =
 pub judgedFirst-hold : Hold judgedFirst
 unfolding computing computed stated judgedFirst everyCall fresh desk far
 judgedFirst-hold = hold judgedFirst refl
+
+-- What a store asks besides (paper 02 §11): 29 stands above all, 12 below 10, and a refused one leaves the buffer as it is. Granted ones are computed in
+-- crates/store_laws.
+pub stores : List Case
+stores =
+    answered fresh (
+    store (text "/x") day1 [] 2 (replicate 256 7) gives refusal 12
+    ∷ store (text "/x") day1 (content 1785) 8 (replicate 256 7) gives refusal 12
+    ∷ store (text "/x") day1 (content 1786) 99 (replicate 256 7) gives refusal 10
+    ∷ store (text "x") [] [] 99 (replicate 255 7) gives refusal 29
+    ∷ [])
+    ∷ answered full (store (text "/A/x") day1 [] 9 (replicate 256 7) gives refusal 10 ∷ store (text "/x") day1 [] 9 (replicate 256 7) gives refusal 9 ∷ [])
+    ∷ answered [] (store [] [] [] 0 [] gives refusal 29 ∷ store [] [] [] 0 (replicate 257 7) gives refusal 29 ∷ [])
+    ∷ []
+
+pub stores-hold : Hold stores
+unfolding computing computed stated stores fresh full isNone storeCount
+stores-hold = hold stores refl
 
 -- ---- paths and walks, on the desk
 

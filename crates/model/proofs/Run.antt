@@ -21,7 +21,7 @@ use Rattle.model.specs.Walk.{enter, walk, nodeNamed, inWalked, walkTo, e
 use Rattle.model.specs.Effect.{formatted, isVacant, lowestVacant, made, rewritten, written, removed, withLock, relocked}
 use Rattle.model.specs.Call.{Call, read, Verdict, Told, bufferBefore, Refusal, Answer, refused, granted}
 use Rattle.model.specs.Refusal.{Line, isMissing, isBlocked, stoppedAt, isThere, isDirectoryNode, isLockedNode, contentIn, rowIn, wanted, makeLines, earlier, later, refusals, settle}
-use Rattle.model.specs.Meaning.{foundAt, listed, told, filled, isFormat, lines, effect, answer, after, bufferAfter}
+use Rattle.model.specs.Meaning.{foundAt, listed, told, filled, isFormat, lines, effect, answer, after, bufferAfter, toldOn, filledOn}
 use Rattle.model.specs.Demands.{Result, Results}
 use Rattle.model.specs.Text.{text}
 
@@ -41,7 +41,7 @@ results (c ∷ cs) b = (record { answered = answer c b; lent = bufferAfter c b }
 unfoldable pub turn : (c : Call) → Bytes → Result c × Bytes
 turn c b =
     settle (lines c b) (λ f. (record { answered = refused f; lent = bufferBefore c }, b))
-    (record { answered = granted (told c (treeOf b)); lent = filled c (treeOf b) }, effect c b)
+    (record { answered = granted (toldOn c b); lent = filledOn c b }, effect c b)
 
 unfoldable pub turns : (cs : List Call) → Bytes → Results cs × Bytes
 turns [] b = (tt, b)
@@ -64,7 +64,7 @@ turn-is : (c : Call) (b : Bytes) → turn c b ≡ (record { answered = answer c 
 unfolding turn answer bufferAfter after
 turn-is c b =
     let stays : Refusal → Result c × Bytes = λ f. (record { answered = refused f; lent = bufferBefore c }, b) in
-    let goes : Result c × Bytes = (record { answered = granted (told c (treeOf b)); lent = filled c (treeOf b) }, effect c b) in
+    let goes : Result c × Bytes = (record { answered = granted (toldOn c b); lent = filledOn c b }, effect c b) in
     let p : turn c b .0 .answered ≡ answer c b = settle-through (λ (r : Result c × Bytes). r .0 .answered) (lines c b) stays goes in
     let q : turn c b .0 .lent ≡ bufferAfter c b = settle-through (λ (r : Result c × Bytes). r .0 .lent) (lines c b) stays goes in
     let r : turn c b .1 ≡ after c b = settle-through (λ (r : Result c × Bytes). r .1) (lines c b) stays goes in

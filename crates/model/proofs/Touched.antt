@@ -8,7 +8,7 @@ use lib.ListN.{replicate}
 use Rattle.volume.specs.Bytes.{Bytes, same}
 use Rattle.volume.specs.Lists.{all, countFrom}
 use Rattle.volume.specs.Chain.{along}
-use Rattle.model.specs.Call.{Call, format, verdict, find, makeFile, makeDirectory, list, read, write, removeFile, removeDirectory, setLock}
+use Rattle.model.specs.Call.{Call, format, verdict, find, makeFile, makeDirectory, list, read, write, removeFile, removeDirectory, setLock, store}
 use Rattle.model.specs.Touched.{moved, account, bytesOn, lastLink, byMake, byWrite, byRemoval, touched}
 use Rattle.model.specs.Text.{text}
 use Rattle.model.proofs.Run.{computing}
@@ -48,6 +48,7 @@ rows =
     ∷ row desk (removeDirectory (text "/A/B")) (544 ∷ 3 ∷ 4 ∷ []) (4 ∷ [])
     ∷ row far (removeFile (text "/A")) (64 ∷ 3 ∷ 5 ∷ []) (9 ∷ [])
     ∷ row shelf (setLock true (text "/R")) (96 ∷ []) []
+    ∷ row shelf (store (text "/N") day1 (content 300) 0 (replicate 256 0)) [] []
     ∷ []
 
 pub rows-hold : all (λ r. same (touched (r .call) (r .image)) (r .positions) && same (moved (r .call) (r .image)) (r .pages)) rows ≡ true

@@ -4,7 +4,8 @@ use mathlib.Core.Bool.{Bool}
 use mathlib.Core.List.{[]}
 use Rattle.volume.specs.Bytes.{Bytes}
 
--- The two calls of paper 02 §10 are one here, by the mark that they leave. A path, a date and what a write writes are bytes. A read's last argument is what the reader's buffer holds beforehand.
+-- The two calls of paper 02 §10 are one here, by the mark that they leave. A path, a date and what a write writes are bytes. The last argument of a read, and of a store, is what
+-- the buffer holds beforehand. A store (paper 02 §11) makes a file with its content by whole pages, and is asked for each of them by its number.
 pub data Call : Type 0 where
   format : Call
   verdict : Call
@@ -17,6 +18,22 @@ pub data Call : Type 0 where
   removeFile : (path : Bytes) → Call
   removeDirectory : (path : Bytes) → Call
   setLock : (locked : Bool) (path : Bytes) → Call
+  store : (path date content : Bytes) (number : ℕ) (buffer : Bytes) → Call
+
+-- what is said of a store, and of every other call
+abbrev pub ofStore : (A : Call → Type 0) → (c : Call) → A c → ((path date content : Bytes) (number : ℕ) (buffer : Bytes) → A (store path date content number buffer)) → A c
+ofStore A format x f = x
+ofStore A verdict x f = x
+ofStore A (find path) x f = x
+ofStore A (list path entry) x f = x
+ofStore A (read path position buffer) x f = x
+ofStore A (makeFile path date) x f = x
+ofStore A (makeDirectory path date) x f = x
+ofStore A (write path position bytes) x f = x
+ofStore A (removeFile path) x f = x
+ofStore A (removeDirectory path) x f = x
+ofStore A (setLock locked path) x f = x
+ofStore A (store path date content number buffer) x f = f path date content number buffer
 
 -- ---- what a granted call tells
 
@@ -38,7 +55,7 @@ pub data Listed : Type 0 where
   empty : Listed
   holds : (kind : Kind) (name : Bytes) (size : ℕ) (date : Bytes) → Listed
 
--- read tells how many bytes it copied; the calls that change an image tell only that they were done
+-- read tells how many bytes it copied, a store its page; the calls that change an image tell only that they were done
 abbrev pub Told : Call → Type 0
 Told format = Unit {0}
 Told verdict = Verdict
@@ -51,8 +68,9 @@ Told (write path position bytes) = Unit {0}
 Told (removeFile path) = Unit {0}
 Told (removeDirectory path) = Unit {0}
 Told (setLock locked path) = Unit {0}
+Told (store path date content number buffer) = ℕ
 
--- the reader's buffer before the call; only a read has one
+-- the lent buffer before the call; only a read and a store have one
 abbrev pub bufferBefore : Call → Bytes
 bufferBefore format = []
 bufferBefore verdict = []
@@ -65,6 +83,7 @@ bufferBefore (write path position bytes) = []
 bufferBefore (removeFile path) = []
 bufferBefore (removeDirectory path) = []
 bufferBefore (setLock locked path) = []
+bufferBefore (store path date content number buffer) = buffer
 
 -- ---- answers
 

@@ -7,11 +7,11 @@ use mathlib.Core.Bool.{Bool, false, not}
 use mathlib.Core.Option.{some}
 use mathlib.Core.List.{List, [], _∷_}
 use lib.ListN.{length}
-use lib.Dec.{T}
+use lib.Dec.{T, eqb}
 use Rattle.volume.specs.Bytes.{Bytes, byteAt, same, if_then_else_}
 use Rattle.volume.specs.Lists.{all, member}
 use Rattle.volume.specs.Chain.{chain, beyond}
-use Rattle.model.specs.Layout.{pageCount, pagesFor, validLength, validHeader, freeCount, pageBit, zeroBits, link}
+use Rattle.model.specs.Layout.{pageSize, pageCount, pagesFor, validLength, validHeader, freeCount, pageBit, zeroBits, link}
 use Rattle.model.specs.Entry.{aFile, aDirectory, entryAt, occupied, nameAt}
 use Rattle.model.specs.Sound.{inRange, sound, reachedEntries, owners}
 use Rattle.model.specs.Judge.{Fault, fault, judge, isClean}
@@ -19,10 +19,10 @@ use Rattle.model.specs.Tree.{Row, Tree, needs, freeNumber, fileNode, dir
 use Rattle.model.specs.Path.{Path, isRoot, pathOf}
 use Rattle.model.specs.Image.{contentOf, treeOf}
 use Rattle.model.specs.Walk.{arrived, walkTo, entryPosition, entryNamed}
-use Rattle.model.specs.Call.{Call, format, verdict, setLock, Told, bufferBefore, Refusal, refusal, Answer, refused, granted, find, Found}
+use Rattle.model.specs.Call.{Call, format, verdict, setLock, store, Told, bufferBefore, Refusal, refusal, Answer, refused, granted, find, Found}
 use Rattle.model.specs.Name.{legalText, padded}
-use Rattle.model.specs.Refusal.{earlier, wanted, Passes}
-use Rattle.model.specs.Meaning.{freshTree, treeAnswer, treeBuffer, treeAfter, faultTold, isFormat, answer, after, bufferAfter, numbers}
+use Rattle.model.specs.Refusal.{bufferLines, earlier, wanted, Passes}
+use Rattle.model.specs.Meaning.{freshTree, shown, lentShown, treeAnswer, treeBuffer, treeAfter, faultTold, isFormat, answer, after, bufferAfter, numbers}
 use Rattle.model.specs.Touched.{moved, touched}
 
 -- ---- Demand 1: any input, an answer; a refusal has a number that this call can give and changes nothing.
@@ -39,16 +39,17 @@ Demand1 = (c : Call) (b : Bytes) (f : Refusal) → answer c b ≡ refused f → 
 -- ---- Demand 2: bytes mean a tree; an image that is not sound is refused; on a sound one each call answers, and changes tree and bytes, as the
 -- plain tree does; names differ when any byte differs.
 
--- by any call but format: with 1, with 2, or with the first fault by its number and place
+-- by any call but format, and a store only with a buffer that is a page: with 1, with 2, or with the first fault by its number and place
 pub data Unsound (c : Call) (b : Bytes) : Type 0 where
   byLength : T (not (validLength (length b))) → answer c b ≡ refused (refusal 1) → Unsound c b
   byHeader : T (validLength (length b)) → T (not (validHeader b)) → answer c b ≡ refused (refusal 2) → Unsound c b
   byFault : T (validLength (length b)) → T (validHeader b)
       → (f : Fault) → judge b ≡ fault f → answer c b ≡ refused (faultTold f) → Unsound c b
 
+-- A store's page and the bytes of it are not in the tree (paper 02 §11): `answer` and `bufferAfter` give them, and the tree says the rest.
 pub record AsTree (c : Call) (b : Bytes) : Type 0 where
-  pub answered : answer c b ≡ treeAnswer c (treeOf b)
-  pub lent : bufferAfter c b ≡ treeBuffer c (treeOf b)
+  pub answered : shown c (answer c b) ≡ treeAnswer c (treeOf b)
+  pub lent : lentShown c (bufferAfter c b) ≡ treeBuffer c (treeOf b)
   pub isSound : T (sound (after c b))
   pub means : treeOf (after c b) ≡ treeAfter c (treeOf b)
 
@@ -83,7 +84,10 @@ pub record ExactNames : Type 0 where
 pub record Demand2 : Type 0 where
   -- no fault is told exactly if the image is sound (paper 02 §2)
   pub faultless : (b : Bytes) → T (validLength (length b)) → T (validHeader b) → isClean (judge b) ≡ sound b
-  pub unsound : (c : Call) (b : Bytes) → T (not (isFormat c)) → T (not (sound b)) → Unsound c b
+  pub unsound : (c : Call) (b : Bytes) → T (not (isFormat c)) → Passes (bufferLines c) → T (not (sound b)) → Unsound c b
+  -- a store whose buffer isn't a page is refused with 29, whatever the image (paper 02 §11)
+  pub buffers : (path date content : Bytes) (number : ℕ) (buffer b : Bytes) → T (not (eqb (length buffer) pageSize))
+      → answer (store path date content number buffer) b ≡ refused (refusal 29)
   pub asTree : (c : Call) (b : Bytes) → T (sound b) → AsTree c b
   -- format refuses exactly the lengths that are not allowed, and nothing else
   pub formats : (b : Bytes) → answer format b ≡ (if validLength (length b) then granted tt else refused (refusal 1))
@@ -93,7 +97,7 @@ pub record Demand2 : Type 0 where
 
 -- ---- Demand 3: lists of calls on one image
 
--- what a call gave back: its answer, and the reader's buffer
+-- what a call gave back: its answer, and the lent buffer
 pub record Result (c : Call) : Type 0 where
   pub answered : Answer (Told c)
   pub lent : Bytes
@@ -122,6 +126,11 @@ unfoldable pub replayResults : (cs : List Call) → Tree → Results cs
 replayResults [] t = tt
 replayResults (c ∷ cs) t = (record { answered = treeAnswer c t; lent = treeBuffer c t }, replayResults cs (treeAfter c t))
 
+-- what the replay decides of results: all but the page of a granted store, and the bytes of that
+abbrev pub shownResults : (cs : List Call) → Results cs → Results cs
+shownResults [] rs = tt
+shownResults (c ∷ cs) rs = (record { answered = shown c (rs .0 .answered); lent = lentShown c (rs .0 .lent) }, shownResults cs (rs .1))
+
 -- Each call is refused for want of pages exactly when no earlier line stops it and it needs more than the free number before it.
 abbrev pub WantOfPages : (cs : List Call) → Results cs → Tree → Type 0
 WantOfPages [] rs t = Unit {0}
@@ -148,7 +157,7 @@ pub record Account (b : Bytes) (t : Tree) : Type 0 where
 pub record Demanded (b : Bytes) (t : Tree) (cs : List Call) (rs : Results cs) (b′ : Bytes) : Type 0 where
   pub account : Account b′ (replay cs t)
   pub long : length b′ ≡ length b
-  pub answered : rs ≡ replayResults cs t
+  pub answered : shownResults cs rs ≡ replayResults cs t
   pub wantOfPages : WantOfPages cs rs t
 
 -- a list starts from any sound image, or from a fresh one

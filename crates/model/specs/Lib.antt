@@ -12,7 +12,7 @@
 --   N                 pageCount: the number of pages of an image
 --   k                 pagesFor: the number of pages of a file of some size
 --   plain tree        Tree: N and the root's row
---   reader's buffer   what a read is handed to copy into
+--   reader's buffer   what a read is handed to copy into; a store is lent one for the page (paper 02 §11)
 -- Units. A page is named by its number, counted from 0. A position is a byte of the image, counted from 0: page p begins at position
 -- 256 · p. An entry is named by the position of its first byte, a directory by the number of its page, the root by 0. A place in a file
 -- is a byte of its content, counted from 0, and a place in a path a byte of the path.
@@ -27,6 +27,7 @@ pub mod Path
 pub mod Image
 pub mod Walk
 pub mod Effect
+pub mod Store
 pub mod Call
 pub mod Refusal
 pub mod Meaning

@@ -2,7 +2,7 @@
 -- bytes of any image. A public call's contract cites `answer`, `after` and `bufferAfter`.
 use Prim.Native.Nat.{ℕ, zero, suc}
 use mathlib.Core.Bool.{Bool, true, false, not}
-use mathlib.Core.List.{List, [], _∷_}
+use mathlib.Core.List.{List, [], _∷_, _++_}
 use lib.ListN.{length, take, drop}
 use Rattle.volume.specs.Bytes.{Bytes, put, if_then_else_}
 use Rattle.model.specs.Layout.{pageSize, validLength, validHeader}
@@ -13,8 +13,9 @@ use Rattle.model.specs.Path.{Path, pathOf, parents, lastName}
 use Rattle.model.specs.Image.{treeOf}
 use Rattle.model.specs.Walk.{changeAt}
 use Rattle.model.specs.Effect.{formatted, fileMade, directoryMade, written, removed, relocked}
-use Rattle.model.specs.Call.{Call, format, verdict, find, list, read, makeFile, makeDirectory, write, removeFile, removeDirectory, setLock, isFile, isDirectory, Found, Listed, empty, holds, Told, bufferBefore, Refusal, refusal, refusalAt, Answer, refused, granted}
-use Rattle.model.specs.Refusal.{Line, refusals, settle, node, directoryRow, contentIn, ownNumbers}
+use Rattle.model.specs.Store.{storeAt}
+use Rattle.model.specs.Call.{Call, format, verdict, find, list, read, makeFile, makeDirectory, write, removeFile, removeDirectory, setLock, store, ofStore, isFile, isDirectory, Found, Listed, empty, holds, Told, bufferBefore, Refusal, refusal, refusalAt, Answer, refused, granted}
+use Rattle.model.specs.Refusal.{Line, refusals, settle, node, directoryRow, contentIn, bufferLines, ownNumbers, bufferNumbers}
 
 -- ---- on the plain tree
 
@@ -37,7 +38,7 @@ listed (dir n d s r) (suc i) = listed r i
 abbrev pub copied : Bytes → (position : ℕ) → (buffer : Bytes) → Bytes
 copied v at buffer = take (length buffer) (drop at v)
 
--- what a granted call tells
+-- what a granted call tells; the page of a store is not in the tree, and 0 stands for it here
 unfoldable pub told : (c : Call) → Tree → Told c
 told format t = tt
 told verdict t = record { pages = t .pages; free = freeNumber t }
@@ -50,8 +51,9 @@ told (write path at v) t = tt
 told (removeFile path) t = tt
 told (removeDirectory path) t = tt
 told (setLock locked path) t = tt
+told (store path date v k buffer) t = 0
 
--- the reader's buffer after a granted call; past what a read copied it stays
+-- the lent buffer after a granted call; past what a read copied it stays; what a store puts there is not in the tree
 unfoldable pub filled : Call → Tree → Bytes
 filled format t = []
 filled verdict t = []
@@ -64,6 +66,7 @@ filled (write path at v) t = []
 filled (removeFile path) t = []
 filled (removeDirectory path) t = []
 filled (setLock locked path) t = []
+filled (store path date v k buffer) t = []
 
 -- f done to the row of the parent directory
 unfoldable pub inParent : Path → (Row → Row) → Tree → Tree
@@ -85,12 +88,24 @@ changed (write path at v) t = inParent (pathOf path) (rewrite (lastName (pathOf 
 changed (removeFile path) t = inParent (pathOf path) (vacate (lastName (pathOf path))) t
 changed (removeDirectory path) t = inParent (pathOf path) (vacate (lastName (pathOf path))) t
 changed (setLock locked path) t = inParent (pathOf path) (relock (lastName (pathOf path)) locked) t
+changed (store path date v k buffer) t = t
+
+-- What the tree decides of an answer, and of a buffer: all of it, but not the page of a granted store nor what its buffer holds.
+unfoldable pub withoutPage : Answer ℕ → Answer ℕ
+withoutPage (refused f) = refused f
+withoutPage (granted p) = granted 0
+
+abbrev pub shown : (c : Call) → Answer (Told c) → Answer (Told c)
+shown c a = ofStore (λ c. Answer (Told c) → Answer (Told c)) c (λ a. a) (λ path date v k buffer a. withoutPage a) a
+
+abbrev pub lentShown : Call → Bytes → Bytes
+lentShown c x = ofStore (λ c. Bytes) c x (λ path date v k buffer. [])
 
 unfoldable pub treeAnswer : (c : Call) → Tree → Answer (Told c)
 treeAnswer c t = settle (refusals c t) refused (granted (told c t))
 
 unfoldable pub treeBuffer : Call → Tree → Bytes
-treeBuffer c t = settle (refusals c t) (λ f. bufferBefore c) (filled c t)
+treeBuffer c t = settle (refusals c t) (λ f. lentShown c (bufferBefore c)) (filled c t)
 
 unfoldable pub treeAfter : Call → Tree → Tree
 treeAfter c t = settle (refusals c t) (λ f. t) (changed c t)
@@ -109,6 +124,7 @@ isFormat (write path at v) = false
 isFormat (removeFile path) = false
 isFormat (removeDirectory path) = false
 isFormat (setLock locked path) = false
+isFormat (store path date v k buffer) = false
 
 -- 16 bad entry (directory page, entry); 17 page out of range, or chain not ending where the size says (directory page, entry, how many of its
 -- pages passed); 18 page owned twice, 20 owned page marked free, 19 lost page (the page); 3 bit 0 or byte 3
@@ -133,19 +149,20 @@ soundLine b = (not (sound b), firstFault (judge b))
 abbrev pub imageLines : Bytes → List Line
 imageLines b = (not (validLength (length b)), refusal 1) ∷ (not (validHeader b), refusal 2) ∷ soundLine b ∷ []
 
--- Format judges only the image's length. Every other call judges the image first: 1, its length is not one of the allowed; 2, byte 0, 1 or
+-- Above all stands what a store asks of its buffer. Format judges only the image's length. Every other call judges the image first: 1, its length is not one of the allowed; 2, byte 0, 1 or
 -- 2 is wrong; then its first fault, if it is not sound.
 unfoldable pub lines : Call → Bytes → List Line
 lines c b =
+    bufferLines c ++ (
     (not (validLength (length b)), refusal 1)
     ∷ (if isFormat c then [] else (
     (not (validHeader b), refusal 2)
     ∷ soundLine b
-    ∷ refusals c (treeOf b)))
+    ∷ refusals c (treeOf b))))
 
 -- the numbers that a call can give on any image; the faults stand where 3 stood, in the order told
 unfoldable pub numbers : Call → List ℕ
-numbers c = 1 ∷ (if isFormat c then [] else (2 ∷ 16 ∷ 17 ∷ 18 ∷ 20 ∷ 19 ∷ 3 ∷ ownNumbers c))
+numbers c = bufferNumbers c ++ (1 ∷ (if isFormat c then [] else (2 ∷ 16 ∷ 17 ∷ 18 ∷ 20 ∷ 19 ∷ 3 ∷ ownNumbers c)))
 
 -- the bytes after a granted call
 unfoldable pub effect : Call → Bytes → Bytes
@@ -160,13 +177,21 @@ effect (write path at v) b = written (pathOf path) at v b
 effect (removeFile path) b = removed (pathOf path) b
 effect (removeDirectory path) b = removed (pathOf path) b
 effect (setLock locked path) b = relocked (pathOf path) locked b
+effect (store path date v k buffer) b = b
 
--- what call c answers on image b, what the image is after it, and what the reader's buffer is; a refused call changes nothing
+-- what a granted call tells, and the lent buffer after it: as the tree says, but for a store its page and the bytes of that
+abbrev pub toldOn : (c : Call) → Bytes → Told c
+toldOn c b = ofStore Told c (told c (treeOf b)) (λ path date v k buffer. storeAt k (pathOf path) date v b .page)
+
+abbrev pub filledOn : Call → Bytes → Bytes
+filledOn c b = ofStore (λ c. Bytes) c (filled c (treeOf b)) (λ path date v k buffer. storeAt k (pathOf path) date v b .bytes)
+
+-- what call c answers on image b, what the image is after it, and what the lent buffer is; a refused call changes nothing
 unfoldable pub answer : (c : Call) → Bytes → Answer (Told c)
-answer c b = settle (lines c b) refused (granted (told c (treeOf b)))
+answer c b = settle (lines c b) refused (granted (toldOn c b))
 
 unfoldable pub after : Call → Bytes → Bytes
 after c b = settle (lines c b) (λ f. b) (effect c b)
 
 unfoldable pub bufferAfter : Call → Bytes → Bytes
-bufferAfter c b = settle (lines c b) (λ f. bufferBefore c) (filled c (treeOf b))
+bufferAfter c b = settle (lines c b) (λ f. bufferBefore c) (filledOn c b)

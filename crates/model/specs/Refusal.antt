@@ -8,12 +8,13 @@ use mathlib.Core.List.{List, [], _∷_, _++_}
 use lib.ListN.{length}
 use lib.Dec.{eqb, leb, ltb}
 use Rattle.volume.specs.Bytes.{Bytes, if_then_else_}
-use Rattle.model.specs.Layout.{pagesFor}
+use Rattle.model.specs.Layout.{pageSize, pagesFor}
 use Rattle.model.specs.Date.{goodDate}
 use Rattle.model.specs.Path.{pathOf, isNoPath, isRoot, parents, names, lastName}
 use Rattle.model.specs.Tree.{Row, end, Tree, width, held, freeNumber, Node, fileNode, directoryNode, lookup}
 use Rattle.model.specs.Walk.{Walked, arrived, missing, blocked, walk, walkTo, arrivedOr}
-use Rattle.model.specs.Call.{Call, format, verdict, find, list, read, makeFile, makeDirectory, write, removeFile, removeDirectory, setLock, Refusal, refusal, refusalAt}
+use Rattle.model.specs.Store.{storeCount}
+use Rattle.model.specs.Call.{Call, format, verdict, find, list, read, makeFile, makeDirectory, write, removeFile, removeDirectory, setLock, store, ofStore, Refusal, refusal, refusalAt}
 
 -- ---- what the lines ask
 
@@ -89,12 +90,18 @@ wanted (write path at v) t = pagesFor (max (size path t) (at + length v)) - page
 wanted (removeFile path) t = 0
 wanted (removeDirectory path) t = 0
 wanted (setLock locked path) t = 0
+wanted (store path date v k buffer) t = pagesFor (length v)
 
 -- ---- the lines
 
 -- a condition, and the refusal that is given when it holds
 abbrev pub Line : Type 0
 Line = Bool × Refusal
+
+-- 29: a store: the buffer isn't a page (paper 02 §11). It stands above all lines, also above those that ask the image, and so once more in front of the
+-- tree's own.
+abbrev pub bufferLines : Call → List Line
+bufferLines c = ofStore (λ c. List Line) c [] (λ path date v k buffer. (not (eqb (length buffer) pageSize), refusal 29) ∷ [])
 
 -- 4: the path is no path
 abbrev pub pathLine : Bytes → Line
@@ -143,12 +150,13 @@ earlier (write path at v) t = pathLine path ∷ walkLines (walked path t) ++ (di
 earlier (removeFile path) t = pathLine path ∷ rootLine path ∷ walkLines (walked path t) ++ (directoryLine path t ∷ lockLine path t ∷ [])
 earlier (removeDirectory path) t = pathLine path ∷ rootLine path ∷ walkLines (walkedDirectory path t)
 earlier (setLock locked path) t = pathLine path ∷ walkLines (walked path t) ++ (directoryLine path t ∷ [])
+earlier (store path date v k buffer) t = bufferLines (store path date v k buffer) ++ makeLines path date t
 
 -- 10: more pages wanted than the free number; a call that needs none never gets it
 abbrev pub spaceLine : Call → Tree → Line
 spaceLine c t = (ltb (freeNumber t) (wanted c t), refusal 10)
 
--- the line below number 10; 13: the removal of a directory: it holds something
+-- the line below number 10; 13: the removal of a directory: it holds something; 12 of a store: its number is past the last
 unfoldable pub later : Call → Tree → List Line
 later format t = []
 later verdict t = []
@@ -161,6 +169,7 @@ later (write path at v) t = []
 later (removeFile path) t = []
 later (removeDirectory path) t = (ltb 0 (held (directoryRow path t)), refusal 13) ∷ []
 later (setLock locked path) t = []
+later (store path date v k buffer) t = (leb (storeCount (pathOf path) v) k, refusal 12) ∷ []
 
 unfoldable pub refusals : Call → Tree → List Line
 refusals c t = earlier c t ++ (spaceLine c t ∷ later c t)
@@ -178,8 +187,12 @@ Passes ls = settle ls some none ≡ none
 unfoldable pub tableOrder : List ℕ
 tableOrder = 1 ∷ 2 ∷ 16 ∷ 17 ∷ 18 ∷ 20 ∷ 19 ∷ 3 ∷ 4 ∷ 11 ∷ 14 ∷ 5 ∷ 6 ∷ 8 ∷ 7 ∷ 25 ∷ 12 ∷ 9 ∷ 10 ∷ 13 ∷ []
 
--- The numbers that a call can give on a sound image, in the order of its lines. Number 10 is one of them where the call may need pages. (Law
--- `own-numbers`: the lines have these numbers in this order, and the numbers rise in the table.)
+-- the table of a call; a store has 29 before 1, and 12 after 10 (paper 02 §11)
+abbrev pub tableOf : Call → List ℕ
+tableOf c = ofStore (λ c. List ℕ) c tableOrder (λ path date v k buffer. 29 ∷ 1 ∷ 2 ∷ 16 ∷ 17 ∷ 18 ∷ 20 ∷ 19 ∷ 3 ∷ 4 ∷ 11 ∷ 5 ∷ 6 ∷ 8 ∷ 9 ∷ 10 ∷ 12 ∷ [])
+
+-- The numbers that a call can give on a sound image, in the order of its lines but for 29. Number 10 is one of them where the call may need pages. (Law
+-- `own-numbers`: the lines have these numbers in this order, and the numbers rise in the call's table.)
 unfoldable pub ownNumbers : Call → List ℕ
 ownNumbers format = []
 ownNumbers verdict = []
@@ -192,3 +205,7 @@ ownNumbers (write path at v) = 4 ∷ 5 ∷ 6 ∷ 7 ∷ 25 ∷ 12 ∷ 10 ∷ []
 ownNumbers (removeFile path) = 4 ∷ 14 ∷ 5 ∷ 6 ∷ 7 ∷ 25 ∷ []
 ownNumbers (removeDirectory path) = 4 ∷ 14 ∷ 5 ∷ 6 ∷ 13 ∷ []
 ownNumbers (setLock locked path) = 4 ∷ 5 ∷ 6 ∷ 7 ∷ []
+ownNumbers (store path date v k buffer) = 4 ∷ 11 ∷ 5 ∷ 6 ∷ 8 ∷ 9 ∷ 10 ∷ 12 ∷ []
+
+abbrev pub bufferNumbers : Call → List ℕ
+bufferNumbers c = ofStore (λ c. List ℕ) c [] (λ path date v k buffer. 29 ∷ [])

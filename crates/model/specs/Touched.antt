@@ -13,7 +13,7 @@ use Rattle.model.specs.Path.{pathOf}
 use Rattle.model.specs.Image.{treeOf}
 use Rattle.model.specs.Walk.{parentPage, entryPosition}
 use Rattle.model.specs.Effect.{lowestVacant}
-use Rattle.model.specs.Call.{Call, format, verdict, find, list, read, makeFile, makeDirectory, write, removeFile, removeDirectory, setLock}
+use Rattle.model.specs.Call.{Call, format, verdict, find, list, read, makeFile, makeDirectory, write, removeFile, removeDirectory, setLock, store}
 use Rattle.model.specs.Refusal.{wanted}
 
 -- ---- pages
@@ -35,6 +35,7 @@ moved (write path position bytes) b = taken (write path position bytes) b
 moved (removeFile path) b = pagesAt b (entryPosition b (pathOf path))
 moved (removeDirectory path) b = pagesAt b (entryPosition b (pathOf path))
 moved (setLock locked path) b = []
+moved (store path date content number buffer) b = []
 
 -- ---- positions
 
@@ -81,3 +82,4 @@ touched (write path position (x ∷ v)) b =
 touched (removeFile path) b = byRemoval (entryPosition b (pathOf path)) (moved (removeFile path) b)
 touched (removeDirectory path) b = byRemoval (entryPosition b (pathOf path)) (moved (removeDirectory path) b)
 touched (setLock locked path) b = countFrom (entryPosition b (pathOf path)) 1
+touched (store path date content number buffer) b = []

@@ -12,7 +12,7 @@ use Rattle.model.specs.Path.{pathOf}
 use Rattle.model.specs.Image.{treeOf}
 use Rattle.model.specs.Walk.{Walked, arrived, missing, blocked, arrivedOr}
 use Rattle.model.specs.Call.{Call, Refusal, Answer, refused, granted}
-use Rattle.model.specs.Refusal.{Line, pathLine, walkLines, isMissing, isBlocked, stoppedAt, walked, node, refusals, settle, Passes}
+use Rattle.model.specs.Refusal.{Line, pathLine, walkLines, isMissing, isBlocked, stoppedAt, walked, node, bufferLines, refusals, settle, Passes}
 use Rattle.model.specs.Meaning.{isFormat, lines}
 use Rattle.laws.proofs.Facts.{Facts, sound-facts}
 use Rattle.laws.proofs.Lines.{not-granted}
@@ -73,9 +73,13 @@ placed-arrived b path s e =
 
 -- ---- the lines above the walk
 
+-- the image is judged before all else: the call is neither a format nor a store
+abbrev pub JudgesFirst : Call → Type 0
+JudgesFirst c = _≡_ {A = Bool × List Line} (isFormat c, bufferLines c) (false, [])
+
 module _ {A : Type 0} (b path : Bytes) (f : Refusal → A) where
   -- y says what a call does at each place
-  pub by-place : (c : Call) → isFormat c ≡ false → (x : A) (y : Spot → A)
+  pub by-place : (c : Call) → JudgesFirst c → (x : A) (y : Spot → A)
       → (Facts b → settle (refusals c (treeOf b)) f x ≡ settle (pathLine path ∷ []) f (opened f y (walkedAnswer (located b (pathOf path)))))
       → settle (lines c b) f x ≡ opened f y (placed b path)
   unfolding placed lines settle
@@ -89,7 +93,10 @@ module _ {A : Type 0} (b path : Bytes) (f : Refusal → A) where
 
       go : (s : Bool) → sound b ≡ s → settle (lines c b) f x ≡ settle (firstLines b path) f z
       go true e = is-sound (subst T (sym e) tt)
-      go false e = rw (other, e)
+      go false e =
+          let judges : isFormat c ≡ false = ap (λ (x : Bool × List Line). x .0) other in
+          let no-buffer : bufferLines c ≡ [] = ap (λ (x : Bool × List Line). x .1) other in
+          rw (judges, no-buffer, e)
 
   -- ---- the walk
 
@@ -102,7 +109,7 @@ module _ {A : Type 0} (b path : Bytes) (f : Refusal → A) where
   walk-settled rest x d (blocked i) = refl
 
   -- a call that walks to what the path leads to, and then has lines of its own
-  pub node-settled : (c : Call) → isFormat c ≡ false → (rest : Node → List Line) (x : Node → A)
+  pub node-settled : (c : Call) → JudgesFirst c → (rest : Node → List Line) (x : Node → A)
       → refusals c (treeOf b) ≡ pathLine path ∷ (walkLines (walked path (treeOf b)) ++ rest (node path (treeOf b)))
       → settle (lines c b) f (x (node path (treeOf b))) ≡ opened f (λ s. settle (rest (nodeAt b s)) f (x (nodeAt b s))) (placed b path)
   unfolding settle

@@ -8,7 +8,7 @@ use Rattle.judge.specs.declared.Fault.{Fault}
 use Rattle.judge.specs.declared.Fault.the-variants.{BadEntry, BadChain, OwnedTwice, MarkedFree, LostPage, BadCount}
 use Rattle.refusals.specs.Told.{told}
 use Rattle.refusals.specs.declared.Refusal.{Refusal}
-use Rattle.refusals.specs.declared.Refusal.the-variants.{BadLength, BadHeader, Unsound, NoPath, BadDate, IsRoot, NoSuchName, NotADirectory, NameTaken, IsADirectory, Locked, PastEnd, DirectoryFull, NoFreePages, NotEmpty}
+use Rattle.refusals.specs.declared.Refusal.the-variants.{BadLength, BadHeader, Unsound, NoPath, BadDate, IsRoot, NoSuchName, NotADirectory, NameTaken, IsADirectory, Locked, PastEnd, DirectoryFull, NoFreePages, NotEmpty, NotAPage}
 
 -- the fault of a number and a place
 abbrev faultCase : ℕ → ℕ × ℕ × ℕ → Fault
@@ -23,7 +23,7 @@ numbered n place =
     if eqb n 1 then BadLength else if eqb n 2 then BadHeader else if eqb n 4 then NoPath else if eqb n 5 then NoSuchName (place .0)
     else if eqb n 6 then NotADirectory (place .0) else if eqb n 7 then IsADirectory else if eqb n 8 then NameTaken else if eqb n 9 then DirectoryFull
     else if eqb n 10 then NoFreePages else if eqb n 11 then BadDate else if eqb n 12 then PastEnd else if eqb n 13 then NotEmpty
-    else if eqb n 14 then IsRoot else if eqb n 25 then Locked else Unsound (faultCase n place)
+    else if eqb n 14 then IsRoot else if eqb n 25 then Locked else if eqb n 29 then NotAPage else Unsound (faultCase n place)
 
 abbrev pub case : Model → Refusal
 case m = numbered (m .number) (m .place)
@@ -49,6 +49,7 @@ case-told PastEnd = refl
 case-told DirectoryFull = refl
 case-told NoFreePages = refl
 case-told NotEmpty = refl
+case-told NotAPage = refl
 
 pub told-injective : (r s : Refusal) → told r ≡ told s → r ≡ s
 told-injective r s e = sym (case-told r) ∙ ap case e ∙ case-told s

@@ -3,7 +3,7 @@ use Rattle.model.specs.Call.{Refusal as Model, refusal, refusalAt}
 use Rattle.model.specs.Meaning.{faultTold}
 use Rattle.judge.specs.Answers.{faultOf}
 use Rattle.refusals.specs.declared.Refusal.{Refusal}
-use Rattle.refusals.specs.declared.Refusal.the-variants.{BadLength, BadHeader, Unsound, NoPath, BadDate, IsRoot, NoSuchName, NotADirectory, NameTaken, IsADirectory, Locked, PastEnd, DirectoryFull, NoFreePages, NotEmpty}
+use Rattle.refusals.specs.declared.Refusal.the-variants.{BadLength, BadHeader, Unsound, NoPath, BadDate, IsRoot, NoSuchName, NotADirectory, NameTaken, IsADirectory, Locked, PastEnd, DirectoryFull, NoFreePages, NotEmpty, NotAPage}
 
 abbrev pub told : Refusal → Model
 told BadLength = refusal 1
@@ -21,3 +21,4 @@ told PastEnd = refusal 12
 told DirectoryFull = refusal 9
 told NoFreePages = refusal 10
 told NotEmpty = refusal 13
+told NotAPage = refusal 29

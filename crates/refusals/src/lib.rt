@@ -16,7 +16,7 @@ pub enum Refusal {
     Unsound(Fault),
     // 4: the path is no path.
     NoPath,
-    // 11: make: the date is not good.
+    // 11: make or store: the date is not good.
     BadDate,
     // 14: removals: the path is `/`.
     IsRoot,
@@ -24,20 +24,22 @@ pub enum Refusal {
     NoSuchName(usize),
     // 6: the walk, list or remove directory meets a file where it needs a directory; the byte of the path at which the file's name begins.
     NotADirectory(usize),
-    // 8: make: the name is there already, or the path is `/`.
+    // 8: make or store: the name is there already, or the path is `/`.
     NameTaken,
     // 7: read, write, remove file, lock or unlock: the path is a directory.
     IsADirectory,
     // 25: write or remove file: the file is locked (02 §10).
     Locked,
-    // 12: the position is past the size, or the entry number past the directory's last.
+    // 12: the position is past the size, the entry number past the directory's last, or the store number past the last store.
     PastEnd,
-    // 9: make: no empty entry.
+    // 9: make or store: no empty entry.
     DirectoryFull,
-    // 10: make or write: more pages wanted than the free number.
+    // 10: make, write or store: more pages wanted than the free number.
     NoFreePages,
     // 13: remove directory: it holds something.
     NotEmpty,
+    // 29: store: the lent buffer is not a page (02 §11). It is given before all others.
+    NotAPage,
 }
 
 // The paper's number of a fault. 20 is told before 19.
@@ -74,5 +76,6 @@ pub fn number(r: Refusal) -> u8
         Refusal::DirectoryFull => 9,
         Refusal::NoFreePages => 10,
         Refusal::NotEmpty => 13,
+        Refusal::NotAPage => 29,
     }
 }

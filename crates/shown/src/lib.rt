@@ -6,6 +6,7 @@ ghost use lib.ListN.{length};
 use fields::Position;
 use judge::Fault;
 use refusals::Refusal;
+use store::StoreAnswer;
 use zealfs::ChangeAnswer;
 use zealfs::FindAnswer;
 use zealfs::ListAnswer;
@@ -313,4 +314,30 @@ pub fn unlock(image: &mut [u8], path: &[u8]) {
     asked(b"unlock", path);
     arrow();
     changed(zealfs::unlock(image, path));
+}
+
+// What of a store the plain tree decides: that it is there, or why not. Its page and the bytes of it are not shown.
+pub fn store(
+    image: &[u8],
+    path: &[u8],
+    date: &[u8],
+    content: &[u8],
+    number_of: usize,
+    room: &mut [u8],
+) {
+    asked(b"store", path);
+    put(b" date ");
+    hex_row(date);
+    put(b" ");
+    counted(content);
+    put(b" number ");
+    number(number_of);
+    put(b" room ");
+    number(room.len());
+    arrow();
+    match store::store(image, path, date, content, number_of, room) {
+        StoreAnswer::At(_) => put(b"done"),
+        StoreAnswer::Refused(r) => refused(r),
+    }
+    end_line();
 }

@@ -18,7 +18,7 @@ use Rattle.model.specs.Path.{pathOf}
 use Rattle.model.specs.Image.{contentOf, treeOf}
 use Rattle.model.specs.Call.{Call, Refusal, refusal, refused, granted}
 use Rattle.model.specs.Refusal.{Line, pathLine, walkLines, isDirectoryNode, contentIn, walked, node, refusals, settle}
-use Rattle.model.specs.Meaning.{isFormat, lines}
+use Rattle.model.specs.Meaning.{lines}
 use Rattle.model.specs.Call.{Answer}
 use Rattle.places.specs.Places.{Spot, theRoot, theFile, theDirectory, placed, spotOf, arrivalOf}
 use Rattle.places.specs.declared.Arrival.{Arrival}
@@ -29,7 +29,7 @@ use Rattle.places.specs.declared.Place.the-variants as place
 use Rattle.places.proofs.Place.{the-type}
 use Rattle.places.proofs.Arrivals.{nodeAt, file-node, directory-node}
 use Rattle.places.proofs.Entries.{entry-inside, file-size}
-use Rattle.places.proofs.Settled.{opened, Arrived, placed-arrived, node-settled}
+use Rattle.places.proofs.Settled.{JudgesFirst, opened, Arrived, placed-arrived, node-settled}
 
 -- the lines of a call on a file: a directory is refused, and the rest is the call's own
 abbrev pub fileCall : (Node → List Line) → Node → List Line
@@ -54,7 +54,7 @@ content-at b path {entry} {begins} {start} {k} e =
     record { arrived = a; long = file-size b (a .facts) (pathOf path) entry begins (a .at .0) (a .at .1) }
 
 -- what a call does: f of a refusal, or x of what the path leads to
-module _ {A : Type 0} (b path : Bytes) (c : Call) (other : isFormat c ≡ false) (rest : Node → List Line)
+module _ {A : Type 0} (b path : Bytes) (c : Call) (other : JudgesFirst c) (rest : Node → List Line)
     (is : refusals c (treeOf b) ≡ pathLine path ∷ (walkLines (walked path (treeOf b)) ++ fileCall rest (node path (treeOf b))))
     (f : Refusal → A) (x : Node → A) where
   abbrev does : A

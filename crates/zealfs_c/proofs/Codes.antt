@@ -7,13 +7,13 @@ use types.Run.{OneOf, miss}
 use denote.Enum.Declared.{tagOf}
 use Rattle.refusals.specs.Told.{told}
 use Rattle.refusals.specs.declared.Refusal.{Refusal}
-use Rattle.refusals.specs.declared.Refusal.the-variants.{BadLength, BadHeader, Unsound, NoPath, BadDate, IsRoot, NoSuchName, NotADirectory, NameTaken, IsADirectory, Locked, PastEnd, DirectoryFull, NoFreePages, NotEmpty}
+use Rattle.refusals.specs.declared.Refusal.the-variants.{BadLength, BadHeader, Unsound, NoPath, BadDate, IsRoot, NoSuchName, NotADirectory, NameTaken, IsADirectory, Locked, PastEnd, DirectoryFull, NoFreePages, NotEmpty, NotAPage}
 use Rattle.refusals.proofs.Refusal.{the-type}
 use Rattle.zealfs_c.specs.Codes.{packed, Fits}
 
 -- the cases that a `match` on the three with a place leaves
 abbrev pub others : List ℕ
-others = 0 ∷ 1 ∷ 3 ∷ 4 ∷ 5 ∷ 8 ∷ 9 ∷ 10 ∷ 11 ∷ 12 ∷ 13 ∷ 14 ∷ []
+others = 0 ∷ 1 ∷ 3 ∷ 4 ∷ 5 ∷ 8 ∷ 9 ∷ 10 ∷ 11 ∷ 12 ∷ 13 ∷ 14 ∷ 15 ∷ []
 
 pub no-place : (r : Refusal) → OneOf others (tagOf the-type r) → 0 ≡ packed (told r .place)
 unfolding packed
@@ -32,6 +32,7 @@ no-place PastEnd h = refl
 no-place DirectoryFull h = refl
 no-place NoFreePages h = refl
 no-place NotEmpty h = refl
+no-place NotAPage h = refl
 
 -- a place that fits has 48 bits
 pub place-low : {place : ℕ × ℕ × ℕ} → Fits place → packed place < 281474976710656

@@ -14,9 +14,10 @@ use Rattle.model.specs.Layout.{pageCount, validLength, validHeader}
 use Rattle.model.specs.Judge.{Fault, badEntry, badChain, ownedTwice, markedFree, lostPage, badCount, Judged, fault, clean, judge}
 use Rattle.model.specs.Path.{Path, pathOf, noPath, root, below, parents, names}
 use Rattle.model.specs.Image.{treeOf}
-use Rattle.model.specs.Call.{Call, format, verdict, find, list, read, makeFile, makeDirectory, write, removeFile, removeDirectory, setLock, Told, Refusal, refusal, Answer, refused, granted}
-use Rattle.model.specs.Refusal.{Line, stoppedAt, walked, walkedParent, walkedDirectory, makeLines, earlier, later, refusals, settle}
-use Rattle.model.specs.Meaning.{told, firstFault, soundLine, isFormat, lines, answer}
+use Rattle.model.specs.Call.{Call, format, verdict, find, list, read, makeFile, makeDirectory, write, removeFile, removeDirectory, setLock, store, Told, Refusal, refusal, Answer, refused, granted}
+use Rattle.model.specs.Refusal.{Line, bufferLines, stoppedAt, walked, walkedParent, walkedDirectory, makeLines, earlier, later, refusals, settle}
+use Rattle.model.specs.Meaning.{toldOn, firstFault, soundLine, isFormat, lines, answer}
+use Rattle.laws.proofs.Lines.{settle-append}
 use Rattle.judge.proofs.Image.{allowed}
 use Rattle.judge.proofs.Placed.{InPlace, fault-placed}
 use Rattle.repair.specs.Repair.{repairAnswer}
@@ -59,12 +60,12 @@ answerIn : {A : Type 0} → Answer A → Bool
 answerIn (refused m) = inCode m
 answerIn (granted x) = true
 
-settle-in : {A : Type 0} (ls : List Line) (x : A) → T (all (λ (l : Line). inCode (l .1)) ls) → T (answerIn (settle ls refused (granted x)))
+settle-in : {A : Type 0} (ls : List Line) (a : Answer A) → T (all (λ (l : Line). inCode (l .1)) ls) → T (answerIn a) → T (answerIn (settle ls refused a))
 unfolding settle all answerIn
-settle-in [] x h = tt
-settle-in {A} (l ∷ ls) x h =
+settle-in [] a h k = k
+settle-in {A} (l ∷ ls) a h k =
     let two = and-both (inCode (l .1)) (all (λ (m : Line). inCode (m .1)) ls) h in
-    go (l .0) (settle ls refused (granted x)) (two .0) (settle-in ls x (two .1))
+    go (l .0) (settle ls refused a) (two .0) (settle-in ls a (two .1) k)
   where
     go : (c : Bool) (rest : Answer A) → T (inCode (l .1)) → T (answerIn rest) → T (answerIn (if c then refused (l .1) else rest))
     go true rest t next = t
@@ -111,6 +112,7 @@ own-in (write path at v) b n = rw (lt-ltb _ _ (to-stops b n path)) tt
 own-in (removeFile path) b n = rw (lt-ltb _ _ (to-stops b n path)) tt
 own-in (removeDirectory path) b n = rw (lt-ltb _ _ (directory-stops b n path)) tt
 own-in (setLock locked path) b n = rw (lt-ltb _ _ (to-stops b n path)) tt
+own-in (store path date v k buffer) b n = rw (lt-ltb _ _ (parent-stops b n path)) tt
 
 -- the lines below the first, which judges the length
 abbrev further : Bool → Call → Bytes → List Line
@@ -121,15 +123,32 @@ unfolding all
 further-in true c b low few = tt
 further-in false c b low few = image-in b low few (refusals c (treeOf b)) (own-in c b few)
 
+buffer-in : (c : Call) → AllIn (bufferLines c)
+unfolding all inCode
+buffer-in format = tt
+buffer-in verdict = tt
+buffer-in (find path) = tt
+buffer-in (list path i) = tt
+buffer-in (read path at room) = tt
+buffer-in (makeFile path date) = tt
+buffer-in (makeDirectory path date) = tt
+buffer-in (write path at v) = tt
+buffer-in (removeFile path) = tt
+buffer-in (removeDirectory path) = tt
+buffer-in (setLock locked path) = tt
+buffer-in (store path date v k buffer) = tt
+
 answer-in : (c : Call) (b : Bytes) → T (answerIn (answer c b))
 unfolding answer lines settle answerIn inCode all
-answer-in c b = go (validLength (length b)) refl
+answer-in c b =
+    subst (λ (a : Answer (Told c)). T (answerIn a)) (sym (settle-append refused (bufferLines c) _ (granted (toldOn c b))))
+    (settle-in (bufferLines c) _ (buffer-in c) (go (validLength (length b)) refl))
   where
     go : (v : Bool) → validLength (length b) ≡ v
-        → T (answerIn (if not v then refused (refusal 1) else settle (further (isFormat c) c b) refused (granted (told c (treeOf b)))))
+        → T (answerIn (if not v then refused (refusal 1) else settle (further (isFormat c) c b) refused (granted (toldOn c b))))
     go true e =
         let two = pages-in b e in
-        settle-in (further (isFormat c) c b) (told c (treeOf b)) (further-in (isFormat c) c b (two .0) (two .1))
+        settle-in (further (isFormat c) c b) (granted (toldOn c b)) (further-in (isFormat c) c b (two .0) (two .1)) tt
     go false e = tt
 
 -- ---- what the code tells

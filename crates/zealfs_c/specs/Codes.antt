@@ -71,3 +71,8 @@ listOut (granted (holds kind name size date)) = 1 ∷ kindNumber kind ∷ size �
 unfoldable pub readOut : Answer ℕ → List ℕ
 readOut (refused m) = 0 ∷ []
 readOut (granted count) = count ∷ []
+
+-- the page that a store is for
+unfoldable pub storeOut : Answer ℕ → List ℕ
+storeOut (refused m) = 0 ∷ []
+storeOut (granted page) = page ∷ []

@@ -4,6 +4,7 @@
 use fields::Position;
 use judge::Fault;
 use refusals::Refusal;
+use store::StoreAnswer;
 use tidy::TidyAnswer;
 use zealfs::ChangeAnswer;
 use zealfs::FindAnswer;
@@ -17,7 +18,7 @@ ghost use lib.ListN.{length};
 ghost use Rattle.volume.specs.Bytes.{put};
 ghost use Rattle.model.specs.Listing.{listing};
 ghost use Rattle.model.specs.Sound.{sound};
-ghost use Rattle.model.specs.Call.{format, verdict, find, list, read, makeFile, makeDirectory, write, removeFile, removeDirectory, setLock, isFile};
+ghost use Rattle.model.specs.Call.{format, verdict, find, list, read, makeFile, makeDirectory, write, removeFile, removeDirectory, setLock, store, isFile};
 ghost use Rattle.model.specs.Meaning.{faultTold, answer, after, bufferAfter, copied};
 ghost use Rattle.judge.specs.Answers.{faultOf};
 ghost use Rattle.refusals.specs.Told.{told};
@@ -27,7 +28,7 @@ ghost use Rattle.audit.specs.Owner.{ownerNumbers};
 ghost use Rattle.moves.specs.Tidy.{tidyAnswer, tidyAfter};
 ghost use Rattle.moves.specs.Propose.{proposeAnswer, proposeAfter};
 ghost use Rattle.tidy.specs.Answer.{answerOf};
-ghost use Rattle.zealfs_c.specs.Codes.{packed, refusalCode, codeOf, Fits, placeOf, lockNumber, soundNumber, verdictOut, findOut, listOut, readOut};
+ghost use Rattle.zealfs_c.specs.Codes.{packed, refusalCode, codeOf, Fits, placeOf, lockNumber, soundNumber, verdictOut, findOut, listOut, readOut, storeOut};
 
 // The three numbers of a place as one.
 fn pack(a: usize, b: usize, c: usize) -> u64
@@ -307,6 +308,33 @@ pub extern "C" fn zealfs_audit(image: &[u8], owners: &mut [u64; 256]) -> u64
     copy_owners(&row, &mut numbers);
     *owners = numbers;
     if findings.sound { 1 } else { 0 }
+}
+
+// out: the page's number.
+#[no_mangle]
+pub extern "C" fn zealfs_store(
+    image: &[u8],
+    path: &[u8],
+    date: &[u8],
+    bytes: &[u8],
+    number: u64,
+    page: &mut [u8],
+    out: &mut [u64; 1],
+) -> u64
+    ensures { λ r. ⌜ r ≡ codeOf (answer (store (now (path .entry)) (now (date .entry)) (now (bytes .entry)) number (now (page .entry))) (now (image .entry))) ⌝ }
+    ensures { λ _. ⌜ now (out .exit) ≡ storeOut (answer (store (now (path .entry)) (now (date .entry)) (now (bytes .entry)) number (now (page .entry))) (now (image .entry))) ⌝ }
+    ensures { λ _. ⌜ now (page .exit) ≡ bufferAfter (store (now (path .entry)) (now (date .entry)) (now (bytes .entry)) number (now (page .entry))) (now (image .entry)) ⌝ }
+{
+    match store::store(image, path, date, bytes, number as usize, page) {
+        StoreAnswer::At(at) => {
+            *out = [at.0 as u64];
+            0
+        }
+        StoreAnswer::Refused(r) => {
+            *out = [0];
+            code(r)
+        }
+    }
 }
 
 // The bytes of the listing from byte `from` on, as many as there are and as the buffer has room for; the result is how many. An image that is not

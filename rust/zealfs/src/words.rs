@@ -74,8 +74,8 @@ pub const WORDS: &[Words] = &[
     (
         12,
         "PastTheEnd",
-        "the position is past the end of the file, or the entry past the directory's last",
-        "begin at the end at most",
+        "the position is past the end of the file, the entry past the directory's last, or the store past the last one",
+        "begin at the end at most; of stores: all are done",
     ),
     (
         13,
@@ -136,5 +136,11 @@ pub const WORDS: &[Words] = &[
         "WrongTarget",
         "the buffer for the tidied image is not as long as the image",
         "lend one of the same length",
+    ),
+    (
+        29,
+        "WrongPageBuffer",
+        "the buffer for a page is not 256 bytes long",
+        "lend one of 256 bytes",
     ),
 ];

@@ -141,6 +141,8 @@ fn calls_on_unsound(image: &[u8], turn: usize) -> Vec<Call> {
         Call::RemoveDirectory(path()),
         Call::Lock(path()),
         Call::Unlock(path()),
+        Call::Store(path(), DATE.to_vec(), pattern(300), 0, vec![0x55; PAGE]),
+        Call::Store(path(), Vec::new(), pattern(300), 0, vec![0x55; PAGE - 1]),
         // What a call takes for no path it takes so only on a sound image.
         Call::Find(b"A".to_vec()),
         Call::Repair,
@@ -210,6 +212,11 @@ fn look_at(calls: &mut Vec<Call>, path: &[u8], node: &Node) {
 /// it; before a directory what was made in it. What does not suit is refused.
 fn change(calls: &mut Vec<Call>, path: &[u8], node: &Node) {
     let below = [path, b"/new".as_slice()].concat();
+    for number in 0..5 {
+        let content = pattern(CONTENT + 1);
+        let page = vec![0x55; PAGE];
+        calls.push(Call::Store(below.clone(), DATE.to_vec(), content, number, page));
+    }
     calls.push(Call::MakeFile(below.clone(), DATE.to_vec()));
     calls.push(Call::MakeDirectory(below.clone(), DATE.to_vec()));
     match node {

@@ -16,7 +16,7 @@ use crate::pool;
 use zealfs_tests::calls::Call;
 use zealfs_tests::desk::DATE;
 use zealfs_tests::harness::Scenario;
-use zealfs_tests::plain::{pages_of_file, Replay, CONTENT};
+use zealfs_tests::plain::{pages_of_file, Replay, CONTENT, PAGE};
 
 /// Calls that an input may ask for.
 const CALLS: usize = 40;
@@ -39,9 +39,10 @@ enum Kind {
     RemoveDirectory,
     Lock,
     Unlock,
+    Store,
 }
 
-const KINDS: [Kind; 18] = [
+const KINDS: [Kind; 20] = [
     Kind::MakeFile,
     Kind::MakeDirectory,
     Kind::Write,
@@ -60,6 +61,8 @@ const KINDS: [Kind; 18] = [
     Kind::List,
     Kind::Lock,
     Kind::Unlock,
+    Kind::Store,
+    Kind::Store,
 ];
 
 /// Names that are easily confused, and the limits of length and of bytes.
@@ -115,6 +118,7 @@ impl Decoder<'_> {
             Kind::RemoveDirectory => Call::RemoveDirectory(self.path()),
             Kind::Lock => Call::Lock(self.path()),
             Kind::Unlock => Call::Unlock(self.path()),
+            Kind::Store => self.store(),
             Kind::Read => {
                 let (path, position, bytes) = self.stretch();
                 Call::Read(path, position, bytes)
@@ -124,6 +128,25 @@ impl Decoder<'_> {
                 Call::Write(path, position, bytes)
             }
         }
+    }
+
+    /// A new file's path and content, a store's number, mostly one that is there,
+    /// and a buffer that mostly is a page.
+    fn store(&mut self) -> Call {
+        let (path, date) = (self.path(), self.date());
+        let length = self.length(0, 0);
+        let content = self.content(length);
+        let past = pages_of_file(length) + 2;
+        let number = match self.input.index() {
+            255 => u64::MAX,
+            byte => (byte % (past + 1)) as u64,
+        };
+        let room = match self.input.index() {
+            byte @ 0..8 => 252 + byte,
+            255 => 0,
+            _ => PAGE,
+        };
+        Call::Store(path, date, content, number, vec![0x55; room])
     }
 
     /// The arguments of a read or a write.

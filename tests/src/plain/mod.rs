@@ -37,6 +37,14 @@ pub fn pages_of_image(length: usize) -> Result<usize, Refusal> {
     }
 }
 
+/// Refusal 29 for a store's buffer that is not a page.
+fn check_page(page: &[u8]) -> Result<(), Refusal> {
+    if page.len() != PAGE {
+        return Err(Refusal::number(29));
+    }
+    Ok(())
+}
+
 /// The implementation by way of the tree.
 pub struct Plain;
 
@@ -126,6 +134,27 @@ impl Calls for Plain {
         Plain::set_lock(image, path, false).into()
     }
 
+    fn store(
+        &self,
+        image: &[u8],
+        path: &[u8],
+        date: &[u8],
+        content: &[u8],
+        number: u64,
+        page: &mut [u8],
+    ) -> Answer {
+        let granted = check_page(page)
+            .and_then(|()| reader::judge(image))
+            .and_then(|tree| tree.store(path, date, content, number));
+        if let Err(refusal) = granted {
+            return Answer::refused(refusal);
+        }
+        let stores = writer::stores(image, path, date, content);
+        let (at, bytes) = &stores[number as usize];
+        page.copy_from_slice(bytes);
+        Answer::page(*at as u64)
+    }
+
     fn repair(&self, image: &mut [u8]) -> Answer {
         let granted = reader::tree_and_owned(image).map(|(_, owned)| {
             writer::repair(image, &owned);
@@ -185,6 +214,10 @@ impl Replay {
             Call::RemoveDirectory(path) => tree.remove(path, Kind::Directory),
             Call::Lock(path) => tree.set_lock(path, true),
             Call::Unlock(path) => tree.set_lock(path, false),
+            // Which page and which bytes is nothing that the tree knows.
+            Call::Store(path, date, content, number, page) => {
+                check_page(page).and_then(|()| tree.store(path, date, content, *number))
+            }
             // On a sound image there is nothing to mend.
             Call::Repair => Ok(Answer::granted()),
         };

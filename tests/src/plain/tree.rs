@@ -281,6 +281,37 @@ impl Tree {
         Ok(Answer::granted())
     }
 
+    /// Whether a store of that number is there for a new file with this content.
+    /// The tree stays, and has no pages to tell of.
+    pub fn store(
+        &self,
+        path: &[u8],
+        date: &[u8],
+        content: &[u8],
+        number: u64,
+    ) -> Result<Answer, Refusal> {
+        let names = parse(path)?;
+        good_date(date)?;
+        let (last, parents) = names.split_last().ok_or(Refusal::number(8))?;
+        let parent = self.directory(parents)?;
+        if parent.position(last.bytes).is_some() {
+            return Err(Refusal::number(8));
+        }
+        if parent.entries.iter().all(Option::is_some) {
+            return Err(Refusal::number(9));
+        }
+        let pages = pages_of_file(content.len());
+        if pages > self.free() {
+            return Err(Refusal::number(10));
+        }
+        // The header's, and the parent's where that is another page.
+        let last_stores = if parents.is_empty() { 1 } else { 2 };
+        if number >= (pages + last_stores) as u64 {
+            return Err(Refusal::number(12));
+        }
+        Ok(Answer::granted())
+    }
+
     /// Removes an entry, which has to be of that kind.
     pub fn remove(&mut self, path: &[u8], kind: Kind) -> Result<Answer, Refusal> {
         let names = parse(path)?;

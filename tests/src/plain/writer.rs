@@ -63,6 +63,27 @@ pub fn write(image: &mut [u8], path: &[u8], position: usize, bytes: &[u8]) {
     image[at + 19] = (new_size / 256) as u8;
 }
 
+/// The stores of a new file, in order, each a page and its bytes: what make and
+/// write leave on the pages of its chain, on the header and on the parent's.
+pub fn stores(
+    image: &[u8],
+    path: &[u8],
+    date: &[u8],
+    content: &[u8],
+) -> Vec<(usize, Vec<u8>)> {
+    let mut after = image.to_vec();
+    make(&mut after, path, date, Kind::File);
+    write(&mut after, path, 0, content);
+    let at = entry_at(&after, path);
+    let mut pages = chain_of(&after, at);
+    pages.push(0);
+    if at / PAGE != 0 {
+        pages.push(at / PAGE);
+    }
+    let bytes_of = |page: usize| after[page * PAGE..(page + 1) * PAGE].to_vec();
+    pages.into_iter().map(|page| (page, bytes_of(page))).collect()
+}
+
 /// Empties the entry of a file or an empty directory and frees its pages.
 pub fn remove(image: &mut [u8], path: &[u8]) {
     let at = entry_at(image, path);

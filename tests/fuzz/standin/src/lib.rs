@@ -241,6 +241,36 @@ pub unsafe extern "C" fn zealfs_unlock(
 ///
 /// As include/zealfs.h says.
 #[no_mangle]
+pub unsafe extern "C" fn zealfs_store(
+    image: *const u8,
+    image_len: usize,
+    path: *const u8,
+    path_len: usize,
+    date: *const u8,
+    date_len: usize,
+    bytes: *const u8,
+    bytes_len: usize,
+    number: u64,
+    page: *mut u8,
+    page_len: usize,
+    out: *mut u64,
+) -> u64 {
+    let answer = calls().store(
+        lent(image, image_len),
+        lent(path, path_len),
+        lent(date, date_len),
+        lent(bytes, bytes_len),
+        number,
+        lent_mut(page, page_len),
+    );
+    tell::<_, 1>(out, &answer.values);
+    code(&answer)
+}
+
+/// # Safety
+///
+/// As include/zealfs.h says.
+#[no_mangle]
 pub unsafe extern "C" fn zealfs_repair(image: *mut u8, image_len: usize) -> u64 {
     code(&calls().repair(lent_mut(image, image_len)))
 }

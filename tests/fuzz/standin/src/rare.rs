@@ -188,6 +188,18 @@ impl Calls for Rarely {
         Plain.unlock(image, path)
     }
 
+    fn store(
+        &self,
+        image: &[u8],
+        path: &[u8],
+        date: &[u8],
+        content: &[u8],
+        number: u64,
+        page: &mut [u8],
+    ) -> Answer {
+        Plain.store(image, path, date, content, number, page)
+    }
+
     fn repair(&self, image: &mut [u8]) -> Answer {
         Plain.repair(image)
     }

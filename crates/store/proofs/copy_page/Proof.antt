@@ -1,0 +1,25 @@
+-- What is copied is a page long, and so is the buffer: all of it is put over.
+use Rattle.store.proofs.Pages.{page-copied}
+use borrow.Author.Needs.{needs}
+use Rattle.store.proofs.copy_page.Statement.{statement}
+use Rattle.store.proofs.copy_page.Tie as tie
+
+returns : tie.Need-returns
+returns c =
+    let pre = c .before .before .before .before .before .before .before .before .pre in
+    let first-byte = c .before .before .before .before .before .first-byte in
+    let copy-in = c .before .before .copy-in in
+    page-copied _ _ _ _ _ (first-byte .ensures) (pre .0) (pre .1) (copy-in .ensures)
+
+pub copy-page-spec : {M : Type 1} → statement M
+copy-page-spec =
+    tie.close
+    (tie.spec
+    (λ c κs. search needs)
+    (λ c. search needs)
+    (λ c. search needs)
+    (λ c. search needs)
+    (λ c. search needs)
+    (λ c κs. search needs)
+    (λ c. search needs)
+    returns)

@@ -1,0 +1,3 @@
+pub mod Pull
+pub mod Claim
+pub mod Demand
