@@ -1,4 +1,4 @@
--- What the rows of `Values` have in common: arguments, images and literal bytes. All are closed, so that a row with them computes.
+-- What the rows of this crate and of `tables` have in common: arguments, images and literal bytes. All are closed, so that a row with them computes.
 use Prim.Native.Nat.{ℕ, _%_}
 use mathlib.Core.List.{[], _∷_, _++_, map}
 use lib.ListN.{replicate, set}
@@ -6,12 +6,11 @@ use Rattle.volume.specs.Bytes.{Bytes, part, put}
 use Rattle.volume.specs.Lists.{upTo}
 use Rattle.model.specs.Call.{Kind, Found, Listed, holds, Answer, granted}
 use Rattle.model.specs.Text.{text}
-use Rattle.model.proofs.Table.{date}
 
 -- ---- arguments
 
 abbrev pub day1 : Bytes
-day1 = date
+day1 = 0x20 ∷ 0x26 ∷ 0x11 ∷ 0x15 ∷ 0x07 ∷ 0x14 ∷ 0x30 ∷ 0x00 ∷ []
 
 abbrev pub day2 : Bytes
 day2 = 0x19 ∷ 0x99 ∷ 0x12 ∷ 0x31 ∷ 0x05 ∷ 0x23 ∷ 0x59 ∷ 0x58 ∷ []
@@ -62,6 +61,17 @@ two = header 5 0b111 ++ stored 0x80 (text "A" ++ replicate 15 0) 1 0xFF 0x00 day
     ++ 0 ∷ content 255
     ++ 0 ∷ replicate 255 0x42
     ++ replicate 1280 0xE5
+
+-- a directory on page 1, and an empty file on page 1, which begins with 0 (paper 02 §1); what follows the 0 does not count
+unfoldable pub box : Bytes
+box = header 6 0b11 ++ stored 0x81 (text "A" ++ replicate 15 0) 1 0x00 0x01 day1 ++ replicate 160 0 ++ replicate 256 0 ++ replicate 1536 0xE5
+
+unfoldable pub note : Bytes
+note = header 6 0b11 ++ stored 0x80 (text "A" ++ replicate 15 0) 1 0x00 0x00 day1 ++ replicate 160 0 ++ 0 ∷ replicate 255 0xE5 ++ replicate 1536 0xE5
+
+-- three files, of which the third, empty, has this name
+unfoldable pub three : (name : ℕ) → Bytes
+three name = put 3 (4 ∷ 0b1111 ∷ []) (put 128 (stored 0x80 (name ∷ replicate 15 0) 3 0x00 0x00 day1) (set two 768 0))
 
 -- /0042 of 256 bytes on pages 1 and 5; /A on page 2, in it /A/7, empty, on page 3, and /A/B, empty, on page 4. An empty file's page is zeroed
 -- as a directory's is (paper 02 §1).

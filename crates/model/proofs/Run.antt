@@ -19,7 +19,7 @@ use Rattle.model.specs.Path.{before, texts, namesFrom, pathTo, pathOf, i
 use Rattle.model.specs.Image.{contentOf, entryRow, rowOf, rowAt, treeOf}
 use Rattle.model.specs.Walk.{enter, walk, nodeNamed, inWalked, walkTo, entryNamed, enterOn, walkOn, arrivedOr}
 use Rattle.model.specs.Effect.{formatted, isVacant, lowestVacant, made, rewritten, written, removed, withLock, relocked}
-use Rattle.model.specs.Call.{Call, read, Verdict, Told, bufferBefore, Refusal, Answer, refused, granted}
+use Rattle.model.specs.Call.{Call, verdict, read, Verdict, Told, bufferBefore, Refusal, Answer, refused, granted}
 use Rattle.model.specs.Refusal.{Line, isMissing, isBlocked, stoppedAt, isThere, isDirectoryNode, isLockedNode, contentIn, rowIn, wanted, makeLines, earlier, later, refusals, settle}
 use Rattle.model.specs.Meaning.{foundAt, listed, told, filled, isFormat, lines, effect, answer, after, bufferAfter, toldOn, filledOn}
 use Rattle.model.specs.Demands.{Result, Results}
@@ -146,6 +146,10 @@ answered b steps = record { start = b; steps = steps; Seen = Unit {0}; look = λ
 
 abbrev pub shown : {A : Type 0} → Bytes → List Step → (Bytes → A) → A → Case
 shown {A} b steps look seen = record { start = b; steps = steps; Seen = A; look = look; seen = seen }
+
+-- an image that is refused by this number, with the three numbers of its place (paper 02 §2)
+abbrev pub unsound : Bytes → (number x y z : ℕ) → Case
+unsound b n x y z = answered b (verdict gives refused (numbered n x y z) ∷ [])
 
 -- ---- the cases hold
 

@@ -1,1 +1,1 @@
-// The specification of ZealFS version 1 as document 01 has it: definitions in specs/, computed tables in proofs/. No code.
+// The specification of ZealFS version 1 as document 01 has it: definitions in specs/, computed rows in proofs/. No code.

@@ -8,32 +8,17 @@ use lib.ListN.{replicate, set}
 use Rattle.volume.specs.Bytes.{Bytes, part, put}
 use Rattle.volume.specs.Lists.{upTo}
 use Rattle.volume.specs.Geometry as On
 use Rattle.model.specs.Layout.{version1}
 use Rattle.model.specs.Sound.{sound, ownedPages, owners}
-use Rattle.model.specs.Call.{verdict, find, list, makeFile, makeDirectory, write, removeFile, isFile, isDirectory, empty, refused, granted}
+use Rattle.model.specs.Call.{verdict, find, list, makeFile, makeDirectory, write, removeFile, isFile, isDirectory, empty, granted}
 use Rattle.model.specs.Text.{text}
 use Rattle.model.specs.Judge.{clean, judge, isClean}
-use Rattle.model.proofs.Run.{computing, Case, _gives_, numbered, done, sized, answered, shown, Hold, computed, stated, hold}
-use Rattle.model.proofs.Desk.{day1, found, entry, whole, header, stored, fresh, one, two, desk, shelf, far}
-
--- refused by this number, with the three numbers of its place (paper 02 §2)
-abbrev unsound : Bytes → (number x y z : ℕ) → Case
-unsound b n x y z = answered b (verdict gives refused (numbered n x y z) ∷ [])
+use Rattle.model.proofs.Run.{computing, Case, _gives_, done, sized, answered, shown, unsound, Hold, computed, stated, hold}
+use Rattle.model.proofs.Desk.{day1, found, entry, whole, header, stored, fresh, note, one, two, three, box, desk, shelf, far}
 
 -- sound, with so many free pages; the judge marks these pages of 8
 abbrev clear : Bytes → ℕ → List ℕ → Case
 clear b free pages = shown b (verdict gives sized 8 free ∷ []) judge (clean (foldl (λ marks p. set marks p 1) (replicate 8 0) pages))
-
--- a directory on page 1, and an empty file on page 1, which begins with 0 (paper 02 §1); what follows the 0 does not count
-box : Bytes
-box = header 6 0b11 ++ stored 0x81 (text "A" ++ replicate 15 0) 1 0x00 0x01 day1 ++ replicate 160 0 ++ replicate 256 0 ++ replicate 1536 0xE5
-
-note : Bytes
-note = header 6 0b11 ++ stored 0x80 (text "A" ++ replicate 15 0) 1 0x00 0x00 day1 ++ replicate 160 0 ++ 0 ∷ replicate 255 0xE5 ++ replicate 1536 0xE5
-
--- three files, of which the third, empty, has this name
-three : (name : ℕ) → Bytes
-three name = put 3 (4 ∷ 0b1111 ∷ []) (put 128 (stored 0x80 (name ∷ replicate 15 0) 3 0x00 0x00 day1) (set two 768 0))
 
 -- 16 pages: nine directories on pages 1 to 9, each in the one before
 nested : Bytes

@@ -6,17 +6,17 @@ use mathlib.Core.Bool.{false}
 use mathlib.Core.List.{List, [], _∷_, _++_}
 use lib.ListN.{replicate, set}
 use Rattle.volume.specs.Bytes.{Bytes}
 use Rattle.model.specs.Tree.{Row, end, free, file, dir, Tree, fill, rewrite, vacate, inside}
 use Rattle.model.specs.Image.{treeOf}
 use Rattle.model.specs.Walk.{changeAt}
 use Rattle.model.specs.Call.{format, verdict, find, makeFile, makeDirectory, write, removeFile, removeDirectory}
 use Rattle.model.specs.Meaning.{inParent, changed, treeAnswer, treeBuffer, treeAfter}
 use Rattle.model.specs.Demands.{replay, replayResults}
 use Rattle.model.specs.Text.{text}
 use Rattle.model.specs.Listing.{digits, line, rowLines, treeLines, listingOf, listing}
 use Rattle.model.proofs.Run.{computing, Step, calls, given, Case, _gives_, reads, refusal, refusalAt, done, sized, shown, Hold, computed, stated, hold}
-use Rattle.model.proofs.Table.{blank, newFile, newDirectory}
+use Rattle.tables.proofs.Table.{blank, newFile, newDirectory}
 use Rattle.model.proofs.Desk.{day1, day2, day3, content, fresh, desk, full}
 
 unfoldable pub replaying : Unit {0}
 unfolding fill rewrite vacate inside changeAt inParent changed treeAnswer treeBuffer treeAfter replay replayResults

@@ -6,16 +6,16 @@ use mathlib.Core.List.{List, [], _∷_, _++_}
 use lib.ListN.{replicate, set, drop}
 use Rattle.volume.specs.Bytes.{part, put}
 use Rattle.volume.specs.Lists.{keep, upTo}
 use Rattle.model.specs.Name.{legalByte}
 use Rattle.model.specs.Refusal.{tableOrder, ownNumbers}
 use Rattle.model.specs.Call.{format, verdict, find, list, read, makeFile, makeDirectory, write, removeFile, removeDirectory, setLock, store, isFile, isDirectory, empty, holds, Refusal, refused, granted}
 use Rattle.model.specs.Image.{treeOf}
 use Rattle.model.specs.Meaning.{told as tells, numbers}
 use Rattle.model.specs.Store.{isNone, storeCount}
 use Rattle.model.specs.Text.{text}
 use Rattle.model.proofs.Run.{computing, Step, Case, _gives_, reads, numbered, refusal, refusalAt, done, sized, answered, shown, Hold, computed, stated, hold}
-use Rattle.model.proofs.Table.{blank}
+use Rattle.tables.proofs.Table.{blank}
 use Rattle.model.proofs.Desk.{full, day1, day2, day3, content, found, entry, whole, header, fresh, one, desk, shelf, far, long}
 
 -- ---- the table of numbers
 

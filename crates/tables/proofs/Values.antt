@@ -1,12 +1,12 @@
 -- The second table: the values that the laws leave free, all under one theorem, which holds since each list of rows does. The rows stand in the files
 -- before this one.
 use mathlib.Core.List.{List, _++_}
 use Rattle.model.proofs.Run.{Case, Hold, hold-append}
-use Rattle.model.proofs.Answers.{ordered, ordered-hold, formats, formats-hold, judgedFirst, judgedFirst-hold, stores, stores-hold, paths, paths-hold, told, told-hold, readings, readings-hold}
-use Rattle.model.proofs.Makes.{makes, makes-hold, dates, dates-hold}
-use Rattle.model.proofs.Changes.{writes, writes-hold, removes, removes-hold, locks, locks-hold, made, made-hold}
-use Rattle.model.proofs.Soundness.{sounds, sounds-hold, facts, facts-hold, order, order-hold, kept, kept-hold, owning, owning-hold}
-use Rattle.model.proofs.Pictures.{trees, trees-hold, listings, listings-hold}
+use Rattle.tables.proofs.Answers.{ordered, ordered-hold, formats, formats-hold, judgedFirst, judgedFirst-hold, stores, stores-hold, paths, paths-hold, told, told-hold, readings, readings-hold}
+use Rattle.tables.proofs.Makes.{makes, makes-hold, dates, dates-hold}
+use Rattle.tables.proofs.Changes.{writes, writes-hold, removes, removes-hold, locks, locks-hold, made, made-hold}
+use Rattle.tables.proofs.Soundness.{sounds, sounds-hold, facts, facts-hold, order, order-hold, kept, kept-hold, owning, owning-hold}
+use Rattle.tables.proofs.Pictures.{trees, trees-hold, listings, listings-hold}
 
 pub values : List Case
 values =

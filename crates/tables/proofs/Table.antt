@@ -8,15 +8,13 @@ use mathlib.Core.List.{List, [], _∷_, _++_, map}
 use lib.ListN.{replicate}
 use Rattle.volume.specs.Bytes.{Bytes, part, byteAt}
 use Rattle.volume.specs.Geometry as On
 use Rattle.model.specs.Layout.{version1, pagesFor, pageBit}
 use Rattle.model.specs.Call.{Call, format, verdict, find, list, makeFile, makeDirectory, write, isFile, holds, granted}
 use Rattle.model.specs.Text.{text}
 use Rattle.model.proofs.Run.{computing, Case, _gives_, refusal, refusalAt, done, sized, answered, shown, Hold, computed, stated, hold}
+use Rattle.model.proofs.Desk.{day1 as date}
 
 -- ---- the arguments
-
-abbrev pub date : Bytes
-date = 0x20 ∷ 0x26 ∷ 0x11 ∷ 0x15 ∷ 0x07 ∷ 0x14 ∷ 0x30 ∷ 0x00 ∷ []
 
 abbrev pub newFile : String → Call
 newFile path = makeFile (text path) date
