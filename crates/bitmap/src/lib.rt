@@ -1,160 +1,71 @@
-// The bitmap of an image: which pages are allocated, how many are free, and which free one is the lowest.
+// The bitmap of an image of version 1: the functions of `shape_bitmap` at the shape of version 1, with contracts in the model's words.
 // Every function is total where the bitmap lies in the image, and none but `mark` and `unmark` changes a byte, each of them one.
 ghost use mathlib.Core.Path.{_≡_};
-ghost use Prim.Native.Nat.{_+_, _%_, _^_, _<_, _≤_};
-ghost use lib.Count.{ones};
+ghost use Prim.Native.Nat.{_+_, _<_, _≤_};
 ghost use lib.ListN.{length};
 ghost use Rattle.model.specs.Layout.{version1};
 ghost use Rattle.volume.specs.Geometry as On;
-ghost use Rattle.bitmap.specs.Lowest.{Lowest};
-ghost use Rattle.bitmap.specs.Words.{Holds, Ends, Clear};
+ghost use Rattle.shape_bitmap.specs.Lowest.{Lowest};
+ghost use Rattle.bitmap.specs.Words.{Clear};
 use fields::Page;
+use shape::Cell;
+use shape::Links;
+use shape::Shape;
+pub use shape_bitmap::Free;
 
-// The lowest free page, if there is one.
-pub enum Free {
-    At(Page),
-    None,
-}
+// Version 1 (01, "Numbers" and "The header page"). A constant: once it is handed on, the compiler leaves nothing of it but its numbers.
+pub const VERSION1: Shape = Shape {
+    aside: 1,
+    size: 256,
+    room: 255,
+    links: Links::OnPage,
+    count: Cell::Byte(3),
+    map: 4,
+};
 
 // The bit of a page, 1 if it is allocated.
 pub fn bit(image: &[u8], page: Page) -> usize
     requires { ⌜ On.bitmapByte version1 (page .0) < length (now image) ⌝ }
     ensures { λ r. ⌜ r ≡ On.pageBit version1 (now (image .entry)) (page .0) ⌝ }
 {
-    let p = page.0;
-    let byte = fields::wide(image[4 + p / 8]);
-    (byte >> (p % 8)) % 2
+    shape_bitmap::bit(image, VERSION1, page)
 }
 
-// ---- words: bit j of a word is that of the j-th page from byte `from` of the bitmap on
-
-fn bits16(image: &[u8], from: usize) -> usize
-    requires { ⌜ from + 6 ≤ length (now image) ⌝ }
-    ensures { λ r. ⌜ Holds (now (image .entry)) from 16 r × (r < 65536) ⌝ }
-{
-    fields::wide(image[4 + from]) + 256 * fields::wide(image[5 + from])
-}
-
-fn bits32(image: &[u8], from: usize) -> usize
-    requires { ⌜ from + 8 ≤ length (now image) ⌝ }
-    ensures { λ r. ⌜ Holds (now (image .entry)) from 32 r × (r < 4294967296) ⌝ }
-{
-    bits16(image, from) + 65536 * bits16(image, from + 2)
-}
-
-fn bits64(image: &[u8], from: usize) -> usize
-    requires { ⌜ from + 12 ≤ length (now image) ⌝ }
-    ensures { λ r. ⌜ Holds (now (image .entry)) from 64 r ⌝ }
-{
-    bits32(image, from) + 4294967296 * bits32(image, from + 4)
-}
-
-fn one_bits(word: usize) -> usize
-    ensures { λ r. ⌜ (r ≡ ones word) × (r ≤ 64) ⌝ }
-{
-    usize::count_ones(word) as usize
-}
-
-// The zeros among the lowest k bits of a word, as what the ones leave of k.
-fn zeros_among(word: usize, k: usize) -> usize
-    requires { ⌜ k ≤ 64 ⌝ }
-    ensures { λ r. ⌜ r + ones (word % 2 ^ k) ≡ k ⌝ }
-{
-    if k == 64 {
-        return 64 - one_bits(word);
-    }
-    k - one_bits(word % weight(k))
-}
-
-// The place of a word's lowest zero, 64 if there is none: the zeros of its complement end there.
-fn lowest_zero(word: usize) -> usize
-    ensures { λ r. ⌜ Ends 64 word r ⌝ }
-{
-    usize::trailing_zeros(!word) as usize
-}
-
-// ---- all words
-
-// The zero bits among the first n. Bits past them are not counted: a small image may hold anything there.
+// The zero bits among the first n.
 pub fn zero_bits(image: &[u8], n: usize) -> usize
     requires { ⌜ (n ≤ 256) × (36 ≤ length (now image)) ⌝ }
     ensures { λ r. ⌜ r ≡ On.zeroBits version1 (now (image .entry)) n ⌝ }
 {
-    let mut zeros = 0;
-    let mut counted = 0;
-    while 64 * counted < n {
-        zeros += zeros_among(
-            bits64(image, 8 * counted),
-            fields::least(64, n - 64 * counted),
-        );
-        counted += 1;
-    }
-    zeros
+    shape_bitmap::zero_bits(image, VERSION1, n)
 }
 
-// How many bytes from `byte` on are seen to mark no page: none, 1, or 8 where a whole word is 0. A word may reach past the bitmap: what
-// stands there can only make the answer less.
+// How many bytes from `byte` on are seen to mark no page.
 pub fn clear_bytes(image: &[u8], byte: usize) -> usize
     requires { ⌜ byte + 12 ≤ length (now image) ⌝ }
     ensures { λ r. ⌜ Clear (now (image .entry)) byte r × (r ≤ 8) ⌝ }
 {
-    if image[4 + byte] != 0 {
-        return 0;
-    }
-    if bits64(image, byte) != 0 {
-        return 1;
-    }
-    8
+    shape_bitmap::clear_bytes(image, VERSION1, byte)
 }
 
 pub fn lowest_free(image: &[u8], n: usize) -> Free
     requires { ⌜ (n ≤ 256) × (36 ≤ length (now image)) ⌝ }
     ensures { λ r. ⌜ Lowest n (On.lowestFree version1 n (now (image .entry))) r ⌝ }
 {
-    let mut searched = 0;
-    while 64 * searched < n {
-        let k = lowest_zero(bits64(image, 8 * searched));
-        if k < 64 {
-            if 64 * searched + k < n {
-                return Free::At(Page(64 * searched + k));
-            }
-            return Free::None;
-        }
-        searched += 1;
-    }
-    Free::None
+    shape_bitmap::lowest_free(image, VERSION1, n)
 }
 
-// The value of bit k.
-fn weight(k: usize) -> usize
-    requires { ⌜ k < 64 ⌝ }
-    ensures { λ r. ⌜ r ≡ 2 ^ k ⌝ }
-{
-    1 << k
-}
-
-// Sets the bit of a page. One that is set stays: to add its weight again would carry into the next page's bit.
+// Sets the bit of a page.
 pub fn mark(image: &mut [u8], page: Page)
     requires { ⌜ On.bitmapByte version1 (page .0) < length (now image) ⌝ }
     ensures { λ _. ⌜ now (image .exit) ≡ On.mark version1 (page .0) (now (image .entry)) ⌝ }
 {
-    let p = page.0;
-    let at = 4 + p / 8;
-    let byte = fields::wide(image[at]);
-    if bit(image, page) == 0 {
-        image[at] = (byte + weight(p % 8)) as u8;
-    }
+    shape_bitmap::mark(image, VERSION1, page);
 }
 
-// Clears the bit of a page. One that is clear stays.
+// Clears the bit of a page.
 pub fn unmark(image: &mut [u8], page: Page)
     requires { ⌜ On.bitmapByte version1 (page .0) < length (now image) ⌝ }
     ensures { λ _. ⌜ now (image .exit) ≡ On.unmark version1 (page .0) (now (image .entry)) ⌝ }
 {
-    let p = page.0;
-    let at = 4 + p / 8;
-    let byte = fields::wide(image[at]);
-    if bit(image, page) == 1 {
-        image[at] = (byte - weight(p % 8)) as u8;
-    }
+    shape_bitmap::unmark(image, VERSION1, page);
 }

@@ -9,7 +9,7 @@ use borrow.Rule.Slice.PartMut.{midOf, putMid}
 use Rattle.volume.specs.Bytes.{Bytes, put, le16}
 use Rattle.volume.proofs.Splice.{splice-right}
 use Rattle.model.specs.Entry.{newEntry}
-use Rattle.pages.proofs.Lent.{lent-filled}
+use Rattle.volume.proofs.Lent.{lent-filled}
 
 -- a part lent and filled from its front on
 pub lent-put : (at : ℕ) (v b ys : Bytes) → at + length v ≤ length b → ys ≡ put 0 v (midOf at (at + length v - at) b) → putMid at (at + length v - at) b ys ≡ put at v b

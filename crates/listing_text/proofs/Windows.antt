@@ -10,7 +10,7 @@ use lib.Seq.{take-nil, drop-nil}
 use Rattle.volume.specs.Bytes.{Bytes, put}
 use Rattle.volume.proofs.Splice.{splice-nil}
 use Rattle.volume.proofs.Puts.{put-length}
-use Rattle.chains.proofs.Stretches.{take-min, put-two}
+use Rattle.volume.proofs.Stretches.{take-min, put-two}
 use Rattle.listing_text.specs.Window.{Window, shown, poured}
 
 -- as much of the text is passed, and nothing is written

@@ -1,3 +1,0 @@
-pub mod Fills
-pub mod Lent
-pub mod Stores

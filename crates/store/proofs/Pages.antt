@@ -10,13 +10,12 @@ use lib.ListN.{length, set, take, drop, length-set, length-take, length-drop, le
 use lib.Seq.{ext-getD, take-all}
 use lib.Dec.{T, ltb, ltb→lt}
 use borrow.Author.Tests.{lt-ltb, le-ltb}
-use Rattle.volume.specs.Bytes.{Bytes, byteAt, part, put, if_then_else_}
+use Rattle.volume.specs.Bytes.{Bytes, byteAt, part, put, if_then_else_, zeros}
 use Rattle.volume.specs.Geometry as On
 use Rattle.volume.proofs.Puts.{put-length, put-in, byte-part, part-length}
 use Rattle.volume.proofs.Marks.{zeros-cong, bit-byte, lowest-free}
 use Rattle.model.specs.Layout.{version1, pageCount, pagesFor, freeCount, zeroBits}
 use Rattle.model.specs.Entry.{newEntry}
-use Rattle.pages.specs.Zeros.{zeros}
 use Rattle.store_laws.specs.Claim.{claim, claimed, pageAfter, linkAfter, contentPage, startedEntry}
 use Rattle.store_laws.proofs.Claims.{claimed-add, claimed-length}
 use Rattle.store.specs.Asked.{Storing}

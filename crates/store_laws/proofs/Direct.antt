@@ -12,14 +12,13 @@ use lib.ListN.{length, getD, set, drop, replicate, length-set, length-take, leng
 use lib.Seq.{ext-getD, getD-append-add, getD-set-same, getD-set-other}
 use lib.Dec.{T, eqb, ltb}
 use borrow.Author.Tests.{lt-ltb, le-ltb, eq-eqb, ne-eqb}
-use Rattle.volume.specs.Bytes.{Bytes, byteAt, part, put, if_then_else_}
+use Rattle.volume.specs.Bytes.{Bytes, byteAt, part, put, if_then_else_, zeros}
 use Rattle.volume.specs.Chain.{chain, beyond}
 use Rattle.volume.specs.Geometry as On
 use Rattle.volume.proofs.Occ.{occ, Mem, not-mem}
 use Rattle.volume.proofs.Puts.{put-length, put-out, put-in, byte-part, part-length}
 use Rattle.model.specs.Layout.{version1, pageCount, link}
 use Rattle.model.specs.Entry.{entries, startAt, newEntry}
-use Rattle.pages.specs.Zeros.{zeros}
 use Rattle.model.specs.Store.{storeOf, lastPages}
 use Rattle.laws.proofs.Facts.{Facts}
 use Rattle.laws.proofs.Slots.{size}

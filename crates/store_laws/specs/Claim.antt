@@ -4,11 +4,10 @@ use Prim.Native.Nat.{ℕ, zero, suc, _-_, _*_}
 use mathlib.Core.Bool.{Bool}
 use lib.ListN.{set}
 use lib.Dec.{ltb}
-use Rattle.volume.specs.Bytes.{Bytes, byteAt, part, put, if_then_else_}
+use Rattle.volume.specs.Bytes.{Bytes, byteAt, part, put, if_then_else_, zeros}
 use Rattle.volume.specs.Geometry as On
 use Rattle.model.specs.Layout.{version1, room, pageSize}
 use Rattle.model.specs.Entry.{newEntry}
-use Rattle.pages.specs.Zeros.{zeros}
 
 -- ---- the header's fields as pages are taken, on any bytes that begin with them: an image, or a copy of its header page alone
 

@@ -1,4 +1,5 @@
--- The laws of a volume, for whoever builds on it: lists and counts first, then bytes and chains, then pages under any lawful geometry.
+-- The laws of a volume, for whoever builds on it: lists and counts first, then bytes and chains, then pages under any lawful geometry, and last the
+-- turns of the loops that do these things.
 -- Read in this order.
 pub mod Examples
 pub mod Occ
@@ -19,3 +20,14 @@ pub mod Writes
 pub mod Entries
 pub mod Stays
 pub mod Small
+pub mod Stretches
+pub mod Fills
+pub mod Lent
+pub mod Weights
+pub mod Search
+pub mod Follow
+pub mod Reading
+pub mod Writing
+pub mod Stores
+pub mod Releasing
+pub mod Growing

@@ -2,7 +2,7 @@
 use Prim.Native.Nat.{ℕ, _+_, _/_, _%_, _^_}
 use mathlib.Core.Bool.{Bool, true, false, _&&_}
 use mathlib.Core.List.{List, [], _∷_, _++_}
-use lib.ListN.{length, getD, take, drop}
+use lib.ListN.{length, getD, take, drop, replicate}
 use lib.Dec.{eqb}
 
 -- An image, a path, a name, a date and a buffer are lists of bytes.
@@ -25,6 +25,10 @@ part i n b = take n (drop i b)
 -- b with v in place of the bytes from position i
 abbrev pub put : ℕ → Bytes → Bytes → Bytes
 put i v b = take i b ++ v ++ drop (i + length v) b
+
+-- n zero bytes, under a name so that a goal does not write them out
+unfoldable pub zeros : ℕ → Bytes
+zeros n = replicate n 0
 
 -- a number in two bytes, the low one first
 abbrev pub le16 : ℕ → Bytes

@@ -6,14 +6,13 @@ use Prim.Native.Nat.{ℕ, _-_, _/_, _%_, _<_}
 use native.Mathlib.Omega.{arith}
 use lib.ListN.{length, replicate}
 use lib.Dec.{T}
-use Rattle.volume.specs.Bytes.{Bytes, put}
+use Rattle.volume.specs.Bytes.{Bytes, put, zeros}
 use Rattle.model.specs.Layout.{pageCount, validLength}
 use Rattle.model.specs.Call.{format, refusal, refused, granted}
 use Rattle.model.specs.Refusal.{settle}
 use Rattle.model.specs.Effect.{formatted}
 use Rattle.model.specs.Meaning.{told, isFormat, lines, effect, answer, after}
 use Rattle.laws.proofs.Facts.{Sized, valid-sized}
-use Rattle.pages.specs.Zeros.{zeros}
 
 pub allowed : (b : Bytes) → validLength (length b) ≡ true → Sized b
 allowed b e = valid-sized b (subst T (sym e) tt)

@@ -12,7 +12,7 @@ use denote.Enum.Declared.{tagOf}
 use Rattle.volume.specs.Bytes.{Bytes, put}
 use Rattle.volume.specs.Chain.{chain}
 use Rattle.volume.proofs.Splice.{drop-take}
-use Rattle.chains.proofs.Stretches.{take-min}
+use Rattle.volume.proofs.Stretches.{take-min}
 use Rattle.model.specs.Layout.{pagesFor, link}
 use Rattle.model.specs.Tree.{Node, freeNumber}
 use Rattle.model.specs.Image.{contentOn, contentOf, treeOf}

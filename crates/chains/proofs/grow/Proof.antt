@@ -1,18 +1,7 @@
--- `grow` adds one page a turn, and there is room for those left, with the new page's link as the joint.
-use Rattle.fields.proofs.Plain.{needs, _-_, arith}
-use Rattle.chains.proofs.Growing.{Adding, adding-first, adding-one, adding-page, adding-turn, adding-last}
+-- `grow`: version 1 is a lawful geometry, and a page's number is a byte.
+use Rattle.fields.proofs.Plain.{needs}
+use Rattle.chains.proofs.Asked.{growing}
 use Rattle.chains.proofs.grow.{Statement.statement, Tie.close, Tie.spec}
 
 pub grow-spec : {M : Type 1} → statement M
-grow-spec = close (spec
-    (λ image₀ n joint count at₀ counter₀ image at counter. Adding n count joint image₀ counter at image)
-    (λ image₀ n joint count at₀ counter₀ image at counter. count - counter)
-    (λ c. search adding-first)
-    (λ c κs. search adding-one)
-    (λ c κs.
-    let turn = c .before .before .before .before in
-    omega (arith, adding-page (turn .before .loop .inv) (turn .loop-test .taken), c .before .before .append .ensures .0))
-    (λ c. search needs) (λ c. search needs)
-    (λ c. search adding-turn)
-    (λ c. c .before .loop .inv .size)
-    (λ c. search adding-last))
+grow-spec = close (spec (λ c κs. growing (c .before .before .pre)) (λ c. search needs) (λ c. search needs))

@@ -1,14 +1,7 @@
--- `page_at` follows one link a turn, and where the links left lead to is where all lead to.
-use Rattle.fields.proofs.Plain.{needs, _-_, arith}
-use Rattle.chains.proofs.Follow.{Following, following-first, following-here, following-turn, following-last}
+-- `page_at`: each page below N lies in the image with its link.
+use Rattle.fields.proofs.Plain.{needs}
+use Rattle.chains.proofs.Asked.{inside}
 use Rattle.chains.proofs.page_at.{Statement.statement, Tie.close, Tie.spec}
 
 pub page-at-spec : {M : Type 1} → statement M
-page-at-spec = close (spec
-    (λ image index page₀ counter₀ page counter. Following image index (page₀ .0) counter (page .0))
-    (λ image index page₀ counter₀ page counter. index - counter)
-    (λ c. search following-first)
-    (λ c κs. omega (arith, following-here (c .before .loop .inv) (c .loop-test .taken)))
-    (λ c. search needs) (λ c. search needs)
-    (λ c. search following-turn)
-    (λ c. search following-last))
+page-at-spec = close (spec (λ c κs. let s = c .before in inside (s .args .image .now) (s .args .index) (s .args .start .0) (s .pre)) (λ c. search needs))

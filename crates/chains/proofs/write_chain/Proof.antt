@@ -1,24 +1,7 @@
--- `write_chain` puts on each page what it takes of the bytes; what is left of them is spread along the pages left, and the image stays once nothing is left.
-use Rattle.fields.proofs.Plain.{needs, _-_, arith}
-use Rattle.chains.proofs.Writing.{Writing, writing-first, writing-here, writing-turn, writing-last, writing-done}
+-- `write_chain`: no byte of content is a link.
+use Rattle.fields.proofs.Plain.{needs}
+use Rattle.chains.proofs.Asked.{writable}
 use Rattle.chains.proofs.write_chain.{Statement.statement, Tie.close, Tie.spec}
 
 pub write-chain-spec : {M : Type 1} → statement M
-write-chain-spec = close (spec
-    (λ image₀ k bytes page₀ place₀ done₀ counter₀ image page place done counter. Writing image₀ bytes k (page₀ .0) place₀ counter (page .0) place done image)
-    (λ image₀ k bytes page₀ place₀ done₀ counter₀ image page place done counter. k - counter)
-    (λ c. search writing-first)
-    (λ c. c .before .before .loop .inv .size)
-    (λ c. search writing-done)
-    (λ c κs.
-    let turn = c .before .before in
-    let inv = turn .before .loop .inv in
-    (writing-here inv (turn .loop-test .taken), inv .fits))
-    (λ c κs. tt)
-    (λ c κs.
-    let turn = c .before .before .before .before .before .before .before in
-    omega (arith, writing-here (turn .before .loop .inv) (turn .loop-test .taken), c .before .before .before .before .write-page .kept .0))
-    (λ c. search needs) (λ c. search needs)
-    (λ c. search writing-turn)
-    (λ c. c .before .loop .inv .size)
-    (λ c. search writing-last))
+write-chain-spec = close (spec (λ c κs. writable _ _ _ (c .before .before .before .pre)) (λ c. search needs) (λ c. search needs))

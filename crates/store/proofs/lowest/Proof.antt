@@ -1,5 +1,5 @@
 -- The search answers the lowest free page, or none, which stands for n.
-use Rattle.bitmap.specs.Lowest.{numberOf}
+use Rattle.shape_bitmap.specs.Lowest.{numberOf}
 use mathlib.Core.Path.{sym, ap, _∙_}
 use borrow.Author.Needs.{needs}
 use Rattle.store.proofs.lowest.Statement.{statement}

@@ -1,0 +1,15 @@
+-- What an answer says of the lowest free page.
+use mathlib.Core.Path.{_≡_}
+use Prim.Native.Nat.{ℕ}
+use Rattle.shape_bitmap.specs.declared.Free.{Free}
+use Rattle.shape_bitmap.specs.declared.Free.the-variants.{At, None}
+
+-- the number that each answer stands for: the page's, or n where none of n pages is free
+abbrev pub numberOf : ℕ → Free → ℕ
+numberOf n (At page) = page .0
+numberOf n None = n
+
+-- r answers with x, which is a page below n or n itself: None exactly when x is n
+pub record Lowest (n x : ℕ) (r : Free) : Type 0 where
+  pub number : numberOf n r ≡ x
+  pub none : x ≡ n → r ≡ None

@@ -1,0 +1,180 @@
+// Chains of pages in an image of any shape: found, read, written, grown and given back.
+// Each goes from page to page by the links and does the work of one page by a function of its own; what it asks is said by the laws' own records.
+ghost use mathlib.Core.Path.{_≡_};
+ghost use Prim.Native.Nat.{_+_, _-_, _<_, _≤_, _^_, min};
+ghost use mathlib.Core.List.{foldl, flatMap};
+ghost use lib.ListN.{length, take, drop};
+ghost use Rattle.volume.specs.Bytes.{put};
+ghost use Rattle.volume.specs.Chain.{chain, beyond, spread};
+ghost use Rattle.volume.specs.Geometry as On;
+ghost use Rattle.volume.proofs.Follow.{PageLies, Inside};
+ghost use Rattle.volume.proofs.Writing.{Writable};
+ghost use Rattle.volume.proofs.Growing.{Growing};
+ghost use Rattle.volume.proofs.Releasing.{Returned};
+ghost use Rattle.shape.specs.Geometry.{fieldOf, geometryOf};
+use fields::Page;
+use fields::Position;
+use shape::Cell;
+use shape::Shape;
+use shape_bitmap::Free;
+
+// The page with an index in the chain, counted from 0.
+pub fn page_at(image: &[u8], shape: Shape, start: Page, index: usize) -> Page
+    requires { ⌜ Inside (geometryOf shape) (now image) index (start .0) ⌝ }
+    ensures { λ r. ⌜ r .0 ≡ beyond (On.next (geometryOf shape) (now (image .entry))) index (start .0) ⌝ }
+{
+    let mut page = start;
+    for _ in 0..index {
+        page = shape::link(image, shape, page);
+    }
+    page
+}
+
+// What is left of a place in the content behind one page: 0 if it is on that page.
+fn behind_page(shape: Shape, place: usize) -> usize
+    ensures { λ r. ⌜ r ≡ place - shape .room ⌝ }
+{
+    let room = shape.room;
+    if place <= room {
+        return 0;
+    }
+    place - room
+}
+
+// Of the bytes wanted `done` are in the buffer. Copies those that this page has from a place of its content on, and answers how many are there then.
+// A place behind the page, and a buffer that has them all, make it none.
+fn read_page(
+    image: &[u8],
+    shape: Shape,
+    page: Page,
+    place: usize,
+    buffer: &mut [u8],
+    done: usize,
+    count: usize,
+) -> usize
+    requires { ⌜ PageLies (geometryOf shape) (page .0) (now image) × (shape .room ≤ shape .size) × (done ≤ count) × (count ≤ length (now buffer)) ⌝ }
+    ensures { λ r. ⌜ r ≡ done + min (shape .room - place) (count - done) ⌝ }
+    ensures { λ _. ⌜ now (buffer .exit) ≡ put done (take (count - done) (drop place (On.contentOn (geometryOf shape) (now (image .entry)) (page .0)))) (now (buffer .entry)) ⌝ }
+{
+    let room = shape.room;
+    if room <= place {
+        return done;
+    }
+    let more = fields::least(room - place, count - done);
+    let from = shape::first_byte(shape, page) + (shape.size - room) + place;
+    let end = from + more;
+    shape_pages::copy_in(buffer, done, &image[from..end]);
+    done + more
+}
+
+// Copies `count` bytes of the content of k pages, from the position on, to the front of the buffer; fewer where the pages have fewer.
+pub fn read_chain(
+    image: &[u8],
+    shape: Shape,
+    start: Page,
+    k: usize,
+    position: Position,
+    buffer: &mut [u8],
+    count: usize,
+)
+    requires { ⌜ (shape .room ≤ shape .size) × Inside (geometryOf shape) (now image) k (start .0) × (count ≤ length (now buffer)) ⌝ }
+    ensures { λ _. ⌜ now (buffer .exit) ≡ put 0 (take count (drop (position .0) (flatMap (On.contentOn (geometryOf shape) (now (image .entry))) (chain (On.next (geometryOf shape) (now (image .entry))) k (start .0))))) (now (buffer .entry)) ⌝ }
+{
+    let mut page = start;
+    let mut place = position.0;
+    let mut done = 0;
+    for _ in 0..k {
+        if done == count {
+            return;
+        }
+        done = read_page(image, shape, page, place, buffer, done, count);
+        place = behind_page(shape, place);
+        page = shape::link(image, shape, page);
+    }
+}
+
+// Of the bytes `done` are written. Puts those that this page takes at a place of its content, and answers how many are written then.
+fn write_page(
+    image: &mut [u8],
+    shape: Shape,
+    page: Page,
+    place: usize,
+    bytes: &[u8],
+    done: usize,
+) -> usize
+    requires { ⌜ PageLies (geometryOf shape) (page .0) (now image) × (shape .room ≤ shape .size) × (done ≤ length (now bytes)) ⌝ }
+    ensures { λ r. ⌜ r ≡ done + min (shape .room - place) (length (now (bytes .entry)) - done) ⌝ }
+    ensures { λ _. ⌜ now (image .exit) ≡ put (On.content (geometryOf shape) (page .0) + place) (take (shape .room - place) (drop done (now (bytes .entry)))) (now (image .entry)) ⌝ }
+{
+    let room = shape.room;
+    if room <= place {
+        return done;
+    }
+    let end = done + fields::least(room - place, bytes.len() - done);
+    let offset = shape.size - room + place;
+    shape_pages::fill_page(image, shape, page, offset, &bytes[done..end]);
+    end
+}
+
+// Puts bytes over the content of k pages, from the position on. No link of theirs is content of theirs, so the chain stays as it is.
+pub fn write_chain(
+    image: &mut [u8],
+    shape: Shape,
+    start: Page,
+    k: usize,
+    position: Position,
+    bytes: &[u8],
+)
+    requires { ⌜ Writable (geometryOf shape) (now image) k (start .0) ⌝ }
+    ensures { λ _. ⌜ now (image .exit) ≡ spread (On.content (geometryOf shape)) (shape .room) (chain (On.next (geometryOf shape) (now (image .entry))) k (start .0)) (position .0) (now (bytes .entry)) (now (image .entry)) ⌝ }
+{
+    let mut page = start;
+    let mut place = position.0;
+    let mut done = 0;
+    for _ in 0..k {
+        if done == bytes.len() {
+            return;
+        }
+        done = write_page(image, shape, page, place, bytes, done);
+        place = behind_page(shape, place);
+        page = shape::link(image, shape, page);
+    }
+}
+
+// Takes the lowest free page of n, and puts its number at the joint.
+fn append(image: &mut [u8], shape: Shape, n: usize, joint: Cell) -> Page
+    requires { ⌜ Growing (geometryOf shape) n 1 (fieldOf joint) (now image) ⌝ }
+    ensures { λ r. ⌜ (r .0 ≡ On.lowestFree (geometryOf shape) n (now (image .entry))) × (now (image .exit) ≡ On.grown (geometryOf shape) n 1 (fieldOf joint) (now (image .entry))) ⌝ }
+{
+    let Free::At(page) = shape_bitmap::lowest_free(image, shape, n) else {
+        // Never: a page is free, says the contract.
+        return Page(0);
+    };
+    shape_pages::take_page(image, shape, page);
+    shape::store(image, joint, page.0);
+    page
+}
+
+// Adds pages to a chain. The joint of the next one is the link of the last one added.
+pub fn grow(image: &mut [u8], shape: Shape, n: usize, joint: Cell, count: usize)
+    requires { ⌜ Growing (geometryOf shape) n count (fieldOf joint) (now image) ⌝ }
+    ensures { λ _. ⌜ now (image .exit) ≡ On.grown (geometryOf shape) n count (fieldOf joint) (now (image .entry)) ⌝ }
+{
+    let mut at = joint;
+    for _ in 0..count {
+        let page = append(image, shape, n, at);
+        at = shape::link_cell(shape, page);
+    }
+}
+
+// Gives the k pages of a chain back. Their bytes stay, and so do the links.
+pub fn release(image: &mut [u8], shape: Shape, start: Page, k: usize)
+    requires { ⌜ Returned (geometryOf shape) (now image) k (start .0) ⌝ }
+    ensures { λ _. ⌜ now (image .exit) ≡ foldl (On.released (geometryOf shape)) (now (image .entry)) (chain (On.next (geometryOf shape) (now (image .entry))) k (start .0)) ⌝ }
+{
+    let mut page = start;
+    for _ in 0..k {
+        shape_pages::release_page(image, shape, page);
+        page = shape::link(image, shape, page);
+    }
+}
