@@ -17,6 +17,7 @@ use Rattle.volume.proofs.Tests.{and-both, both-and, all-occ, occ-all, occ-count
 use Rattle.volume.proofs.Flat.{occ-flatMap-le}
 use Rattle.volume.proofs.Marks.{bit-low}
 use Rattle.model.specs.Layout.{version1, pageCount, validLength, validHeader, freeCount, pageBit, zeroBits}
+use Rattle.model.specs.Version1.{view}
 use Rattle.model.specs.Sound.{pagesAt, goodDirectory, reached, owned, sound, reachedEntries, ownedPages, owners}
 use Rattle.model.specs.Demands.{Owned, isFree, isOwned}
 use Rattle.laws.proofs.Facts.{valid-sized, Facts, sound-facts, facts-sound}
@@ -84,15 +85,15 @@ module _ (b : Bytes) where
   abbrev start : List ℕ
   start = firstRow (pageCount b)
 
-  owned-root : (q : ℕ) → occ q (flatMap (owned (pageCount b) b) (0 ∷ [])) ≡ occ q (ownedPages b)
+  owned-root : (q : ℕ) → occ q (flatMap (owned (pageCount b) (view b)) (0 ∷ [])) ≡ occ q (ownedPages b)
   unfolding flatMap
   owned-root q = ap (occ q) (append-nil (ownedPages b))
 
-  reached-root : (x : ℕ) → occ x (flatMap (reached (pageCount b) b) (0 ∷ [])) ≡ occ x (reachedEntries b)
+  reached-root : (x : ℕ) → occ x (flatMap (reached (pageCount b) (view b)) (0 ∷ [])) ≡ occ x (reachedEntries b)
   unfolding flatMap
   reached-root x = ap (occ x) (append-nil (reachedEntries b))
 
-  owned-length : length (flatMap (owned (pageCount b) b) (0 ∷ [])) ≡ length (ownedPages b)
+  owned-length : length (flatMap (owned (pageCount b) (view b)) (0 ∷ [])) ≡ length (ownedPages b)
   unfolding flatMap
   owned-length = ap length (append-nil (ownedPages b))
 
@@ -211,7 +212,7 @@ module _ (b : Bytes) where
       f : Facts b
       f = sound-facts h
 
-      ownable : Ownable (flatMap (owned (pageCount b) b) (0 ∷ [])) start
+      ownable : Ownable (flatMap (owned (pageCount b) (view b)) (0 ∷ [])) start
       ownable q m =
           let k : Mem q (ownedPages b) = omega (arith, owned-root q) in
           let i = f .inside q k in
@@ -221,8 +222,8 @@ module _ (b : Bytes) where
       go true true v w = concluded-done f (visit (pageCount b) b (0 ∷ []) start) (visit-yes b (pageCount b) (0 ∷ []) start)
           (visit-done b (pageCount b) (pageCount b) (0 ∷ []) start (λ d m. good d m) ownable (omega (arith, owned-length, count-owned f)))
         where
-          good : (d : ℕ) → Mem d (0 ∷ []) → T (goodDirectory (pageCount b) b d)
-          good d m = elim (mem-cons d 0 [] m) [ inl e ↦ subst (λ (x : ℕ). T (goodDirectory (pageCount b) b x)) (sym e) (f .formed) | inr k ↦ absurd (omega arith) ]
+          good : (d : ℕ) → Mem d (0 ∷ []) → T (goodDirectory (pageCount b) (view b) d)
+          good d m = elim (mem-cons d 0 [] m) [ inl e ↦ subst (λ (x : ℕ). T (goodDirectory (pageCount b) (view b) x)) (sym e) (f .formed) | inr k ↦ absurd (omega arith) ]
       go true false v w = w
       go false k v w = v
 
@@ -253,9 +254,9 @@ past-nobody b f (suc q) l k = owner-suc b q ∙ go (owners b (suc q)) refl
     go : (xs : List ℕ) → owners b (suc q) ≡ xs → firstOwner xs ≡ nobody
     go [] e = refl
     go (x ∷ xs) e =
-        let r = keep-mem (λ at. member (suc q) (pagesAt b at)) (reachedEntries b) x (subst (Mem x) (sym e) (mem-head x xs)) in
-        let m = member-occ (suc q) (pagesAt b x) (r .1) in
-        let i = f .inside (suc q) (omega (arith, m, occ-flatMap-le (pagesAt b) (reachedEntries b) x (suc q) (r .0))) in
+        let r = keep-mem (λ at. member (suc q) (pagesAt (view b) at)) (reachedEntries b) x (subst (Mem x) (sym e) (mem-head x xs)) in
+        let m = member-occ (suc q) (pagesAt (view b) x) (r .1) in
+        let i = f .inside (suc q) (omega (arith, m, occ-flatMap-le (pagesAt (view b)) (reachedEntries b) x (suc q) (r .0))) in
         absurd (omega (arith, i .1))
 
 pub audit-owners : (b : Bytes) → fullRow (audit b) ≡ ownerNumbers b

@@ -16,6 +16,7 @@ use Rattle.model.specs.Layout.{pagesFor, link}
 use Rattle.model.specs.Name.{legalName}
 use Rattle.model.specs.Entry as Model
 use Rattle.model.specs.Entry.{entryCount, entries, isLocked, nameAt, dateAt, entryAt}
+use Rattle.model.specs.Version1.{view}
 use Rattle.model.specs.Sound.{pagesOf, pagesAt}
 use Rattle.fields.specs.declared.Entry.{Entry}
 use Rattle.fields.specs.declared.Entry.the-variants.{Vacant, File, Directory}
@@ -211,15 +212,15 @@ chain-spends b at zero p row l = spends-if [] row (eqb p 0) (goes row) (refl, om
 chain-spends b at (suc k) p row l =
     spends-then (p ∷ []) (chain (link b) k (link b p)) row (claim at p row) (claimChain b at k (link b p)) (page-spends at p row l) (λ s. chain-spends b at k (link b p) s l)
 
-pub entry-spends : (b : Bytes) (at : ℕ) (e : Model.Entry) (row : List ℕ) → 1 ≤ at → Spends (pagesOf b e) row (claimEntry b at e row)
+pub entry-spends : (b : Bytes) (at : ℕ) (e : Model.Entry) (row : List ℕ) → 1 ≤ at → Spends (pagesOf (view b) e) row (claimEntry b at e row)
 unfolding claimEntry pagesOf
 entry-spends b at Model.vacant row l = (refl, omega arith)
 entry-spends b at (Model.aFile locked name date start size) row l = spends-if (chain (link b) (pagesFor size) start) row (legalName name) (claimChain b at (pagesFor size) start row) (chain-spends b at (pagesFor size) start row l)
 entry-spends b at (Model.aDirectory name date start size) row l = spends-if (start ∷ []) row (legalName name && eqb size 0x0100) (claim at start row) (page-spends at start row l)
 
-pub entries-spend : (b : Bytes) (ats row : List ℕ) → ((at : ℕ) → Mem at ats → 1 ≤ at) → Spends (flatMap (pagesAt b) ats) row (claimEntries b ats row)
+pub entries-spend : (b : Bytes) (ats row : List ℕ) → ((at : ℕ) → Mem at ats → 1 ≤ at) → Spends (flatMap (pagesAt (view b)) ats) row (claimEntries b ats row)
 unfolding claimEntries flatMap
 entries-spend b [] row h = (refl, omega arith)
 entries-spend b (at ∷ ats) row h =
-    spends-then (pagesAt b at) (flatMap (pagesAt b) ats) row (claimEntry b at (entryAt b at) row) (claimEntries b ats) (entry-spends b at (entryAt b at) row (h at (mem-head at ats)))
+    spends-then (pagesAt (view b) at) (flatMap (pagesAt (view b)) ats) row (claimEntry b at (entryAt b at) row) (claimEntries b ats) (entry-spends b at (entryAt b at) row (h at (mem-head at ats)))
     (λ s. entries-spend b ats s (λ x m. h x (mem-tail x at ats m)))

@@ -12,6 +12,7 @@ use Rattle.volume.specs.Bytes.{Bytes}
 use Rattle.volume.specs.Lists.{all}
 use Rattle.model.specs.Entry as Model
 use Rattle.model.specs.Entry.{entryCount, entries, isLocked, nameAt, dateAt, entryAt}
+use Rattle.model.specs.Version1.{view}
 use Rattle.model.specs.Sound.{isNamed, sameName, namesApart, inDirectory}
 use Rattle.audit.specs.Visit.{directoriesAt}
 use Rattle.fields.proofs.Entry.{the-type}
@@ -44,21 +45,21 @@ module _ (b : Bytes) (p : ℕ) {n : ℕ} (count : n ≡ entryCount p) where
   unfolding apart all
   apart-end e j l = ap (all (λ later. not (sameName e (entryAt b later)))) (rest-end p j (omega arith))
 
-  names-next : (i : ℕ) → i < n → namesApart b (rest p i) ≡ (apart b (entryAt b (position p i)) (rest p (i + 1)) && namesApart b (rest p (i + 1)))
+  names-next : (i : ℕ) → i < n → namesApart (view b) (rest p i) ≡ (apart b (entryAt b (position p i)) (rest p (i + 1)) && namesApart (view b) (rest p (i + 1)))
   unfolding apart namesApart
-  names-next i l = ap (namesApart b) (rest-next p i (omega arith))
+  names-next i l = ap (namesApart (view b)) (rest-next p i (omega arith))
 
-  names-end : (i : ℕ) → n ≤ i → namesApart b (rest p i) ≡ true
+  names-end : (i : ℕ) → n ≤ i → namesApart (view b) (rest p i) ≡ true
   unfolding namesApart
-  names-end i l = ap (namesApart b) (rest-end p i (omega arith))
+  names-end i l = ap (namesApart (view b)) (rest-end p i (omega arith))
 
 -- as the code goes: v is what the whole directory gives, and r the answer for one entry
-module _ (b : Bytes) (p i : ℕ) {v : Bool} (is : v ≡ namesApart b (rest p i)) {n : ℕ} (count : n ≡ entryCount p) where
+module _ (b : Bytes) (p i : ℕ) {v : Bool} (is : v ≡ namesApart (view b) (rest p i)) {n : ℕ} (count : n ≡ entryCount p) where
   module _ (l : i < n) {r : Bool} (e : r ≡ apart b (entryAt b (position p i)) (rest p (i + 1))) where
     pub names-stop : not r ≡ true → false ≡ v
     names-stop h = sym (is ∙ names-next b p count i l ∙ rw (untold e h))
 
-    pub names-go : not r ≡ false → v ≡ namesApart b (rest p (i + 1))
+    pub names-go : not r ≡ false → v ≡ namesApart (view b) (rest p (i + 1))
     names-go h = is ∙ names-next b p count i l ∙ rw (told e h)
 
   pub names-done : n ≤ i → true ≡ v

@@ -13,6 +13,7 @@ use Rattle.volume.proofs.Occ.{occ, Mem, mem-head, mem-tail, mem-cons}
 use Rattle.volume.proofs.Tests.{occ-member}
 use Rattle.volume.proofs.Flat.{occ-flatMap-le}
 use Rattle.model.specs.Layout.{pageCount}
+use Rattle.model.specs.Version1.{view}
 use Rattle.model.specs.Sound.{pagesAt, reachedEntries, owners}
 use Rattle.model.specs.Demands.{Owned, isFree, isOwned}
 use Rattle.laws.proofs.Facts.{Facts}
@@ -58,14 +59,14 @@ only-one : (at x : ℕ) → Mem at (x ∷ []) → at ≡ x
 only-one at x m = elim (mem-cons at x [] m) [ inl e ↦ e | inr k ↦ absurd (omega arith) ]
 
 -- the owner of a page of a reached entry is that entry
-pub owner-is : (b : Bytes) → Facts b → (at q : ℕ) → Mem at (reachedEntries b) → Mem q (pagesAt b at) → (1 ≤ q) × (q < pageCount b) × (owners b q ≡ at ∷ [])
+pub owner-is : (b : Bytes) → Facts b → (at q : ℕ) → Mem at (reachedEntries b) → Mem q (pagesAt (view b) at) → (1 ≤ q) × (q < pageCount b) × (owners b q ≡ at ∷ [])
 unfolding owners
 owner-is b f at q m k =
-    let i = f .inside q (omega (arith, occ-flatMap-le (pagesAt b) (reachedEntries b) at q m)) in
+    let i = f .inside q (omega (arith, occ-flatMap-le (pagesAt (view b)) (reachedEntries b) at q m)) in
     (i .0, i .1, go (page-owned f q (i .0) (i .1)))
   where
     has : Mem at (owners b q)
-    has = mem-keep (λ x. member q (pagesAt b x)) (reachedEntries b) at m (occ-member q (pagesAt b at) k)
+    has = mem-keep (λ x. member q (pagesAt (view b) x)) (reachedEntries b) at m (occ-member q (pagesAt (view b) at) k)
 
     go : Owned b q → owners b q ≡ at ∷ []
     go (isFree z e) = absurd (omega (arith, ap (occ at) e, has))

@@ -15,6 +15,7 @@ use Rattle.volume.proofs.Tests.{if-yes, if-no, member-occ, occ-member}
 use Rattle.volume.proofs.Flat.{mem-flatMap}
 use Rattle.model.specs.Layout.{pageCount}
 use Rattle.model.specs.Entry.{entries, Entry, vacant, aFile, aDirectory, entryAt}
+use Rattle.model.specs.Version1.{view}
 use Rattle.model.specs.Sound.{sound, pagesAt, reachedBy, reached, reachedEntries, owners}
 use Rattle.model.specs.Image.{treeOf}
 use Rattle.model.specs.Call.{verdict}
@@ -69,7 +70,7 @@ named b f (suc q) low high = subst (Named b (suc q)) (sym (owner-suc b q)) (go (
     go : Model.Owned b (suc q) → Named b (suc q) (firstOwner (owners b (suc q)))
     go (Model.isFree z e) = subst (λ (l : List ℕ). Named b (suc q) (firstOwner l)) (sym e) (isFree z e)
     go (Model.isOwned at o e) =
-        let r = keep-mem (λ x. member (suc q) (pagesAt b x)) (reachedEntries b) at (subst (Mem at) (sym e) (mem-head at [])) in
+        let r = keep-mem (λ x. member (suc q) (pagesAt (view b) x)) (reachedEntries b) at (subst (Mem at) (sym e) (mem-head at [])) in
         subst (λ (l : List ℕ). Named b (suc q) (firstOwner l)) (sym e) (isOwned at o e (occ-member at (reachedEntries b) (r .0)) (r .1))
 
 past : (b : Bytes) → T (sound b) → (p : ℕ) → pageCount b ≤ p → getD (ownerRow b) p nobody ≡ nobody
@@ -79,17 +80,17 @@ past b h p l = elim (decLt p 256) [
 ]
 
 -- an entry that is reached lies behind the header's fields
-reached-far : (d : ℕ) (b : Bytes) (p at : ℕ) → Mem at (reached d b p) → 64 ≤ at
+reached-far : (d : ℕ) (b : Bytes) (p at : ℕ) → Mem at (reached d (view b) p) → 64 ≤ at
 unfolding reached reachedBy
 reached-far zero b p at m = absurd (omega arith)
 reached-far (suc d) b p at m =
-    let r = mem-flatMap (λ x. reachedBy x (reached d b) (entryAt b x)) (entries p) at m in
+    let r = mem-flatMap (λ x. reachedBy x (reached d (view b)) (entryAt b x)) (entries p) at m in
     go (r .0) (entry-within p (r .0) (r .1) .far) (entryAt b (r .0)) (r .2) (λ q. reached-far d b q at)
   where
-    go : (x : ℕ) → 64 ≤ x → (e : Entry) → Mem at (reachedBy x (reached d b) e) → ((q : ℕ) → Mem at (reached d b q) → 64 ≤ at) → 64 ≤ at
+    go : (x : ℕ) → 64 ≤ x → (e : Entry) → Mem at (reachedBy x (reached d (view b)) e) → ((q : ℕ) → Mem at (reached d (view b) q) → 64 ≤ at) → 64 ≤ at
     go x l vacant n next = absurd (omega arith)
     go x l (aFile locked name date start size) n next = elim (mem-cons at x [] n) [ inl e ↦ omega (arith, e) | inr o ↦ absurd (omega arith) ]
-    go x l (aDirectory name date start size) n next = elim (mem-cons at x (reached d b start) n) [ inl e ↦ omega (arith, e) | inr o ↦ next start o ]
+    go x l (aDirectory name date start size) n next = elim (mem-cons at x (reached d (view b) start) n) [ inl e ↦ omega (arith, e) | inr o ↦ next start o ]
 
 -- ---- the verdict
 

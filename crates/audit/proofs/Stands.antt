@@ -12,6 +12,7 @@ use Rattle.volume.specs.Bytes.{Bytes, if_then_else_}
 use Rattle.volume.proofs.Occ.{Mem, occ-append, mem-head, mem-tail, mem-cons, mem-or-not}
 use Rattle.model.specs.Layout.{pageCount}
 use Rattle.model.specs.Entry.{entries}
+use Rattle.model.specs.Version1.{view}
 use Rattle.model.specs.Sound.{pagesAt, namesApart}
 use Rattle.laws.proofs.Entries.{entry-within}
 use Rattle.audit.specs.Visit.{Visited, stops, goes, thenVisit, claimEntries, directoriesAt, visit}
@@ -62,27 +63,27 @@ module _ (b : Bytes) (row₀ : List ℕ) where
     next-low l = at .within (getD list done 0) (subst (Mem (getD list done 0)) (sym (head l)) (mem-head (getD list done 0) (drop (suc done) (take found list))))
 
     turn : (l : done < found) → visit (pageCount b) b (0 ∷ []) row₀
-        ≡ (if namesApart b (entries (getD list done 0))
+        ≡ (if namesApart (view b) (entries (getD list done 0))
         then thenVisit (claimEntries b (entries (getD list done 0)) row) (visit (pageCount b - (done + 1)) b (drop (suc done) (take found list) ++ directoriesAt b (entries (getD list done 0)))) else stops)
     unfolding visit
     turn l =
         let e : pageCount b - done ≡ suc (pageCount b - (done + 1)) = omega (arith, at .room, at .long) in
         at .comes ∙ ap (λ (n : ℕ). visit n b (drop done (take found list)) row) e ∙ ap (λ (ds : List ℕ). visit (suc (pageCount b - (done + 1))) b ds row) (head l)
 
-    pub stands-unnamed : done < found → namesApart b (entries (getD list done 0)) ≡ false → stops ≡ visit (pageCount b) b (0 ∷ []) row₀
+    pub stands-unnamed : done < found → namesApart (view b) (entries (getD list done 0)) ≡ false → stops ≡ visit (pageCount b) b (0 ∷ []) row₀
     stands-unnamed l e = sym (turn l ∙ ap (λ (c : Bool). if c then thenVisit (claimEntries b (entries (getD list done 0)) row) (visit (pageCount b - (done + 1)) b (drop (suc done) (take found list) ++ directoriesAt b (entries (getD list done 0)))) else stops) e)
 
-    named : done < found → namesApart b (entries (getD list done 0)) ≡ true → visit (pageCount b) b (0 ∷ []) row₀
+    named : done < found → namesApart (view b) (entries (getD list done 0)) ≡ true → visit (pageCount b) b (0 ∷ []) row₀
         ≡ thenVisit (claimEntries b (entries (getD list done 0)) row) (visit (pageCount b - (done + 1)) b (drop (suc done) (take found list) ++ directoriesAt b (entries (getD list done 0))))
     named l e = turn l ∙ ap (λ (c : Bool). if c then thenVisit (claimEntries b (entries (getD list done 0)) row) (visit (pageCount b - (done + 1)) b (drop (suc done) (take found list) ++ directoriesAt b (entries (getD list done 0)))) else stops) e
 
-    pub stands-unclaimed : done < found → namesApart b (entries (getD list done 0)) ≡ true → stops ≡ claimEntries b (entries (getD list done 0)) row → stops ≡ visit (pageCount b) b (0 ∷ []) row₀
+    pub stands-unclaimed : done < found → namesApart (view b) (entries (getD list done 0)) ≡ true → stops ≡ claimEntries b (entries (getD list done 0)) row → stops ≡ visit (pageCount b) b (0 ∷ []) row₀
     unfolding thenVisit
     stands-unclaimed l e c = sym (named l e ∙ ap (λ (v : Visited). thenVisit v (visit (pageCount b - (done + 1)) b (drop (suc done) (take found list) ++ directoriesAt b (entries (getD list done 0))))) (sym c))
 
-    module _ (l : done < found) (e : namesApart b (entries (getD list done 0)) ≡ true) (row′ : List ℕ) (c : goes row′ ≡ claimEntries b (entries (getD list done 0)) row) where
-      spent : (length row′ ≡ length row) × (free row′ + length (flatMap (pagesAt b) (entries (getD list done 0))) ≡ free row)
-      spent = subst (Spends (flatMap (pagesAt b) (entries (getD list done 0))) row) (sym c)
+    module _ (l : done < found) (e : namesApart (view b) (entries (getD list done 0)) ≡ true) (row′ : List ℕ) (c : goes row′ ≡ claimEntries b (entries (getD list done 0)) row) where
+      spent : (length row′ ≡ length row) × (free row′ + length (flatMap (pagesAt (view b)) (entries (getD list done 0))) ≡ free row)
+      spent = subst (Spends (flatMap (pagesAt (view b)) (entries (getD list done 0))) row) (sym c)
           (entries-spend b (entries (getD list done 0)) row (λ x m. let w = entry-within (getD list done 0) x m in omega (arith, w .far)))
 
       pub push-fits : found + length (directoriesAt b (entries (getD list done 0))) ≤ length list

@@ -16,6 +16,7 @@ use Rattle.volume.proofs.Tests.{and-both, both-and, eq-eqb}
 use Rattle.model.specs.Layout.{pagesFor, link}
 use Rattle.model.specs.Name.{legalName}
 use Rattle.model.specs.Entry.{Entry, vacant, aFile, aDirectory, entryAt}
+use Rattle.model.specs.Version1.{view}
 use Rattle.model.specs.Sound.{pagesOf, pagesAt, goodEntry}
 use Rattle.audit.specs.Visit.{Visited, stops, goes, thenVisit, claim, claimChain, claimEntry, claimEntries}
 
@@ -152,7 +153,7 @@ chain-told b at (suc k) p row l = tells-iff (λ g. g .1) (λ g. (tt, g)) (tells-
 
 -- ---- entries
 
-entry-told : (b : Bytes) (at : ℕ) (e : Entry) (row : List ℕ) → 1 ≤ at → Tells (Is at) (T (goodEntry b e)) (pagesOf b e) row (claimEntry b at e row)
+entry-told : (b : Bytes) (at : ℕ) (e : Entry) (row : List ℕ) → 1 ≤ at → Tells (Is at) (T (goodEntry (view b) e)) (pagesOf (view b) e) row (claimEntry b at e row)
 unfolding claimEntry goodEntry pagesOf
 entry-told b at vacant row l = none-told (Is at) row
 entry-told b at (aFile locked name date start size) row l =
@@ -164,17 +165,17 @@ entry-told b at (aDirectory name date start size) row l =
 
 -- the owner is one of the entries at these positions
 abbrev pub Among : Bytes → List ℕ → ℕ → ℕ → Type 0
-Among b ats q x = Mem x ats × Mem q (pagesAt b x)
+Among b ats q x = Mem x ats × Mem q (pagesAt (view b) x)
 
 pub entries-told : (b : Bytes) (ats row : List ℕ) → ((at : ℕ) → Mem at ats → 1 ≤ at)
-    → Tells (Among b ats) ((at : ℕ) → Mem at ats → T (goodEntry b (entryAt b at))) (flatMap (pagesAt b) ats) row (claimEntries b ats row)
+    → Tells (Among b ats) ((at : ℕ) → Mem at ats → T (goodEntry (view b) (entryAt b at))) (flatMap (pagesAt (view b)) ats) row (claimEntries b ats row)
 unfolding claimEntries flatMap
 entries-told b [] row h = tells-iff (λ (g : Unit {0}). λ at m. absurd (omega arith)) (λ g. tt) (none-told (Among b []) row)
 entries-told b (at ∷ ats) row h =
     tells-iff
-    (λ g. λ x m. elim (mem-cons x at ats m) [ inl e ↦ subst (λ (y : ℕ). T (goodEntry b (entryAt b y))) (sym e) (g .0) | inr k ↦ g .1 x k ])
+    (λ g. λ x m. elim (mem-cons x at ats m) [ inl e ↦ subst (λ (y : ℕ). T (goodEntry (view b) (entryAt b y))) (sym e) (g .0) | inr k ↦ g .1 x k ])
     (λ g. (g at (mem-head at ats), λ x m. g x (mem-tail x at ats m)))
     (tells-then
-    (tells-names (λ q x m e. (subst (λ (y : ℕ). Mem y (at ∷ ats)) (sym e) (mem-head at ats), subst (λ (y : ℕ). Mem q (pagesAt b y)) (sym e) m))
+    (tells-names (λ q x m e. (subst (λ (y : ℕ). Mem y (at ∷ ats)) (sym e) (mem-head at ats), subst (λ (y : ℕ). Mem q (pagesAt (view b) y)) (sym e) m))
     (entry-told b at (entryAt b at) row (h at (mem-head at ats))))
     (λ s g c. tells-names (λ q x m r. (mem-tail x at ats (r .0), r .1)) (entries-told b ats s (λ x m. h x (mem-tail x at ats m)))))

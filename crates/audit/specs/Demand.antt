@@ -8,6 +8,7 @@ use lib.Dec.{T}
 use Rattle.volume.specs.Bytes.{Bytes}
 use Rattle.volume.specs.Lists.{member}
 use Rattle.model.specs.Layout.{pageCount, pageBit}
+use Rattle.model.specs.Version1.{view}
 use Rattle.model.specs.Sound.{sound, pagesAt, reachedEntries, owners}
 use Rattle.model.specs.Call.{verdict, Answer, refused, granted}
 use Rattle.model.specs.Meaning.{answer}
@@ -20,7 +21,7 @@ isGranted (granted x) = true
 -- what the row says of page p, one of 1 to N − 1: nobody, and it is free; or the entry of the one file or directory that owns it, and it is marked
 pub data Named (b : Bytes) (p : ℕ) : Owner → Type 0 where
   isFree : pageBit b p ≡ 0 → owners b p ≡ [] → Named b p nobody
-  isOwned : (at : ℕ) → pageBit b p ≡ 1 → owners b p ≡ at ∷ [] → T (member at (reachedEntries b)) → T (member p (pagesAt b at)) → Named b p (entry at)
+  isOwned : (at : ℕ) → pageBit b p ≡ 1 → owners b p ≡ at ∷ [] → T (member at (reachedEntries b)) → T (member p (pagesAt (view b) at)) → Named b p (entry at)
 
 pub record AuditDemand : Type 0 where
   -- it says sound exactly when the first judge does

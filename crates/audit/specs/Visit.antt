@@ -10,6 +10,7 @@ use Rattle.volume.specs.Lists.{all, upTo}
 use Rattle.model.specs.Layout.{pageCount, pagesFor, validLength, validHeader, freeCount, pageBit, link}
 use Rattle.model.specs.Name.{legalName}
 use Rattle.model.specs.Entry.{entries, Entry, vacant, aFile, aDirectory, entryAt}
+use Rattle.model.specs.Version1.{view}
 use Rattle.model.specs.Sound.{namesApart, inDirectory}
 
 -- the owners so far, or no
@@ -50,7 +51,7 @@ visit zero b (d ∷ ds) row = stops
 visit (suc most) b [] row = goes row
 visit (suc most) b (d ∷ ds) row =
     let claimed = thenVisit (claimEntries b (entries d) row) (visit most b (ds ++ directoriesAt b (entries d))) in
-    if namesApart b (entries d) then claimed else stops
+    if namesApart (view b) (entries d) then claimed else stops
 
 -- how many of the first n pages nobody owns
 unfoldable pub nobodies : List ℕ → ℕ → ℕ

@@ -14,6 +14,7 @@ ghost use Rattle.volume.specs.Lists.{all, upTo};
 ghost use Rattle.model.specs.Layout.{pageCount};
 ghost use Rattle.model.specs.Name.{legalByte, legalName};
 ghost use Rattle.model.specs.Entry.{entryCount, entries, nameAt, entryAt};
+ghost use Rattle.model.specs.Version1.{view};
 ghost use Rattle.model.specs.Sound.{sameName, namesApart, sound};
 ghost use Rattle.audit.specs.Owner.{ownerNumbers};
 ghost use Rattle.audit.specs.Visit.{claim, claimChain, claimEntry, claimEntries, directoriesAt, visit, nobodies, isMarked, concluded, firstRow};
@@ -158,7 +159,7 @@ fn name_is_last(image: &[u8], directory: Page, i: usize) -> bool
 // No two entries of the directory have one name.
 fn names_are_apart(image: &[u8], directory: Page) -> bool
     requires { ⌜ directory .0 < pageCount (now image) ⌝ }
-    ensures { λ r. ⌜ r ≡ namesApart (now (image .entry)) (entries (directory .0)) ⌝ }
+    ensures { λ r. ⌜ r ≡ namesApart (view (now (image .entry))) (entries (directory .0)) ⌝ }
 {
     let count = fields::entry_count(directory);
     for i in 0..count {

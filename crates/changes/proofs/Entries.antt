@@ -12,6 +12,7 @@ use Rattle.volume.specs.Bytes.{Bytes, if_then_else_}
 use Rattle.volume.proofs.Occ.{occ, sum-mono, sum-occ, mem-or-not, under-of-mem}
 use Rattle.model.specs.Layout.{pageCount, zeroBits}
 use Rattle.model.specs.Entry.{Entry, vacant, aFile, aDirectory, occupied, isDirectory, isLocked, nameAt, startAt, sizeAt, dateAt, entryAt}
+use Rattle.model.specs.Version1.{view}
 use Rattle.model.specs.Sound.{goodEntry, inDirectory, goodDirectory, ownedPages}
 use Rattle.model.specs.Path.{Name, Path}
 use Rattle.model.specs.Walk.{arrivedOr, entryPosition}
@@ -41,14 +42,14 @@ unfolding arrivedOr
 entry-position b p at begins x = rw (x .is, x .reached, x .found)
 
 -- every directory that names lead to is good if the first is
-leads-good : (b : Bytes) (ns : List Name) (d p e t : ℕ) → Leads b d p ns e t → T (goodDirectory d b p) → T (goodDirectory e b t)
-leads-good b [] d p e t l g = subst T (ap₂ (λ (k r : ℕ). goodDirectory k b r) (l .0) (l .1)) g
+leads-good : (b : Bytes) (ns : List Name) (d p e t : ℕ) → Leads b d p ns e t → T (goodDirectory d (view b) p) → T (goodDirectory e (view b) t)
+leads-good b [] d p e t l g = subst T (ap₂ (λ (k r : ℕ). goodDirectory k (view b) r) (l .0) (l .1)) g
 leads-good b (n ∷ ns) zero p e t l g = absurd l
 leads-good b (n ∷ ns) (suc d) p e t l g =
     leads-good b ns d (l .1) e t (l .4)
-    (subst (λ (x : Entry). T (inDirectory true (goodDirectory d b) x)) (l .3 .is) (good-split d b p g .below (l .0) (named-found b p (n .bytes) (l .0) (l .2) .0)))
+    (subst (λ (x : Entry). T (inDirectory true (goodDirectory d (view b)) x)) (l .3 .is) (good-split d b p g .below (l .0) (named-found b p (n .bytes) (l .0) (l .2) .0)))
 
-pub entry-good : (b : Bytes) → Facts b → (p : Path) (at begins : ℕ) → EntryOf b p at begins → T (goodEntry b (entryAt b at))
+pub entry-good : (b : Bytes) → Facts b → (p : Path) (at begins : ℕ) → EntryOf b p at begins → T (goodEntry (view b) (entryAt b at))
 entry-good b f p at begins x =
     let l = leads b f (x .ns) (x .page) (x .reached) in
     good-split (l .0) b (x .page) (leads-good b (x .ns) (pageCount b) 0 (suc (l .0)) (x .page) (l .1) (f .formed)) .each at (among b f p at begins x)

@@ -14,6 +14,7 @@ use Rattle.volume.proofs.Occ.{Mem, mem-head, mem-cons, nodup-cons, under-of-mem
 use Rattle.volume.proofs.Chains.{chain-length}
 use Rattle.model.specs.Layout.{version1, pageCount, pagesFor, link}
 use Rattle.model.specs.Entry.{Entry, aFile, aDirectory, entryAt}
+use Rattle.model.specs.Version1.{view}
 use Rattle.model.specs.Sound.{pagesOf, owned}
 use Rattle.model.specs.Path.{Path}
 use Rattle.model.specs.Effect.{removed}
@@ -40,10 +41,10 @@ module _ (b : Bytes) (f : Facts b) (p : Path) (at begins : ℕ) (x : EntryOf b p
   unfolding own
   directory-owned is =
       let l = leads b f (x .ns) (x .page) (x .reached) in
-      let o : Owned b (start ∷ owned (l .0) b start) = subst (λ (z : Entry). Owned b (own (l .0) b z)) is (entry-owned f (x .ns) (l .0) (x .page) at (l .1) (among b f p at begins x)) in
+      let o : Owned b (start ∷ owned (l .0) (view b) start) = subst (λ (z : Entry). Owned b (own (l .0) b z)) is (entry-owned f (x .ns) (l .0) (x .page) at (l .1) (among b f p at begins x)) in
       record {
         inside = λ q m. elim (mem-cons q start [] m) [
-          | inl e ↦ o .inside q (subst (λ (y : ℕ). Mem y (start ∷ owned (l .0) b start)) (sym e) (mem-head start (owned (l .0) b start)))
+          | inl e ↦ o .inside q (subst (λ (y : ℕ). Mem y (start ∷ owned (l .0) (view b) start)) (sym e) (mem-head start (owned (l .0) (view b) start)))
           | inr n ↦ absurd (omega arith)
         ];
         once = nodup-cons start [] refl (λ q. omega arith);

@@ -11,6 +11,7 @@ use Rattle.volume.specs.Bytes.{Bytes, if_then_else_}
 use Rattle.volume.specs.Lists.{all}
 use Rattle.volume.proofs.Occ.{Mem, mem-head}
 use Rattle.model.specs.Entry.{Entry as Model, vacant, aFile, aDirectory, entriesStart, entries, isLocked, nameAt, dateAt, entryAt}
+use Rattle.model.specs.Version1.{view}
 use Rattle.model.specs.Tree.{Row, held}
 use Rattle.model.specs.Image.{entryRow, rowOf, rowAt}
 use Rattle.model.specs.Effect.{isVacant}
@@ -47,16 +48,16 @@ first-entry p = subst (Mem (entriesStart p + 32 * 0)) (sym (all-entries p ∙ en
 
 -- ---- what a directory holds
 
-row-holds : (b : Bytes) (g : ℕ → Row) (ats : List ℕ) → ltb 0 (held (rowOf b g ats)) ≡ not (all (vacancy b) ats)
+row-holds : (b : Bytes) (g : ℕ → Row) (ats : List ℕ) → ltb 0 (held (rowOf (view b) g ats)) ≡ not (all (vacancy b) ats)
 unfolding held rowOf entryRow all isVacant
 row-holds b g [] = refl
 row-holds b g (x ∷ xs) = go (entryAt b x) (row-holds b g xs)
   where
-    go : (y : Model) → ltb 0 (held (rowOf b g xs)) ≡ not (all (vacancy b) xs) → ltb 0 (held (entryRow b g y (rowOf b g xs))) ≡ not (isVacant y && all (vacancy b) xs)
+    go : (y : Model) → ltb 0 (held (rowOf (view b) g xs)) ≡ not (all (vacancy b) xs) → ltb 0 (held (entryRow (view b) g y (rowOf (view b) g xs))) ≡ not (isVacant y && all (vacancy b) xs)
     go vacant e = e
-    go (aFile locked name date start size) e = lt-ltb 0 (suc (held (rowOf b g xs))) (omega arith)
-    go (aDirectory name date start size) e = lt-ltb 0 (suc (held (rowOf b g xs))) (omega arith)
+    go (aFile locked name date start size) e = lt-ltb 0 (suc (held (rowOf (view b) g xs))) (omega arith)
+    go (aDirectory name date start size) e = lt-ltb 0 (suc (held (rowOf (view b) g xs))) (omega arith)
 
-pub directory-holds : (d : ℕ) (b : Bytes) (p : ℕ) → ltb 0 (held (rowAt (suc d) b p)) ≡ not (all (vacancy b) (entries p))
+pub directory-holds : (d : ℕ) (b : Bytes) (p : ℕ) → ltb 0 (held (rowAt (suc d) (view b) p)) ≡ not (all (vacancy b) (entries p))
 unfolding rowAt
-directory-holds d b p = row-holds b (rowAt d b) (entries p)
+directory-holds d b p = row-holds b (rowAt d (view b)) (entries p)

@@ -18,6 +18,7 @@ use Rattle.volume.proofs.Writes.{Beside}
 use Rattle.model.specs.Layout.{version1, pageCount, pagesFor, zeroBits, link}
 use Rattle.model.specs.Name.{legalName}
 use Rattle.model.specs.Entry.{isLocked, nameAt, startAt, dateAt, Entry, aFile, entryAt}
+use Rattle.model.specs.Version1.{view}
 use Rattle.model.specs.Sound.{pagesOf, goodEntry}
 use Rattle.model.specs.Path.{Path}
 use Rattle.model.specs.Effect.{rewritten, written}
@@ -52,7 +53,7 @@ module _ (b : Bytes) (f : Facts b) (p : Path) (at begins : ℕ) (x : EntryOf b p
   ends : beyond (link b) (pagesFor k) (startAt b at) ≡ 0
   unfolding goodEntry
   ends =
-      let g = subst (λ (y : Entry). T (goodEntry b y)) is-read (entry-good b f p at begins x) in
+      let g = subst (λ (y : Entry). T (goodEntry (view b) y)) is-read (entry-good b f p at begins x) in
       eqb→eq (beyond (link b) (pagesFor k) (startAt b at)) 0 (and-both (legalName (nameAt b at)) (eqb (beyond (link b) (pagesFor k) (startAt b at)) 0) g .1)
 
   chained : Chained version1 home (pageCount b) b (byte (at + 17)) (x .page) (pagesFor k)

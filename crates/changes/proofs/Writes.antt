@@ -18,6 +18,7 @@ use Rattle.volume.proofs.Longer.{chainAt, jointAt, jointPage, chain-room, chain
 use Rattle.volume.proofs.Writes.{written-pages}
 use Rattle.model.specs.Layout.{version1, room, pageCount, pagesFor, link}
 use Rattle.model.specs.Entry.{startAt, sizeAt}
+use Rattle.model.specs.Version1.{view}
 use Rattle.model.specs.Sound.{pagesOf, pagesAt}
 use Rattle.model.specs.Effect.{rewritten}
 use Rattle.model.proofs.Version1.{home, version1-lawful}
@@ -87,9 +88,9 @@ module _ {at start size from : ℕ} {v b : Bytes} (w : Writing at start size fro
   unfolding rewritten On.written pagesOf
   effect =
       let image : List ℕ → ℕ → ℕ → Bytes = λ ps m z. On.written version1 N entry ps (pagesFor z - m) (at + 18) (le16 z) from v b in
-      let held : pagesAt b at ≡ chainAt version1 b entry j = ap (pagesOf b) (w .is) ∙ ap (chain (link b) j) (sym (fields .0)) in
+      let held : pagesAt (view b) at ≡ chainAt version1 b entry j = ap (pagesOf (view b)) (w .is) ∙ ap (chain (link b) j) (sym (fields .0)) in
       ap (λ (ps : List ℕ). spread (On.content version1) room ps from v b₂) pages
-      ∙ sym (ap (λ (z : ℕ). image (pagesAt b at) (length (pagesAt b at)) (max z (from + length v))) (fields .1)
+      ∙ sym (ap (λ (z : ℕ). image (pagesAt (view b) at) (length (pagesAt (view b) at)) (max z (from + length v))) (fields .1)
       ∙ ap (λ (ps : List ℕ). image ps (length ps) s) held
       ∙ ap (λ (m : ℕ). image (chainAt version1 b entry j) m s) (chain-length (link b) j (startAt b at)))
 

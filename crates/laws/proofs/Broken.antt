@@ -16,6 +16,7 @@ use Rattle.volume.proofs.Tests.{and-both, both-and, member-occ, occ-member, occ
 use Rattle.model.specs.Layout.{pageCount, pagesFor, link}
 use Rattle.model.specs.Name.{legalName}
 use Rattle.model.specs.Entry.{entries, Entry, vacant, aFile, aDirectory, entryAt}
+use Rattle.model.specs.Version1.{view}
 use Rattle.model.specs.Sound.{pagesOf, pagesAt, goodEntry, isNamed, inDirectory, goodDirectory, reachedBy, reached, reachedEntries, inRange}
 use Rattle.model.specs.Tree.{Row, Node, fileNode, directoryNode}
 use Rattle.model.specs.Path.{Name, Path, noPath, root, below, isRoot}
@@ -30,25 +31,25 @@ use Rattle.laws.proofs.Walks.{nodeOf, Target, target}
 
 -- ---- what is reached
 
-reached-good : (d : ℕ) (b : Bytes) (p at : ℕ) → T (goodDirectory d b p) → Mem at (reached d b p) → T (goodEntry b (entryAt b at))
+reached-good : (d : ℕ) (b : Bytes) (p at : ℕ) → T (goodDirectory d (view b) p) → Mem at (reached d (view b) p) → T (goodEntry (view b) (entryAt b at))
 unfolding reached goodDirectory reachedBy
 reached-good zero b p at g m = absurd g
 reached-good (suc d) b p at g m =
-    let r = mem-flatMap (λ x. reachedBy x (reached d b) (entryAt b x)) (entries p) at m in
+    let r = mem-flatMap (λ x. reachedBy x (reached d (view b)) (entryAt b x)) (entries p) at m in
     let good = good-split d b p g in
     go (r .0) (good .each (r .0) (r .1)) (entryAt b (r .0)) (good .below (r .0) (r .1)) (r .2) (λ q. reached-good d b q at)
   where
-    self : (x : ℕ) → T (goodEntry b (entryAt b x)) → at ≡ x → T (goodEntry b (entryAt b at))
-    self x h e = subst (λ (y : ℕ). T (goodEntry b (entryAt b y))) (sym e) h
+    self : (x : ℕ) → T (goodEntry (view b) (entryAt b x)) → at ≡ x → T (goodEntry (view b) (entryAt b at))
+    self x h e = subst (λ (y : ℕ). T (goodEntry (view b) (entryAt b y))) (sym e) h
 
-    go : (x : ℕ) → T (goodEntry b (entryAt b x)) → (e : Entry) → T (inDirectory true (goodDirectory d b) e) → Mem at (reachedBy x (reached d b) e)
-        → ((q : ℕ) → T (goodDirectory d b q) → Mem at (reached d b q) → T (goodEntry b (entryAt b at))) → T (goodEntry b (entryAt b at))
+    go : (x : ℕ) → T (goodEntry (view b) (entryAt b x)) → (e : Entry) → T (inDirectory true (goodDirectory d (view b)) e) → Mem at (reachedBy x (reached d (view b)) e)
+        → ((q : ℕ) → T (goodDirectory d (view b) q) → Mem at (reached d (view b) q) → T (goodEntry (view b) (entryAt b at))) → T (goodEntry (view b) (entryAt b at))
     go x h vacant k n next = absurd (omega arith)
     go x h (aFile locked name date start size) k n next = elim (mem-cons at x [] n) [
       | inl e ↦ self x h e
       | inr o ↦ absurd (omega arith)
     ]
-    go x h (aDirectory name date start size) k n next = elim (mem-cons at x (reached d b start) n) [
+    go x h (aDirectory name date start size) k n next = elim (mem-cons at x (reached d (view b) start) n) [
       | inl e ↦ self x h e
       | inr o ↦ next start k o
     ]
@@ -60,18 +61,18 @@ self-reached at g vacant n h = absurd h
 self-reached at g (aFile locked name date start size) n h = mem-head at []
 self-reached at g (aDirectory name date start size) n h = mem-head at (g start)
 
-leads-reached : (b : Bytes) (ns : List Name) (d p e t at : ℕ) → Leads b d p ns (suc e) t → Mem at (entries t) → (n : Bytes) → T (isNamed n (entryAt b at)) → Mem at (reached d b p)
+leads-reached : (b : Bytes) (ns : List Name) (d p e t at : ℕ) → Leads b d p ns (suc e) t → Mem at (entries t) → (n : Bytes) → T (isNamed n (entryAt b at)) → Mem at (reached d (view b) p)
 unfolding reached reachedBy
 leads-reached b [] d p e t at l m n h =
-    let here : Mem at (reached (suc e) b t) =
-    omega (arith, self-reached at (reached e b) (entryAt b at) n h, occ-flatMap-le (λ x. reachedBy x (reached e b) (entryAt b x)) (entries t) at at m) in
-    subst (λ (q : ℕ). Mem at (reached q b p)) (sym (l .0)) (subst (λ (q : ℕ). Mem at (reached (suc e) b q)) (sym (l .1)) here)
+    let here : Mem at (reached (suc e) (view b) t) =
+    omega (arith, self-reached at (reached e (view b)) (entryAt b at) n h, occ-flatMap-le (λ x. reachedBy x (reached e (view b)) (entryAt b x)) (entries t) at at m) in
+    subst (λ (q : ℕ). Mem at (reached q (view b) p)) (sym (l .0)) (subst (λ (q : ℕ). Mem at (reached (suc e) (view b) q)) (sym (l .1)) here)
 leads-reached b (k ∷ ns) zero p e t at l m n h = absurd l
 leads-reached b (k ∷ ns) (suc d) p e t at l m n h =
     let next = leads-reached b ns d (l .1) e t at (l .4) m n h in
-    let there : Mem at (reachedBy (l .0) (reached d b) (entryAt b (l .0))) =
-    subst (λ (x : Entry). Mem at (reachedBy (l .0) (reached d b) x)) (sym (l .3 .is)) (mem-tail at (l .0) (reached d b (l .1)) next) in
-    omega (arith, there, occ-flatMap-le (λ x. reachedBy x (reached d b) (entryAt b x)) (entries p) (l .0) at (named-found b p (k .bytes) (l .0) (l .2) .0))
+    let there : Mem at (reachedBy (l .0) (reached d (view b)) (entryAt b (l .0))) =
+    subst (λ (x : Entry). Mem at (reachedBy (l .0) (reached d (view b)) x)) (sym (l .3 .is)) (mem-tail at (l .0) (reached d (view b) (l .1)) next) in
+    omega (arith, there, occ-flatMap-le (λ x. reachedBy x (reached d (view b)) (entryAt b x)) (entries p) (l .0) at (named-found b p (k .bytes) (l .0) (l .2) .0))
 
 -- ---- the theorem
 
@@ -81,25 +82,25 @@ dateIn (directoryNode date r) = date
 
 module _ (b : Bytes) (f : Facts b) where
   -- a page that a reached entry owns is in range
-  pages-inside : (at q : ℕ) → T (member at (reachedEntries b)) → Mem q (pagesAt b at) → T (inRange (pageCount b) q)
+  pages-inside : (at q : ℕ) → T (member at (reachedEntries b)) → Mem q (pagesAt (view b) at) → T (inRange (pageCount b) q)
   pages-inside at q m o =
-      let r = f .inside q (omega (arith, o, occ-flatMap-le (pagesAt b) (reachedEntries b) at q (member-occ at (reachedEntries b) m))) in
+      let r = f .inside q (omega (arith, o, occ-flatMap-le (pagesAt (view b)) (reachedEntries b) at q (member-occ at (reachedEntries b) m))) in
       both-and (leb 1 q) (ltb q (pageCount b)) (le→leb 1 q (r .0)) (lt→ltb q (pageCount b) (r .1))
 
   every-file : (at : ℕ) → T (member at (reachedEntries b)) → (locked : Bool) (name date : Bytes) (start size : ℕ) → entryAt b at ≡ aFile locked name date start size → Unbroken b start size
   unfolding goodEntry pagesOf
   every-file at m locked name date start size e =
-      let good = subst (λ (x : Entry). T (goodEntry b x)) e (reached-good (pageCount b) b 0 at (f .formed) (member-occ at (reachedEntries b) m)) in
+      let good = subst (λ (x : Entry). T (goodEntry (view b) x)) e (reached-good (pageCount b) b 0 at (f .formed) (member-occ at (reachedEntries b) m)) in
       record {
         inside = occ-all (inRange (pageCount b)) (chain (link b) (pagesFor size) start)
-            (λ q o. pages-inside at q m (subst (λ (x : Entry). Mem q (pagesOf b x)) (sym e) o));
+            (λ q o. pages-inside at q m (subst (λ (x : Entry). Mem q (pagesOf (view b) x)) (sym e) o));
         ends = eqb→eq (beyond (link b) (pagesFor size) start) 0 (and-both (legalName name) (eqb (beyond (link b) (pagesFor size) start) 0) good .1);
       }
 
   every-directory : (at : ℕ) → T (member at (reachedEntries b)) → (name date : Bytes) (start size : ℕ) → entryAt b at ≡ aDirectory name date start size
       → T (inRange (pageCount b) start)
   unfolding pagesOf
-  every-directory at m name date start size e = pages-inside at start m (subst (λ (x : Entry). Mem start (pagesOf b x)) (sym e) (mem-head start []))
+  every-directory at m name date start size e = pages-inside at start m (subst (λ (x : Entry). Mem start (pagesOf (view b) x)) (sym e) (mem-head start []))
 
   -- where a path leads, as an entry: it is reached, it is occupied, and the tree has it as this node
   record Led (x : Node) (at : ℕ) : Type 0 where
@@ -120,7 +121,7 @@ module _ (b : Bytes) (f : Facts b) where
         isReached = occ-member (w .at) (reachedEntries b) (leads-reached b ns (pageCount b) 0 (w .above .e) (w .above .t) (w .at) (w .above .leads) (r .0) (n .bytes) (r .1));
         name = n .bytes;
         named = r .1;
-        rows = rowAt (w .above .e) b;
+        rows = rowAt (w .above .e) (view b);
         node = ap (arrivedOr x) (sym (w .node) ∙ e);
       })
 

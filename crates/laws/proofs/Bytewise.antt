@@ -21,6 +21,7 @@ use Rattle.model.specs.Layout.{version1, pageCount, pagesFor, validLength, free
 use Rattle.model.specs.Name.{legalByte, legalRest, legalName}
 use Rattle.model.specs.Date.{isBcd, goodDate}
 use Rattle.model.specs.Entry.{entries, startAt, sizeAt, entryAt, newEntry}
+use Rattle.model.specs.Version1.{view}
 use Rattle.model.specs.Sound.{pagesAt, ownedPages, sound}
 use Rattle.model.specs.Path.{Name, Path, pathOf}
 use Rattle.model.specs.Image.{treeOf}
@@ -105,7 +106,7 @@ shorter n xs ys h le =
     omega (arith, sum-occ xs n (under-of-mem n xs (λ q m. h q (omega (arith, le q)))), sum-occ ys n (under-of-mem n ys h), sum-mono (λ q. occ q xs) (λ q. occ q ys) n (λ q l. le q))
 
 module _ {b : Bytes} (f : Facts b) {ns : List Name} {n : Name} (tg : Target b ns n) where
-  pages-owned : (q : ℕ) → occ q (pagesAt b (tg .at)) ≤ occ q (ownedPages b)
+  pages-owned : (q : ℕ) → occ q (pagesAt (view b) (tg .at)) ≤ occ q (ownedPages b)
   pages-owned q =
       let e : ℕ = tg .above .e in
       let t : ℕ = tg .above .t in
@@ -113,8 +114,8 @@ module _ {b : Bytes} (f : Facts b) {ns : List Name} {n : Name} (tg : Target b ns
       omega (arith, pages-own e b (entryAt b (tg .at)) q, own-le e b t (tg .at) q m, leads-owned b ns (pageCount b) 0 (suc e) t q (tg .above .leads))
 
   -- with the free pages they are fewer than N
-  pages-count : freeCount b + length (pagesAt b (tg .at)) < pageCount b
-  pages-count = omega (arith, shorter (pageCount b) (pagesAt b (tg .at)) (ownedPages b) (λ q m. f .inside q m .1) pages-owned, count-owned f, f .counted)
+  pages-count : freeCount b + length (pagesAt (view b) (tg .at)) < pageCount b
+  pages-count = omega (arith, shorter (pageCount b) (pagesAt (view b) (tg .at)) (ownedPages b) (λ q m. f .inside q m .1) pages-owned, count-owned f, f .counted)
 
 numbers-fit : {b : Bytes} → Facts b → (i p : ℕ) → p < pageCount b → FitsIn (byte i) p
 numbers-fit {b} f i p l = omega (arith, sized f .high)
@@ -125,10 +126,10 @@ small-removed : {b : Bytes} → Facts b → {path : Bytes} → Removes b path �
 unfolding removed
 small-removed {b} f r s =
     let tg = target f (r .reached) (r .entered) in
-    let freed : ℕ → Bytes = λ at. set (foldl (On.released version1) b (pagesAt b at)) at 0 in
+    let freed : ℕ → Bytes = λ at. set (foldl (On.released version1) b (pagesAt (view b) at)) at 0 in
     subst (λ (p : Path). Small (freed (entryPosition b p))) (sym (r .is)) (subst (λ (at : ℕ). Small (freed at)) (sym (tg .position))
-    (small-set (foldl (On.released version1) b (pagesAt b (tg .at))) (tg .at) 0 (omega arith)
-    (small-freed (lawful f) (pagesAt b (tg .at)) b (sized f .whole)
+    (small-set (foldl (On.released version1) b (pagesAt (view b) (tg .at))) (tg .at) 0 (omega arith)
+    (small-freed (lawful f) (pagesAt (view b) (tg .at)) b (sized f .whole)
     (λ q m. f .inside q (omega (arith, pages-owned f tg q)) .1) (omega (arith, pages-count f tg, sized f .high)) s)))
 
 -- ---- write
@@ -146,7 +147,7 @@ module _ (b : Bytes) (f : Facts b) (path : Bytes) (from : ℕ) (v : Bytes) (w : 
   -- the file's pages, those gained and the header are different pages of the image
   pages-fit : pagesFor (max (size path (treeOf b)) (from + length v)) < pageCount b
   pages-fit =
-      let many : pagesFor (size path (treeOf b)) ≡ length (pagesAt b (tg .at)) =
+      let many : pagesFor (size path (treeOf b)) ≡ length (pagesAt (view b) (tg .at)) =
       ap pagesFor same-size ∙ sym (ap length (file-pages b f (w .ns) (w .n) tg isFile) ∙ chain-length (link b) (pagesFor (sizeAt b (tg .at))) (startAt b (tg .at))) in
       omega (arith, w .space, many, pages-count f tg, f .counted)
 

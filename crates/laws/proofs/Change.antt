@@ -16,6 +16,7 @@ use Rattle.volume.proofs.Occ.{occ, Mem, hit, hit-refl, hit-ne, under-of-mem, no
 use Rattle.volume.proofs.Marks.{zero-balance}
 use Rattle.model.specs.Layout.{version1, pageCount, freeCount, validLength, validHeader, pageBit, zeroBits}
 use Rattle.model.specs.Entry.{entries, Entry, entryAt}
+use Rattle.model.specs.Version1.{view}
 use Rattle.model.specs.Sound.{goodEntry, sameName, inDirectory, goodDirectory, owned, ownedPages, sound}
 use Rattle.model.specs.Tree.{Row, Tree}
 use Rattle.model.specs.Path.{Name}
@@ -42,8 +43,8 @@ pub record Balance (b b′ : Bytes) (gone fresh : List ℕ) : Type 0 where
 
 sound-after : {b b′ : Bytes} {gone fresh : List ℕ} → Facts b
     → length b′ ≡ length b → ((i : ℕ) → i < 3 → byteAt b′ i ≡ byteAt b i)
-    → T (goodDirectory (pageCount b) b′ 0)
-    → ((q : ℕ) → occ q (owned (pageCount b) b′ 0) + occ q gone ≡ occ q (ownedPages b) + occ q fresh)
+    → T (goodDirectory (pageCount b) (view b′) 0)
+    → ((q : ℕ) → occ q (owned (pageCount b) (view b′) 0) + occ q gone ≡ occ q (ownedPages b) + occ q fresh)
     → ((q : ℕ) → Mem q gone → (1 ≤ q) × (q < pageCount b))
     → Balance b b′ gone fresh
     → T (sound b′)
@@ -68,7 +69,7 @@ sound-after {b} {b′} {gone} {fresh} f len head good own gone-in bal =
     pages : pageCount b′ ≡ pageCount b
     pages = ap (λ (m : ℕ). m / 256) len
 
-    in-range : (q : ℕ) → Mem q (owned (pageCount b) b′ 0) → (1 ≤ q) × (q < pageCount b)
+    in-range : (q : ℕ) → Mem q (owned (pageCount b) (view b′) 0) → (1 ≤ q) × (q < pageCount b)
     in-range q m = elim (mem-or-not q fresh) [
       | inl c ↦ bal .fresh-in q c
       | inr z ↦ f .inside q (omega (arith, own q))
@@ -85,20 +86,20 @@ pub record Change (b b′ : Bytes) (at : ℕ) (touched : List ℕ) : Type 0 wher
 -- What the change must be at the entry: `op` passes every entry before the first that the test finds, which is the one at `at`, and makes of
 -- it what it is afterwards; the new entry is good, also below, and has a name of its own.
 pub record Works (b b′ : Bytes) (e t at : ℕ) (op : Row → Row) (test : Entry → Bool) : Type 0 where
-  pub skip : (x : Entry) → T (not (test x)) → (rest : Row) → op (entryRow b (rowAt e b) x rest) ≡ entryRow b (rowAt e b) x (op rest)
-  pub work : (rest : Row) → op (entryRow b (rowAt e b) (entryAt b at) rest) ≡ entryRow b′ (rowAt e b′) (entryAt b′ at) rest
+  pub skip : (x : Entry) → T (not (test x)) → (rest : Row) → op (entryRow (view b) (rowAt e (view b)) x rest) ≡ entryRow (view b) (rowAt e (view b)) x (op rest)
+  pub work : (rest : Row) → op (entryRow (view b) (rowAt e (view b)) (entryAt b at) rest) ≡ entryRow (view b′) (rowAt e (view b′)) (entryAt b′ at) rest
   pub found : first (λ x. test (entryAt b x)) (entries t) ≡ some at
-  pub good : T (goodEntry b′ (entryAt b′ at))
-  pub below : T (inDirectory true (goodDirectory e b′) (entryAt b′ at))
+  pub good : T (goodEntry (view b′) (entryAt b′ at))
+  pub below : T (inDirectory true (goodDirectory e (view b′)) (entryAt b′ at))
   pub name : (x : ℕ) → Mem x (entries t) → x ≢ at → T (not (sameName (entryAt b′ at) (entryAt b x)))
 
 module _ {b : Bytes} (b′ : Bytes) (f : Facts b) (names : List Name) (e t at : ℕ) (touched : List ℕ)
     (leads : Leads b (pageCount b) 0 names (suc e) t) (entry : Mem at (entries t)) (c : Change b b′ at touched)
     (mine : (q : ℕ) → Mem q touched → (1 ≤ q) × (Mem q (ownedPages b) → Mem q (own e b (entryAt b at)))) where
-  sub : (q : ℕ) → occ q (t ∷ owned (suc e) b t) ≤ occ q (0 ∷ ownedPages b)
+  sub : (q : ℕ) → occ q (t ∷ owned (suc e) (view b) t) ≤ occ q (0 ∷ ownedPages b)
   sub q = leads-sub b names (pageCount b) 0 (suc e) t q leads
 
-  entry-sub : (q : ℕ) → occ q (own e b (entryAt b at)) ≤ occ q (owned (suc e) b t)
+  entry-sub : (q : ℕ) → occ q (own e b (entryAt b at)) ≤ occ q (owned (suc e) (view b) t)
   entry-sub q = own-le e b t at q entry
 
   -- the directory's own page is not touched
@@ -131,13 +132,13 @@ module _ {b : Bytes} (b′ : Bytes) (f : Facts b) (names : List Name) (e t at : 
       let two = own-two e b t x at q ne m entry in
       let s = sub q in
       let one = root-once f q in
-      let own1 : occ q (owned (suc e) b t) ≡ 1 = omega (arith, two, k, s, one) in
+      let own1 : occ q (owned (suc e) (view b) t) ≡ 1 = omega (arith, two, k, s, one) in
       let nt : q ≢ t = λ w. omega (arith, own1, s, one, hit-refl q, ap (hit q) w) in
       let oq : Mem q (ownedPages b) = omega (arith, own1, leads-owned b names (pageCount b) 0 (suc e) t q leads) in
       let z : occ q touched ≡ 0 = not-mem q touched (λ w. omega (arith, mine q w .1 oq, two, k, own1)) in
       (f .inside q oq .0, outside q nt z))
 
-  frame : (q : ℕ) → Mem q (0 ∷ ownedPages b) → occ q (t ∷ owned (suc e) b t) ≡ 0 → SamePage b b′ q
+  frame : (q : ℕ) → Mem q (0 ∷ ownedPages b) → occ q (t ∷ owned (suc e) (view b) t) ≡ 0 → SamePage b b′ q
   frame q k z =
       outside q (λ w. omega (arith, z, hit-refl q, ap (hit q) w))
       (not-mem q touched (λ w.
@@ -145,9 +146,9 @@ module _ {b : Bytes} (b′ : Bytes) (f : Facts b) (names : List Name) (e t at : 
       let o = r .1 (omega (arith, k, hit-ne q 0 (λ u. omega (arith, r .0, u)))) in
       omega (arith, o, entry-sub q, z)))
 
-  pub changed : (op : Row → Row) (test : Entry → Bool) → T (goodDirectory (suc e) b t) → Works b b′ e t at op test
+  pub changed : (op : Row → Row) (test : Entry → Bool) → T (goodDirectory (suc e) (view b) t) → Works b b′ e t at op test
       → Balance b b′ (own e b (entryAt b at)) (own e b′ (entryAt b′ at))
-      → T (sound b′) × (treeOf b′ ≡ record { pages = pageCount b; root = changeAt names op (rowAt (pageCount b) b 0) })
+      → T (sound b′) × (treeOf b′ ≡ record { pages = pageCount b; root = changeAt names op (rowAt (pageCount b) (view b) 0) })
   unfolding treeOf
   changed op test good w bal =
       let row = level-row e b b′ t at others op test (w .skip) (w .work) (w .found) in
@@ -159,5 +160,5 @@ module _ {b : Bytes} (b′ : Bytes) (f : Facts b) (names : List Name) (e t at : 
             (λ q k. f .inside q (omega (arith, k, entry-sub q, leads-owned b names (pageCount b) 0 (suc e) t q leads)))
             bal,
         ap₂ {C = Tree} (λ (n : ℕ) (r : Row). record { pages = n; root = r }) pages
-            (ap (λ (n : ℕ). rowAt n b′ 0) pages ∙ sym (whole .means)),
+            (ap (λ (n : ℕ). rowAt n (view b′) 0) pages ∙ sym (whole .means)),
       )

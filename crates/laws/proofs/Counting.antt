@@ -17,6 +17,7 @@ use Rattle.volume.proofs.Flat.{flatMap-length}
 use Rattle.volume.proofs.Marks.{bit-low}
 use Rattle.model.specs.Layout.{version1, pageCount, pagesFor, freeCount, pageBit, zeroBits, link}
 use Rattle.model.specs.Entry.{entries, Entry, vacant, aFile, aDirectory, entryAt}
+use Rattle.model.specs.Version1.{view}
 use Rattle.model.specs.Sound.{pagesOf, reached, owned, ownedPages, soundTo, sound}
 use Rattle.model.specs.Tree.{Row, needs, freeNumber}
 use Rattle.model.specs.Image.{contentOn, contentOf, entryRow, rowOf, rowAt, treeOf}
@@ -31,9 +32,9 @@ unfolding On.zeroBits
 zeros-marked b xs zero h = refl
 zeros-marked b xs (suc n) h = omega (arith, zeros-marked b xs n (λ q l. h q (omega arith)), h n (omega arith), bit-low version1 b n)
 
-count-to : {d : ℕ} {b : Bytes} → FactsTo d b → zeroBits b (pageCount b) + 1 + length (owned d b 0) ≡ pageCount b
+count-to : {d : ℕ} {b : Bytes} → FactsTo d b → zeroBits b (pageCount b) + 1 + length (owned d (view b) 0) ≡ pageCount b
 count-to {d} {b} f =
-    let pages : List ℕ = owned d b 0 in
+    let pages : List ℕ = owned d (view b) 0 in
     let z = zeros-marked b (0 ∷ pages) (pageCount b) (λ q l. elim (hit-cases q 0) [
       | inl e ↦
           let none : occ 0 pages ≡ 0 = not-mem 0 pages (λ m. omega (arith, f .inside 0 m .0)) in
@@ -73,38 +74,38 @@ abbrev pub InImage : Bytes → List ℕ → Type 0
 InImage b ps = (q : ℕ) → Mem q ps → 256 * q + 256 ≤ length b
 
 -- the content of a file is as long as its size
-pub content-length : (b : Bytes) (start size : ℕ) → InImage b (chain (link b) (pagesFor size) start) → length (contentOf b size (chain (link b) (pagesFor size) start)) ≡ size
+pub content-length : (b : Bytes) (start size : ℕ) → InImage b (chain (link b) (pagesFor size) start) → length (contentOf (view b) size (chain (link b) (pagesFor size) start)) ≡ size
 unfolding contentOf
 content-length b start size h =
     let ps : List ℕ = chain (link b) (pagesFor size) start in
-    let l = length-take size (flatMap (contentOn b) ps) in
-    let c = flatMap-length (contentOn b) 255 ps (λ q m. part-length (256 * q + 1) 255 b (omega (arith, h q m))) in
+    let l = length-take size (flatMap (contentOn (view b)) ps) in
+    let c = flatMap-length (contentOn (view b)) 255 ps (λ q m. part-length (256 * q + 1) 255 b (omega (arith, h q m))) in
     let n = chain-length (link b) (pagesFor size) start in
     let e = fill-up size in
     omega (arith, l, c, n, e)
 
 entry-needs : (d : ℕ) (b : Bytes) (x : Entry) → InImage b (own d b x)
-    → ((p : ℕ) → InImage b (owned d b p) → length (owned d b p) ≡ needs (rowAt d b p))
-    → (rest : Row) → length (own d b x) + needs rest ≡ needs (entryRow b (rowAt d b) x rest)
+    → ((p : ℕ) → InImage b (owned d (view b) p) → length (owned d (view b) p) ≡ needs (rowAt d (view b) p))
+    → (rest : Row) → length (own d b x) + needs rest ≡ needs (entryRow (view b) (rowAt d (view b)) x rest)
 unfolding own needs entryRow pagesOf
 entry-needs d b vacant h below rest = omega arith
 entry-needs d b (aFile locked name date start size) h below rest =
     let n = chain-length (link b) (pagesFor size) start in
-    let c : pagesFor (length (contentOf b size (chain (link b) (pagesFor size) start))) ≡ pagesFor size = ap pagesFor (content-length b start size h) in
+    let c : pagesFor (length (contentOf (view b) size (chain (link b) (pagesFor size) start))) ≡ pagesFor size = ap pagesFor (content-length b start size h) in
     omega (arith, n, c)
-entry-needs d b (aDirectory name date start size) h below rest = omega (arith, below start (λ q m. h q (mem-tail q start (owned d b start) m)))
+entry-needs d b (aDirectory name date start size) h below rest = omega (arith, below start (λ q m. h q (mem-tail q start (owned d (view b) start) m)))
 
 row-needs : (d : ℕ) (b : Bytes) (ats : List ℕ) → ((x : ℕ) → Mem x ats → InImage b (own d b (entryAt b x)))
-    → ((p : ℕ) → InImage b (owned d b p) → length (owned d b p) ≡ needs (rowAt d b p))
-    → length (flatMap (λ x. own d b (entryAt b x)) ats) ≡ needs (rowOf b (rowAt d b) ats)
+    → ((p : ℕ) → InImage b (owned d (view b) p) → length (owned d (view b) p) ≡ needs (rowAt d (view b) p))
+    → length (flatMap (λ x. own d b (entryAt b x)) ats) ≡ needs (rowOf (view b) (rowAt d (view b)) ats)
 unfolding flatMap rowOf needs
 row-needs d b [] h below = refl
 row-needs d b (x ∷ xs) h below =
     length-append (own d b (entryAt b x)) (flatMap (λ y. own d b (entryAt b y)) xs)
     ∙ ap (λ (n : ℕ). length (own d b (entryAt b x)) + n) (row-needs d b xs (λ y m. h y (mem-tail y x xs m)) below)
-    ∙ entry-needs d b (entryAt b x) (h x (mem-head x xs)) below (rowOf b (rowAt d b) xs)
+    ∙ entry-needs d b (entryAt b x) (h x (mem-head x xs)) below (rowOf (view b) (rowAt d (view b)) xs)
 
-pub owned-needs : (d : ℕ) (b : Bytes) (p : ℕ) → InImage b (owned d b p) → length (owned d b p) ≡ needs (rowAt d b p)
+pub owned-needs : (d : ℕ) (b : Bytes) (p : ℕ) → InImage b (owned d (view b) p) → length (owned d (view b) p) ≡ needs (rowAt d (view b) p)
 unfolding rowAt reached flatMap needs
 owned-needs zero b p h = refl
 owned-needs (suc d) b p h =

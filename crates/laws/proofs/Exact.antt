@@ -18,6 +18,7 @@ use Rattle.volume.proofs.Puts.{part-length}
 use Rattle.model.specs.Layout.{pageCount}
 use Rattle.model.specs.Name.{legalByte, legalText, padded, unpadded}
 use Rattle.model.specs.Entry.{occupied, isDirectory, isLocked, nameAt, startAt, sizeAt, dateAt, vacant, aFile, aDirectory, entryAt}
+use Rattle.model.specs.Version1.{view}
 use Rattle.model.specs.Sound.{isNamed, owned, sound}
 use Rattle.model.specs.Tree.{Row, end, free, file, dir, Node, fileNode, directoryNode, lookup}
 use Rattle.model.specs.Path.{Name, Path, noPath, root, below, before, texts, namesFrom, pathTo, pathOf, isNoPath, isRoot, names}
@@ -160,25 +161,25 @@ named-exact b n at h = go (occupied b at) (isDirectory b at) h
     go true false k = (tt, same-true (nameAt b at) n k)
     go false d k = absurd k
 
-found-exact : (b : Bytes) (page : ℕ) (n : Bytes) (at : ℕ) → entryNamed b page n ≡ some at → T (occupied b at) × (nameAt b at ≡ n)
+found-exact : (b : Bytes) (page : ℕ) (n : Bytes) (at : ℕ) → entryNamed (view b) page n ≡ some at → T (occupied b at) × (nameAt b at ≡ n)
 found-exact b page n at e = named-exact b n at (named-found b page n at e .1)
 
 -- ---- one way to each entry
 
-found-same : (b : Bytes) (page : ℕ) (n m : Bytes) (at : ℕ) → entryNamed b page n ≡ some at → entryNamed b page m ≡ some at → n ≡ m
+found-same : (b : Bytes) (page : ℕ) (n m : Bytes) (at : ℕ) → entryNamed (view b) page n ≡ some at → entryNamed (view b) page m ≡ some at → n ≡ m
 found-same b page n m at e u = sym (found-exact b page n at e .1) ∙ found-exact b page m at u .1
 
 directory-page : {b : Bytes} {at s s′ : ℕ} → DirectoryAt b at s → DirectoryAt b at s′ → s ≡ s′
 directory-page h k = let u = h .is in let v = k .is in cc
 
 -- no names lead from a directory back to it
-no-return : (b : Bytes) (n : Name) (ns : List Name) (d p e t : ℕ) → ((q : ℕ) → occ q (p ∷ owned (suc d) b p) ≤ 1) → p ≡ t → Leads b (suc d) p (n ∷ ns) e t → ⊥
+no-return : (b : Bytes) (n : Name) (ns : List Name) (d p e t : ℕ) → ((q : ℕ) → occ q (p ∷ owned (suc d) (view b) p) ≤ 1) → p ≡ t → Leads b (suc d) p (n ∷ ns) e t → ⊥
 no-return b n ns d p e t one r l =
     let le = directory-le d b p (l .0) (l .1) t (named-found b p (n .bytes) (l .0) (l .2) .0) (l .3) in
     omega (arith, le, leads-sub b ns d (l .1) e t t (l .4), hit-refl t, one t, ap (λ (x : ℕ). hit t x) r)
 
 -- names that lead to one directory
-leads-once : (b : Bytes) (ns ms : List Name) (d p e e′ t : ℕ) → ((q : ℕ) → occ q (p ∷ owned d b p) ≤ 1)
+leads-once : (b : Bytes) (ns ms : List Name) (d p e e′ t : ℕ) → ((q : ℕ) → occ q (p ∷ owned d (view b) p) ≤ 1)
     → Leads b d p ns e t → Leads b d p ms e′ t → map plain ns ≡ map plain ms
 leads-once b [] [] d p e e′ t one l k = refl
 leads-once b [] (m ∷ ms) zero p e e′ t one l k = absurd k
@@ -222,7 +223,7 @@ module _ {b : Bytes} (f : Facts b) where
       let l = leads-once b ns ms (pageCount b) 0 (suc (g .above .e)) (suc (h .above .e)) (g .above .t) (root-once f) (g .above .leads)
       (subst (λ (x : ℕ). Leads b (pageCount b) 0 ms (suc (h .above .e)) x) (sym page) (h .above .leads)) in
       let name : n .bytes ≡ m .bytes = found-same b (g .above .t) (n .bytes) (m .bytes) (g .at) (g .found)
-      (subst (λ (x : ℕ). entryNamed b x (m .bytes) ≡ some (g .at)) (sym page) (h .found ∙ ap some (sym e))) in
+      (subst (λ (x : ℕ). entryNamed (view b) x (m .bytes) ≡ some (g .at)) (sym page) (h .found ∙ ap some (sym e))) in
       map-append plain ns (n ∷ []) ∙ ap₂ {C = List Bytes} (λ (xs : List Bytes) (x : Bytes). xs ++ (x ∷ [])) l (ap unpadded name) ∙ sym (map-append plain ms (m ∷ []))
 
   -- where find is granted
@@ -234,7 +235,7 @@ module _ {b : Bytes} (f : Facts b) where
       let p3 = passed _ _ (p2 .1) in
       go (pathOf p) refl (p1 .0) (p2 .0) (p3 .0)
     where
-      go : (x : Path) → pathOf p ≡ x → T (not (isNoPath x)) → T (not (isMissing (walkTo x (rowAt (pageCount b) b 0)))) → T (not (isBlocked (walkTo x (rowAt (pageCount b) b 0))))
+      go : (x : Path) → pathOf p ≡ x → T (not (isNoPath x)) → T (not (isMissing (walkTo x (rowAt (pageCount b) (view b) 0)))) → T (not (isBlocked (walkTo x (rowAt (pageCount b) (view b) 0))))
           → (pathOf p ≡ root) ⊎ ((ns : List Name) × (n : Name) × (pathOf p ≡ below ns n) × Target b ns n)
       go noPath q u v w = absurd u
       go root q u v w = inl q
@@ -243,9 +244,9 @@ module _ {b : Bytes} (f : Facts b) where
   -- no entry has an empty name, so the root has no position
   root-position : entryPosition b root ≡ 0
   unfolding walkOn arrivedOr
-  root-position = go (entryNamed b 0 []) refl
+  root-position = go (entryNamed (view b) 0 []) refl
     where
-      go : (o : Option ℕ) → entryNamed b 0 [] ≡ o → Option·getD o 0 ≡ 0
+      go : (o : Option ℕ) → entryNamed (view b) 0 [] ≡ o → Option·getD o 0 ≡ 0
       go none e = refl
       go (some at) e =
           let w = entry-within 0 at (named-found b 0 [] at e .0) in

@@ -14,6 +14,7 @@ use Rattle.volume.proofs.Occ.{hit-cases, occ, Mem, Nodup, mem-or-not, not-mem}
 use Rattle.volume.proofs.Tests.{and-both, both-and, no-conditions, conditions-cons, cons-conditions, member-occ, occ-member, distinct-occ, occ-distinct, all-occ, occ-all, occ-countFrom, countFrom-occ, eq-eqb}
 use Rattle.volume.proofs.Marks.{bit-low}
 use Rattle.model.specs.Layout.{version1, pageCount, validLength, validHeader, freeCount, pageBit, zeroBits}
+use Rattle.model.specs.Version1.{view}
 use Rattle.model.specs.Sound.{goodDirectory, owned, inRange, soundTo, sound}
 
 -- ---- lengths
@@ -44,9 +45,9 @@ pub record FactsTo (depth : ℕ) (b : Bytes) : Type 0 where
   pub headed : T (validHeader b)
   pub bit-zero : pageBit b 0 ≡ 1
   pub counted : freeCount b ≡ zeroBits b (pageCount b)
-  pub formed : T (goodDirectory depth b 0)
-  pub inside : (q : ℕ) → Mem q (owned depth b 0) → (1 ≤ q) × (q < pageCount b)
-  pub exact : (q : ℕ) → 1 ≤ q → q < pageCount b → occ q (owned depth b 0) ≡ pageBit b q
+  pub formed : T (goodDirectory depth (view b) 0)
+  pub inside : (q : ℕ) → Mem q (owned depth (view b) 0) → (1 ≤ q) × (q < pageCount b)
+  pub exact : (q : ℕ) → 1 ≤ q → q < pageCount b → occ q (owned depth (view b) 0) ≡ pageBit b q
 
 abbrev pub Facts : Bytes → Type 0
 Facts b = FactsTo (pageCount b) b
@@ -87,16 +88,16 @@ exact-agrees b pages q e = beq-both (eqb (pageBit b q) 1) (member q pages)
     (λ m. let one : pageBit b q ≡ 1 = omega (arith, member-occ q pages m, bit-low version1 b q) in eq-eqb one)
 
 -- each page is owned at most once
-pub once : {d : ℕ} {b : Bytes} → FactsTo d b → (q : ℕ) → occ q (owned d b 0) ≤ 1
-once {d} {b} f q = elim (mem-or-not q (owned d b 0)) [
+pub once : {d : ℕ} {b : Bytes} → FactsTo d b → (q : ℕ) → occ q (owned d (view b) 0) ≤ 1
+once {d} {b} f q = elim (mem-or-not q (owned d (view b) 0)) [
   | inl m ↦ let r = f .inside q m in omega (arith, f .exact q (r .0) (r .1), bit-low version1 b q)
   | inr z ↦ omega arith
 ]
 
 -- the root's page and the owned ones
-pub root-once : {b : Bytes} → Facts b → (q : ℕ) → occ q (0 ∷ owned (pageCount b) b 0) ≤ 1
+pub root-once : {b : Bytes} → Facts b → (q : ℕ) → occ q (0 ∷ owned (pageCount b) (view b) 0) ≤ 1
 root-once {b} f q = elim (hit-cases q 0) [
-  | inl w ↦ omega (arith, w .1, not-mem q (owned (pageCount b) b 0) (λ k. omega (arith, w .0, f .inside q k .0)))
+  | inl w ↦ omega (arith, w .1, not-mem q (owned (pageCount b) (view b) 0) (λ k. omega (arith, w .0, f .inside q k .0)))
   | inr w ↦ omega (arith, w .1, once f q)
 ]
 
@@ -108,10 +109,10 @@ module _ {depth : ℕ} {b : Bytes} where
       let t2 = conditions-cons (validHeader b) _ (t1 .1) in
       let t3 = conditions-cons (eqb (pageBit b 0) 1) _ (t2 .1) in
       let t4 = conditions-cons (eqb (freeCount b) (zeroBits b (pageCount b))) _ (t3 .1) in
-      let t5 = conditions-cons (goodDirectory depth b 0) _ (t4 .1) in
-      let t6 = conditions-cons (all (inRange (pageCount b)) (owned depth b 0)) _ (t5 .1) in
-      let t7 = conditions-cons (distinct (owned depth b 0)) _ (t6 .1) in
-      let t8 = conditions-cons (all (agrees b (owned depth b 0)) (countFrom 1 (pageCount b - 1))) [] (t7 .1) in
+      let t5 = conditions-cons (goodDirectory depth (view b) 0) _ (t4 .1) in
+      let t6 = conditions-cons (all (inRange (pageCount b)) (owned depth (view b) 0)) _ (t5 .1) in
+      let t7 = conditions-cons (distinct (owned depth (view b) 0)) _ (t6 .1) in
+      let t8 = conditions-cons (all (agrees b (owned depth (view b) 0)) (countFrom 1 (pageCount b - 1))) [] (t7 .1) in
       record {
         fits = t1 .0;
         headed = t2 .0;
@@ -119,10 +120,10 @@ module _ {depth : ℕ} {b : Bytes} where
         counted = eqb→eq (freeCount b) (zeroBits b (pageCount b)) (t4 .0);
         formed = t5 .0;
         inside = λ q m.
-            let r = and-both (leb 1 q) (ltb q (pageCount b)) (all-occ (inRange (pageCount b)) (owned depth b 0) (t6 .0) q m) in
+            let r = and-both (leb 1 q) (ltb q (pageCount b)) (all-occ (inRange (pageCount b)) (owned depth (view b) 0) (t6 .0) q m) in
             (leb→le 1 q (r .0), ltb→lt q (pageCount b) (r .1));
-        exact = λ q l u. agrees-exact b (owned depth b 0) q (distinct-occ (owned depth b 0) (t7 .0))
-            (all-occ (agrees b (owned depth b 0)) (countFrom 1 (pageCount b - 1)) (t8 .0) q (occ-countFrom 1 (pageCount b - 1) q l (omega arith)));
+        exact = λ q l u. agrees-exact b (owned depth (view b) 0) q (distinct-occ (owned depth (view b) 0) (t7 .0))
+            (all-occ (agrees b (owned depth (view b) 0)) (countFrom 1 (pageCount b - 1)) (t8 .0) q (occ-countFrom 1 (pageCount b - 1) q l (omega arith)));
       }
 
   from-facts : FactsTo depth b → T (soundTo depth b)
@@ -131,12 +132,12 @@ module _ {depth : ℕ} {b : Bytes} where
       cons-conditions _ _ (f .fits) (cons-conditions _ _ (f .headed)
       (cons-conditions _ _ (eq-eqb (f .bit-zero)) (cons-conditions _ _ (eq-eqb (f .counted)) (cons-conditions _ _ (f .formed)
       (cons-conditions _ _
-      (occ-all (inRange (pageCount b)) (owned depth b 0) (λ q m.
+      (occ-all (inRange (pageCount b)) (owned depth (view b) 0) (λ q m.
       let r = f .inside q m in both-and (leb 1 q) (ltb q (pageCount b)) (le→leb 1 q (r .0)) (lt→ltb q (pageCount b) (r .1))))
-      (cons-conditions _ _ (occ-distinct (owned depth b 0) (once f))
+      (cons-conditions _ _ (occ-distinct (owned depth (view b) 0) (once f))
       (cons-conditions _ []
-      (occ-all (agrees b (owned depth b 0)) (countFrom 1 (pageCount b - 1)) (λ q m.
-      let r = countFrom-occ 1 (pageCount b - 1) q m in exact-agrees b (owned depth b 0) q (f .exact q (r .0) (omega (arith, r .0, r .1)))))
+      (occ-all (agrees b (owned depth (view b) 0)) (countFrom 1 (pageCount b - 1)) (λ q m.
+      let r = countFrom-occ 1 (pageCount b - 1) q m in exact-agrees b (owned depth (view b) 0) q (f .exact q (r .0) (omega (arith, r .0, r .1)))))
       no-conditions)))))))
 
 pub sound-facts : {b : Bytes} → T (sound b) → Facts b

@@ -17,6 +17,7 @@ use Rattle.volume.proofs.Puts.{put-length, put-in, put-out}
 use Rattle.volume.proofs.Bits.{bit-set}
 use Rattle.model.specs.Layout.{pageCount, validLength, validHeader, pageBit, zeroBits}
 use Rattle.model.specs.Entry.{entries, vacant, entryAt}
+use Rattle.model.specs.Version1.{view}
 use Rattle.model.specs.Sound.{owned, sound}
 use Rattle.model.specs.Tree.{Row, Tree}
 use Rattle.model.specs.Image.{rowAt, treeOf}
@@ -88,7 +89,7 @@ module _ (b : Bytes) (v : T (validLength (length b))) where
       let deep : pageCount b′ ≡ suc d = omega (arith, pages, s .low) in
       let empty : (x : ℕ) → Mem x (entries 0) → entryAt b′ x ≡ vacant = λ x m.
       let w = entry-within 0 x m in zero-vacant b′ x (zero-from x (omega (arith, w .far)) (omega (arith, w .high))) in
-      let none-owned : (q : ℕ) → occ q (owned (suc d) b′ 0) ≡ 0 = λ q. ap (occ q) (vacant-owns b′ d 0 empty) in (
+      let none-owned : (q : ℕ) → occ q (owned (suc d) (view b′) 0) ≡ 0 = λ q. ap (occ q) (vacant-owns b′ d 0 empty) in (
         facts-sound (subst (λ (n : ℕ). FactsTo n b′) (sym deep) (record {
           fits = subst (λ (n : ℕ). T (validLength n)) (sym formatted-length) v;
           headed = headed;
@@ -98,5 +99,5 @@ module _ (b : Bytes) (v : T (validLength (length b))) where
           inside = λ q m. absurd (omega (arith, none-owned q));
           exact = λ q l u. none-owned q ∙ sym (bits q (omega (arith, s .high, deep)) ∙ hit-ne q 0 (omega arith));
         })),
-        ap₂ {C = Tree} (λ (n : ℕ) (r : Row). record { pages = n; root = r }) pages (ap (λ (n : ℕ). rowAt n b′ 0) deep ∙ vacant-row b′ d 0 empty),
+        ap₂ {C = Tree} (λ (n : ℕ) (r : Row). record { pages = n; root = r }) pages (ap (λ (n : ℕ). rowAt n (view b′) 0) deep ∙ vacant-row b′ d 0 empty),
       )

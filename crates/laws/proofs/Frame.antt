@@ -18,6 +18,7 @@ use Rattle.volume.proofs.Flat.{flatMap-same}
 use Rattle.model.specs.Layout.{pagesFor, link}
 use Rattle.model.specs.Name.{legalName}
 use Rattle.model.specs.Entry.{entries, Entry, vacant, aFile, aDirectory, entryAt}
+use Rattle.model.specs.Version1.{view}
 use Rattle.model.specs.Sound.{pagesOf, goodEntry, sameName, namesApart, inDirectory, goodDirectory, reachedBy, reached, owned}
 use Rattle.model.specs.Tree.{Row, file, dir}
 use Rattle.model.specs.Image.{contentOn, contentOf, entryRow, rowOf, rowAt}
@@ -35,7 +36,7 @@ unfolding all
 all-same f g [] h = refl
 all-same f g (x ∷ xs) h = ap₂ (λ (c d : Bool). c && d) (h x (mem-head x xs)) (all-same f g xs (λ y m. h y (mem-tail y x xs m)))
 
-apart-same : (b b′ : Bytes) (ats : List ℕ) → ((x : ℕ) → Mem x ats → entryAt b′ x ≡ entryAt b x) → namesApart b′ ats ≡ namesApart b ats
+apart-same : (b b′ : Bytes) (ats : List ℕ) → ((x : ℕ) → Mem x ats → entryAt b′ x ≡ entryAt b x) → namesApart (view b′) ats ≡ namesApart (view b) ats
 unfolding namesApart
 apart-same b b′ [] h = refl
 apart-same b b′ (at ∷ ats) h =
@@ -45,26 +46,26 @@ apart-same b b′ (at ∷ ats) h =
     (apart-same b b′ ats (λ x m. h x (mem-tail x at ats m)))
 
 pub rows-same : (b b′ : Bytes) (g g′ : ℕ → Row) (ats : List ℕ)
-    → ((x : ℕ) → Mem x ats → (rest : Row) → entryRow b′ g′ (entryAt b′ x) rest ≡ entryRow b g (entryAt b x) rest) → rowOf b′ g′ ats ≡ rowOf b g ats
+    → ((x : ℕ) → Mem x ats → (rest : Row) → entryRow (view b′) g′ (entryAt b′ x) rest ≡ entryRow (view b) g (entryAt b x) rest) → rowOf (view b′) g′ ats ≡ rowOf (view b) g ats
 unfolding rowOf
 rows-same b b′ g g′ [] h = refl
 rows-same b b′ g g′ (x ∷ xs) h =
-    h x (mem-head x xs) (rowOf b′ g′ xs) ∙ ap (entryRow b g (entryAt b x)) (rows-same b b′ g g′ xs (λ y m. h y (mem-tail y x xs m)))
+    h x (mem-head x xs) (rowOf (view b′) g′ xs) ∙ ap (entryRow (view b) g (entryAt b x)) (rows-same b b′ g g′ xs (λ y m. h y (mem-tail y x xs m)))
 
 -- ---- one level
 
 -- an entry's pages, what is on them, and its goodness are the same in both
 pub record SamePages (b b′ : Bytes) (e : Entry) : Type 0 where
-  pub pages : pagesOf b′ e ≡ pagesOf b e
-  pub content : flatMap (contentOn b′) (pagesOf b e) ≡ flatMap (contentOn b) (pagesOf b e)
-  pub good : goodEntry b′ e ≡ goodEntry b e
+  pub pages : pagesOf (view b′) e ≡ pagesOf (view b) e
+  pub content : flatMap (contentOn (view b′)) (pagesOf (view b) e) ≡ flatMap (contentOn (view b)) (pagesOf (view b) e)
+  pub good : goodEntry (view b′) e ≡ goodEntry (view b) e
 
 -- the directory on page p, read in b to depth d and in b′ to depth e
 pub record SameDirectory (b b′ : Bytes) (d e p : ℕ) : Type 0 where
-  pub row : rowAt e b′ p ≡ rowAt d b p
-  pub reach : reached e b′ p ≡ reached d b p
-  pub owns : owned e b′ p ≡ owned d b p
-  pub good : goodDirectory e b′ p ≡ goodDirectory d b p
+  pub row : rowAt e (view b′) p ≡ rowAt d (view b) p
+  pub reach : reached e (view b′) p ≡ reached d (view b) p
+  pub owns : owned e (view b′) p ≡ owned d (view b) p
+  pub good : goodDirectory e (view b′) p ≡ goodDirectory d (view b) p
 
 -- what an entry is in both: its fields, its pages, and what is below it
 pub record SameEntry (b b′ : Bytes) (d e x : ℕ) : Type 0 where
@@ -73,14 +74,14 @@ pub record SameEntry (b b′ : Bytes) (d e x : ℕ) : Type 0 where
   pub below : inDirectory (Unit {0}) (SameDirectory b b′ d e) (entryAt b x)
 
 module _ (b b′ : Bytes) (d e : ℕ) where
-  entry-row : (x : Entry) → SamePages b b′ x → inDirectory (Unit {0}) (SameDirectory b b′ d e) x → (rest : Row) → entryRow b′ (rowAt e b′) x rest ≡ entryRow b (rowAt d b) x rest
+  entry-row : (x : Entry) → SamePages b b′ x → inDirectory (Unit {0}) (SameDirectory b b′ d e) x → (rest : Row) → entryRow (view b′) (rowAt e (view b′)) x rest ≡ entryRow (view b) (rowAt d (view b)) x rest
   unfolding entryRow contentOf
   entry-row vacant h s rest = refl
   entry-row (aFile locked name date start size) h s rest =
-      ap (λ (l : List ℕ). file locked name date (contentOf b′ size l) rest) (h .pages) ∙ ap {B = Row} (λ v. file locked name date (take size v) rest) (h .content)
+      ap (λ (l : List ℕ). file locked name date (contentOf (view b′) size l) rest) (h .pages) ∙ ap {B = Row} (λ v. file locked name date (take size v) rest) (h .content)
   entry-row (aDirectory name date start size) h s rest = ap (λ (r : Row). dir name date r rest) (s .row)
 
-  entry-reach : (at : ℕ) (x : Entry) → inDirectory (Unit {0}) (SameDirectory b b′ d e) x → reachedBy at (reached e b′) x ≡ reachedBy at (reached d b) x
+  entry-reach : (at : ℕ) (x : Entry) → inDirectory (Unit {0}) (SameDirectory b b′ d e) x → reachedBy at (reached e (view b′)) x ≡ reachedBy at (reached d (view b)) x
   unfolding reachedBy
   entry-reach at vacant s = refl
   entry-reach at (aFile locked name date start size) s = refl
@@ -92,37 +93,37 @@ module _ (b b′ : Bytes) (d e : ℕ) where
   entry-own (aFile locked name date start size) h s = h .pages
   entry-own (aDirectory name date start size) h s = ap (λ (l : List ℕ). start ∷ l) (s .owns)
 
-  entry-below : (x : Entry) → inDirectory (Unit {0}) (SameDirectory b b′ d e) x → inDirectory true (goodDirectory e b′) x ≡ inDirectory true (goodDirectory d b) x
+  entry-below : (x : Entry) → inDirectory (Unit {0}) (SameDirectory b b′ d e) x → inDirectory true (goodDirectory e (view b′)) x ≡ inDirectory true (goodDirectory d (view b)) x
   entry-below vacant s = refl
   entry-below (aFile locked name date start size) s = refl
   entry-below (aDirectory name date start size) s = s .good
 
-  pub same-row : {x : ℕ} → SameEntry b b′ d e x → (rest : Row) → entryRow b′ (rowAt e b′) (entryAt b′ x) rest ≡ entryRow b (rowAt d b) (entryAt b x) rest
-  same-row {x} s rest = ap (λ (y : Entry). entryRow b′ (rowAt e b′) y rest) (s .fields) ∙ entry-row (entryAt b x) (s .pages) (s .below) rest
+  pub same-row : {x : ℕ} → SameEntry b b′ d e x → (rest : Row) → entryRow (view b′) (rowAt e (view b′)) (entryAt b′ x) rest ≡ entryRow (view b) (rowAt d (view b)) (entryAt b x) rest
+  same-row {x} s rest = ap (λ (y : Entry). entryRow (view b′) (rowAt e (view b′)) y rest) (s .fields) ∙ entry-row (entryAt b x) (s .pages) (s .below) rest
 
   pub same-own : {x : ℕ} → SameEntry b b′ d e x → own e b′ (entryAt b′ x) ≡ own d b (entryAt b x)
   same-own {x} s = ap (own e b′) (s .fields) ∙ entry-own (entryAt b x) (s .pages) (s .below)
 
-  pub same-good : {x : ℕ} → SameEntry b b′ d e x → goodEntry b′ (entryAt b′ x) ≡ goodEntry b (entryAt b x)
-  same-good s = ap (goodEntry b′) (s .fields) ∙ s .pages .good
+  pub same-good : {x : ℕ} → SameEntry b b′ d e x → goodEntry (view b′) (entryAt b′ x) ≡ goodEntry (view b) (entryAt b x)
+  same-good s = ap (goodEntry (view b′)) (s .fields) ∙ s .pages .good
 
-  pub same-below : {x : ℕ} → SameEntry b b′ d e x → inDirectory true (goodDirectory e b′) (entryAt b′ x) ≡ inDirectory true (goodDirectory d b) (entryAt b x)
-  same-below {x} s = ap (inDirectory true (goodDirectory e b′)) (s .fields) ∙ entry-below (entryAt b x) (s .below)
+  pub same-below : {x : ℕ} → SameEntry b b′ d e x → inDirectory true (goodDirectory e (view b′)) (entryAt b′ x) ≡ inDirectory true (goodDirectory d (view b)) (entryAt b x)
+  same-below {x} s = ap (inDirectory true (goodDirectory e (view b′))) (s .fields) ∙ entry-below (entryAt b x) (s .below)
 
   pub same-directory : {p : ℕ} → ((x : ℕ) → Mem x (entries p) → SameEntry b b′ d e x) → SameDirectory b b′ (suc d) (suc e) p
   unfolding rowAt reached goodDirectory all
   same-directory {p} h = record {
-    row = rows-same b b′ (rowAt d b) (rowAt e b′) (entries p) (λ x m. same-row (h x m));
-    reach = flatMap-same (λ x. reachedBy x (reached e b′) (entryAt b′ x)) (λ x. reachedBy x (reached d b) (entryAt b x)) (entries p) (λ x m.
-        ap (reachedBy x (reached e b′)) (h x m .fields) ∙ entry-reach x (entryAt b x) (h x m .below));
+    row = rows-same b b′ (rowAt d (view b)) (rowAt e (view b′)) (entries p) (λ x m. same-row (h x m));
+    reach = flatMap-same (λ x. reachedBy x (reached e (view b′)) (entryAt b′ x)) (λ x. reachedBy x (reached d (view b)) (entryAt b x)) (entries p) (λ x m.
+        ap (reachedBy x (reached e (view b′))) (h x m .fields) ∙ entry-reach x (entryAt b x) (h x m .below));
     owns = owned-entries e b′ p
         ∙ flatMap-same (λ x. own e b′ (entryAt b′ x)) (λ x. own d b (entryAt b x)) (entries p) (λ x m. same-own (h x m))
         ∙ sym (owned-entries d b p);
     good =
-        ap₂ (λ (c f : Bool). c && (namesApart b′ (entries p) && (f && true)))
-        (all-same (λ x. goodEntry b′ (entryAt b′ x)) (λ x. goodEntry b (entryAt b x)) (entries p) (λ x m. same-good (h x m)))
-        (all-same (λ x. inDirectory true (goodDirectory e b′) (entryAt b′ x)) (λ x. inDirectory true (goodDirectory d b) (entryAt b x)) (entries p) (λ x m. same-below (h x m)))
-        ∙ ap (λ (c : Bool). all (λ x. goodEntry b (entryAt b x)) (entries p) && (c && (all (λ x. inDirectory true (goodDirectory d b) (entryAt b x)) (entries p) && true)))
+        ap₂ (λ (c f : Bool). c && (namesApart (view b′) (entries p) && (f && true)))
+        (all-same (λ x. goodEntry (view b′) (entryAt b′ x)) (λ x. goodEntry (view b) (entryAt b x)) (entries p) (λ x m. same-good (h x m)))
+        (all-same (λ x. inDirectory true (goodDirectory e (view b′)) (entryAt b′ x)) (λ x. inDirectory true (goodDirectory d (view b)) (entryAt b x)) (entries p) (λ x m. same-below (h x m)))
+        ∙ ap (λ (c : Bool). all (λ x. goodEntry (view b) (entryAt b x)) (entries p) && (c && (all (λ x. inDirectory true (goodDirectory d (view b)) (entryAt b x)) (entries p) && true)))
         (apart-same b b′ (entries p) (λ x m. h x m .fields));
   }
 
@@ -138,11 +139,11 @@ module _ (b b′ : Bytes) (len : length b′ ≡ length b) where
       let r = chain-frame (link b) (link b′) k p (λ q m. let l = h q m .0 in sym (h q m .1 (256 * q) (omega arith) (omega arith))) in
       (sym (r .0), sym (r .1))
 
-  content-same : (ps : List ℕ) → Kept b b′ ps → flatMap (contentOn b′) ps ≡ flatMap (contentOn b) ps
-  content-same ps h = flatMap-same (contentOn b′) (contentOn b) ps
+  content-same : (ps : List ℕ) → Kept b b′ ps → flatMap (contentOn (view b′)) ps ≡ flatMap (contentOn (view b)) ps
+  content-same ps h = flatMap-same (contentOn (view b′)) (contentOn (view b)) ps
       (λ q m. let one = h q m .0 in part-bytes (256 * q + 1) 255 b b′ len (λ i l u. h q m .1 i (omega arith) (omega arith)))
 
-  pub kept-pages : (e : Entry) → Kept b b′ (pagesOf b e) → SamePages b b′ e
+  pub kept-pages : (e : Entry) → Kept b b′ (pagesOf (view b) e) → SamePages b b′ e
   unfolding goodEntry pagesOf
   kept-pages vacant h = record { pages = refl; content = content-same [] h; good = refl }
   kept-pages (aFile locked name date start size) h = record {
@@ -153,16 +154,16 @@ module _ (b b′ : Bytes) (len : length b′ ≡ length b) where
   kept-pages (aDirectory name date start size) h = record { pages = refl; content = content-same (start ∷ []) h; good = refl }
 
   -- an entry whose pages, with those below it, are kept
-  kept-below : (d : ℕ) (e : Entry) → ((p : ℕ) → SamePage b b′ p → Kept b b′ (owned d b p) → SameDirectory b b′ d d p)
+  kept-below : (d : ℕ) (e : Entry) → ((p : ℕ) → SamePage b b′ p → Kept b b′ (owned d (view b) p) → SameDirectory b b′ d d p)
       → Kept b b′ (own d b e) → inDirectory (Unit {0}) (SameDirectory b b′ d d) e
   unfolding own
   kept-below d vacant frame h = tt
   kept-below d (aFile locked name date start size) frame h = tt
   kept-below d (aDirectory name date start size) frame h =
-      frame start (h start (mem-head start (owned d b start)) .1) (λ q m. h q (mem-tail q start (owned d b start) m))
+      frame start (h start (mem-head start (owned d (view b) start)) .1) (λ q m. h q (mem-tail q start (owned d (view b) start) m))
 
   -- an entry with its 32 bytes, its pages and those below it kept
-  entry-kept : {d x : ℕ} → ((p : ℕ) → SamePage b b′ p → Kept b b′ (owned d b p) → SameDirectory b b′ d d p)
+  entry-kept : {d x : ℕ} → ((p : ℕ) → SamePage b b′ p → Kept b b′ (owned d (view b) p) → SameDirectory b b′ d d p)
       → entryAt b′ x ≡ entryAt b x → Kept b b′ (own d b (entryAt b x)) → SameEntry b b′ d d x
   entry-kept {d} {x} frame f h = record {
     fields = f;
@@ -170,7 +171,7 @@ module _ (b b′ : Bytes) (len : length b′ ≡ length b) where
     below = kept-below d (entryAt b x) frame h;
   }
 
-  pub directory-frame : {d : ℕ} (p : ℕ) → SamePage b b′ p → Kept b b′ (owned d b p) → SameDirectory b b′ d d p
+  pub directory-frame : {d : ℕ} (p : ℕ) → SamePage b b′ p → Kept b b′ (owned d (view b) p) → SameDirectory b b′ d d p
   unfolding rowAt reached goodDirectory flatMap
   directory-frame {d = zero} p h k = record { row = refl; reach = refl; owns = refl; good = refl }
   directory-frame {d = suc d} p h k = same-directory b b′ d d (λ x m.
@@ -184,17 +185,17 @@ module _ (b b′ : Bytes) (len : length b′ ≡ length b) where
 
 -- ---- two depths
 
-pub good-below : (d : ℕ) (b : Bytes) (p x : ℕ) → T (goodDirectory (suc d) b p) → Mem x (entries p) → T (inDirectory true (goodDirectory d b) (entryAt b x))
+pub good-below : (d : ℕ) (b : Bytes) (p x : ℕ) → T (goodDirectory (suc d) (view b) p) → Mem x (entries p) → T (inDirectory true (goodDirectory d (view b)) (entryAt b x))
 unfolding goodDirectory
 good-below d b p x h m =
-    let r = conditions-cons (all (λ at. goodEntry b (entryAt b at)) (entries p)) _ h in
-    let s = conditions-cons (namesApart b (entries p)) _ (r .1) in
-    let t = conditions-cons (all (λ at. inDirectory true (goodDirectory d b) (entryAt b at)) (entries p)) [] (s .1) in
-    all-occ (λ at. inDirectory true (goodDirectory d b) (entryAt b at)) (entries p) (t .0) x m
+    let r = conditions-cons (all (λ at. goodEntry (view b) (entryAt b at)) (entries p)) _ h in
+    let s = conditions-cons (namesApart (view b) (entries p)) _ (r .1) in
+    let t = conditions-cons (all (λ at. inDirectory true (goodDirectory d (view b)) (entryAt b at)) (entries p)) [] (s .1) in
+    all-occ (λ at. inDirectory true (goodDirectory d (view b)) (entryAt b at)) (entries p) (t .0) x m
 
 -- what is below an entry of a good directory, to another depth
-below-deeper : (b : Bytes) (d e : ℕ) (x : Entry) → T (inDirectory true (goodDirectory d b) x)
-    → ((s : ℕ) → T (goodDirectory d b s) → length (owned d b s) < length (own d b x) → SameDirectory b b d e s) → inDirectory (Unit {0}) (SameDirectory b b d e) x
+below-deeper : (b : Bytes) (d e : ℕ) (x : Entry) → T (inDirectory true (goodDirectory d (view b)) x)
+    → ((s : ℕ) → T (goodDirectory d (view b) s) → length (owned d (view b) s) < length (own d b x) → SameDirectory b b d e s) → inDirectory (Unit {0}) (SameDirectory b b d e) x
 unfolding own
 below-deeper b d e vacant h f = tt
 below-deeper b d e (aFile locked name date start size) h f = tt
@@ -204,14 +205,14 @@ deeper : {b : Bytes} {d e p : ℕ} → ((x : ℕ) → Mem x (entries p) → inDi
 deeper {b} {d} {e} {p} h = same-directory b b d e (λ x m. record { fields = refl; pages = record { pages = refl; content = refl; good = refl }; below = h x m })
 
 -- more depth than enough changes nothing
-pub depth : {d e : ℕ} {b : Bytes} {p : ℕ} → T (goodDirectory d b p) → d ≤ e → SameDirectory b b d e p
+pub depth : {d e : ℕ} {b : Bytes} {p : ℕ} → T (goodDirectory d (view b) p) → d ≤ e → SameDirectory b b d e p
 unfolding goodDirectory
 depth {d = zero} g l = absurd g
 depth {d = suc d} {e = zero} g l = absurd (omega arith)
 depth {d = suc d} {e = suc e} {b} {p} g l = deeper (λ x m. below-deeper b d e (entryAt b x) (good-below d b p x g m) (λ s k u. depth k (omega arith)))
 
 -- a depth above the number of owned pages is enough
-pub depth-count : {d : ℕ} (e : ℕ) {b : Bytes} {p : ℕ} → T (goodDirectory d b p) → length (owned d b p) < e → SameDirectory b b d e p
+pub depth-count : {d : ℕ} (e : ℕ) {b : Bytes} {p : ℕ} → T (goodDirectory d (view b) p) → length (owned d (view b) p) < e → SameDirectory b b d e p
 unfolding goodDirectory
 depth-count {d = zero} e g l = absurd g
 depth-count {d = suc d} zero g l = absurd (omega arith)

@@ -19,6 +19,7 @@ use Rattle.volume.proofs.Marks.{bit-low}
 use Rattle.model.specs.Layout.{version1, pageCount, pagesFor, validLength, validHeader, freeCount, pageBit, zeroBits, link}
 use Rattle.model.specs.Name.{legalName}
 use Rattle.model.specs.Entry.{entries, Entry, vacant, aFile, aDirectory, entryAt}
+use Rattle.model.specs.Version1.{view}
 use Rattle.model.specs.Sound.{pagesOf, goodEntry, sameName, namesApart, inDirectory, goodDirectory, owned, ownedPages, inRange, sound}
 use Rattle.model.specs.Judge.{Fault, badEntry, badChain, ownedTwice, markedFree, badCount, Judged, fault, clean, isClean}
 use Rattle.model.specs.Judge.{thenJudge, judgePage, judgeChain, freshName, judgeEntry, judgeEntries, judgeDirectory, lostOr, judgeRest, judge}
@@ -124,14 +125,14 @@ module _ (b : Bytes) where
 
   -- the entry e and what is below it are good
   abbrev GoodEntry : ℕ → Entry → Type 0
-  GoodEntry d e = T (goodEntry b e) × T (inDirectory true (goodDirectory d b) e)
+  GoodEntry d e = T (goodEntry (view b) e) × T (inDirectory true (goodDirectory d (view b)) e)
 
   -- none of the earlier entries has the name of e
   abbrev fresh : List ℕ → Entry → Bool
   fresh earlier e = all (λ at. not (sameName e (entryAt b at))) earlier
 
   abbrev Below : ℕ → Type 0
-  Below d = (p : ℕ) (seen : List ℕ) → length seen ≡ pageCount b → Tells (T (goodDirectory d b p)) (owned d b p) seen (judgeDirectory d b p seen)
+  Below d = (p : ℕ) (seen : List ℕ) → length seen ≡ pageCount b → Tells (T (goodDirectory d (view b) p)) (owned d (view b) p) seen (judgeDirectory d b p seen)
 
   entry-told : (d : ℕ) → Below d → (p i : ℕ) (earlier : List ℕ) (e : Entry) (seen : List ℕ) → length seen ≡ pageCount b
       → Tells (GoodEntry d e × T (fresh earlier e)) (own d b e) seen (judgeEntry (judgeDirectory d b) b p i earlier e seen)
@@ -151,13 +152,13 @@ module _ (b : Bytes) where
       (tells-if (freshName b earlier name && sized) (badEntry p i) (tells-then (page-told (badChain p i 0) start seen long) (λ s g c. ih start s (c .long ∙ long))))
 
   -- Each name is tested against the earlier ones, and so the names are apart in the order from last to first.
-  apart-earlier : (ats earlier : List ℕ) → T (namesApart b (reverseAux ats earlier)) → T (namesApart b earlier)
+  apart-earlier : (ats earlier : List ℕ) → T (namesApart (view b) (reverseAux ats earlier)) → T (namesApart (view b) earlier)
   unfolding namesApart
   apart-earlier [] earlier h = h
-  apart-earlier (at ∷ ats) earlier h = and-both (fresh earlier (entryAt b at)) (namesApart b earlier) (apart-earlier ats (at ∷ earlier) h) .1
+  apart-earlier (at ∷ ats) earlier h = and-both (fresh earlier (entryAt b at)) (namesApart (view b) earlier) (apart-earlier ats (at ∷ earlier) h) .1
 
-  entries-told : (d : ℕ) → Below d → (p i : ℕ) (earlier ats seen : List ℕ) → length seen ≡ pageCount b → T (namesApart b earlier)
-      → Tells (((at : ℕ) → Mem at ats → GoodEntry d (entryAt b at)) × T (namesApart b (reverseAux ats earlier)))
+  entries-told : (d : ℕ) → Below d → (p i : ℕ) (earlier ats seen : List ℕ) → length seen ≡ pageCount b → T (namesApart (view b) earlier)
+      → Tells (((at : ℕ) → Mem at ats → GoodEntry d (entryAt b at)) × T (namesApart (view b) (reverseAux ats earlier)))
       (flatMap (λ at. own d b (entryAt b at)) ats) seen (judgeEntries (judgeDirectory d b) b p i earlier ats seen)
   unfolding judgeEntries flatMap namesApart
   entries-told d ih p i earlier [] seen long a = tells-iff (λ (g : Unit {0}). (λ at m. absurd (omega arith), a)) (λ g. tt) (none-told seen)
@@ -165,17 +166,17 @@ module _ (b : Bytes) where
       tells-iff
       (λ g. (λ x m. elim (mem-cons x at ats m) [ inl e ↦ rw e (g .0 .0) | inr k ↦ g .1 .0 x k ], g .1 .1))
       (λ g. (
-        (g .0 at (mem-head at ats), and-both (fresh earlier (entryAt b at)) (namesApart b earlier) (apart-earlier ats (at ∷ earlier) (g .1)) .0),
+        (g .0 at (mem-head at ats), and-both (fresh earlier (entryAt b at)) (namesApart (view b) earlier) (apart-earlier ats (at ∷ earlier) (g .1)) .0),
         (λ x m. g .0 x (mem-tail x at ats m), g .1),
       ))
       (tells-then (entry-told d ih p i earlier (entryAt b at) seen long)
-      (λ s g c. entries-told d ih p (suc i) (at ∷ earlier) ats s (c .long ∙ long) (both-and (fresh earlier (entryAt b at)) (namesApart b earlier) (g .1) a)))
+      (λ s g c. entries-told d ih p (suc i) (at ∷ earlier) ats s (c .long ∙ long) (both-and (fresh earlier (entryAt b at)) (namesApart (view b) earlier) (g .1) a)))
 
   directory-told : (d : ℕ) → Below d
   unfolding judgeDirectory goodDirectory namesApart
   directory-told zero p seen long = refuted (λ g o. g)
   directory-told (suc d) p seen long =
-      subst (λ (ps : List ℕ). Tells (T (goodDirectory (suc d) b p)) ps seen (judgeDirectory (suc d) b p seen)) (sym (owned-entries d b p)) (tells-iff
+      subst (λ (ps : List ℕ). Tells (T (goodDirectory (suc d) (view b) p)) ps seen (judgeDirectory (suc d) b p seen)) (sym (owned-entries d b p)) (tells-iff
       (λ g. good-join d b p record {
         each = λ x m. g .0 x m .0;
         below = λ x m. g .0 x m .1;
@@ -235,7 +236,7 @@ module _ (b : Bytes) where
 
   -- what is right of a sound image besides its length, its header and the pages themselves
   abbrev Right : Type 0
-  Right = T (goodDirectory (pageCount b) b 0) × (T (eqb (pageBit b 0) 1 && counted) × NoneLost)
+  Right = T (goodDirectory (pageCount b) (view b) 0) × (T (eqb (pageBit b 0) 1 && counted) × NoneLost)
 
   judge-told : Tells Right (ownedPages b) unmarked (judge b)
   unfolding judge
@@ -277,7 +278,7 @@ module _ (b : Bytes) where
 
 -- what a clean walk says, and what makes it clean: all that it passes is good, and each owned page lies in the image, is marked and owned once
 pub record Walkable (b : Bytes) : Type 0 where
-  pub formed : T (goodDirectory (pageCount b) b 0)
+  pub formed : T (goodDirectory (pageCount b) (view b) 0)
   pub inside : (q : ℕ) → Mem q (ownedPages b) → (1 ≤ q) × (q < pageCount b)
   pub marked : (q : ℕ) → Mem q (ownedPages b) → pageBit b q ≡ 1
   pub once : (q : ℕ) → occ q (ownedPages b) ≤ 1
@@ -286,10 +287,10 @@ module _ (b : Bytes) where
   abbrev walk : Judged
   walk = judgeDirectory (pageCount b) b 0 (replicate (pageCount b) 0)
 
-  walk-told : Tells b (T (goodDirectory (pageCount b) b 0)) (ownedPages b) (replicate (pageCount b) 0) walk
+  walk-told : Tells b (T (goodDirectory (pageCount b) (view b) 0)) (ownedPages b) (replicate (pageCount b) 0) walk
   walk-told = directory-told b (pageCount b) 0 (replicate (pageCount b) 0) (length-replicate {A = ℕ} (pageCount b) 0)
 
-  told-walkable : {s : List ℕ} → Tells b (T (goodDirectory (pageCount b) b 0)) (ownedPages b) (replicate (pageCount b) 0) (clean s)
+  told-walkable : {s : List ℕ} → Tells b (T (goodDirectory (pageCount b) (view b) 0)) (ownedPages b) (replicate (pageCount b) 0) (clean s)
       → Walkable b × ((q : ℕ) → q < pageCount b → getD s q 0 ≡ occ q (ownedPages b))
   told-walkable (proved s g o c) = (
     record {
@@ -301,7 +302,7 @@ module _ (b : Bytes) where
     λ q l. omega (arith, c .each q l, getD-replicate {A = ℕ} (pageCount b) q 0 0 l),
   )
 
-  told-clean : {j : Judged} → Tells b (T (goodDirectory (pageCount b) b 0)) (ownedPages b) (replicate (pageCount b) 0) j → Walkable b → T (isClean j)
+  told-clean : {j : Judged} → Tells b (T (goodDirectory (pageCount b) (view b) 0)) (ownedPages b) (replicate (pageCount b) 0) j → Walkable b → T (isClean j)
   unfolding isClean
   told-clean (refuted n) w = n (w .formed) (λ q m.
       let i = w .inside q m in
@@ -310,7 +311,7 @@ module _ (b : Bytes) where
 
   -- a walk that ends clean has given its owner mark to each owned page, and to no other
   pub walk-clean : {marks : List ℕ} → walk ≡ clean marks → Walkable b × ((q : ℕ) → q < pageCount b → getD marks q 0 ≡ occ q (ownedPages b))
-  walk-clean e = told-walkable (subst (Tells b (T (goodDirectory (pageCount b) b 0)) (ownedPages b) (replicate (pageCount b) 0)) e walk-told)
+  walk-clean e = told-walkable (subst (Tells b (T (goodDirectory (pageCount b) (view b) 0)) (ownedPages b) (replicate (pageCount b) 0)) e walk-told)
 
   pub walkable-clean : Walkable b → T (isClean walk)
   walkable-clean w = told-clean walk-told w

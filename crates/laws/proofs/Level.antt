@@ -14,6 +14,7 @@ use Rattle.volume.proofs.Occ.{occ, Mem, Nodup, mem-head, mem-tail, mem-cons, no
 use Rattle.volume.proofs.Tests.{and-both, both-and, no-conditions, conditions-cons, cons-conditions, all-occ, occ-all, first-found, same-sym}
 use Rattle.volume.proofs.Flat.{occ-flatMap-change}
 use Rattle.model.specs.Entry.{entries, Entry, vacant, aFile, aDirectory, entryAt}
+use Rattle.model.specs.Version1.{view}
 use Rattle.model.specs.Sound.{goodEntry, isNamed, sameName, namesApart, inDirectory, goodDirectory, owned}
 use Rattle.model.specs.Tree.{Row}
 use Rattle.model.specs.Image.{entryRow, rowOf, rowAt}
@@ -38,11 +39,11 @@ sameName-sym (aDirectory n d s z) (aDirectory m c t y) = same-sym m n
 abbrev pub Apart : Bytes → List ℕ → Type 0
 Apart b ats = (x y : ℕ) → Mem x ats → Mem y ats → x ≢ y → T (not (sameName (entryAt b x) (entryAt b y)))
 
-pub apart-split : (b : Bytes) (ats : List ℕ) → T (namesApart b ats) → Apart b ats
+pub apart-split : (b : Bytes) (ats : List ℕ) → T (namesApart (view b) ats) → Apart b ats
 unfolding namesApart
 apart-split b [] h x y m k ne = absurd (omega arith)
 apart-split b (z ∷ zs) h x y m k ne =
-    let r = and-both (all (λ w. not (sameName (entryAt b z) (entryAt b w))) zs) (namesApart b zs) h in
+    let r = and-both (all (λ w. not (sameName (entryAt b z) (entryAt b w))) zs) (namesApart (view b) zs) h in
     let head : (w : ℕ) → Mem w zs → T (not (sameName (entryAt b z) (entryAt b w))) = all-occ (λ w. not (sameName (entryAt b z) (entryAt b w))) zs (r .0) in
     elim (mem-cons x z zs m) [
       | inl e ↦ elim (mem-cons y z zs k) [
@@ -56,11 +57,11 @@ apart-split b (z ∷ zs) h x y m k ne =
       ]
     ]
 
-pub apart-join : (b : Bytes) (ats : List ℕ) → Nodup ats → Apart b ats → T (namesApart b ats)
+pub apart-join : (b : Bytes) (ats : List ℕ) → Nodup ats → Apart b ats → T (namesApart (view b) ats)
 unfolding namesApart
 apart-join b [] u h = tt
 apart-join b (z ∷ zs) u h =
-    both-and (all (λ w. not (sameName (entryAt b z) (entryAt b w))) zs) (namesApart b zs)
+    both-and (all (λ w. not (sameName (entryAt b z) (entryAt b w))) zs) (namesApart (view b) zs)
     (occ-all (λ w. not (sameName (entryAt b z) (entryAt b w))) zs (λ w m. h z w (mem-head z zs) (mem-tail w z zs m)
     (λ e. let o = ap (λ (v : ℕ). occ v zs) e in omega (arith, nodup-head z zs u))))
     (apart-join b zs (nodup-tail z zs u) (λ x y m k ne. h x y (mem-tail x z zs m) (mem-tail y z zs k) ne))
@@ -68,39 +69,39 @@ apart-join b (z ∷ zs) u h =
 -- ---- a good directory by its entries
 
 pub record Good (d : ℕ) (b : Bytes) (p : ℕ) : Type 0 where
-  pub each : (x : ℕ) → Mem x (entries p) → T (goodEntry b (entryAt b x))
+  pub each : (x : ℕ) → Mem x (entries p) → T (goodEntry (view b) (entryAt b x))
   pub apart : Apart b (entries p)
-  pub below : (x : ℕ) → Mem x (entries p) → T (inDirectory true (goodDirectory d b) (entryAt b x))
+  pub below : (x : ℕ) → Mem x (entries p) → T (inDirectory true (goodDirectory d (view b)) (entryAt b x))
 
-pub good-split : (d : ℕ) (b : Bytes) (p : ℕ) → T (goodDirectory (suc d) b p) → Good d b p
+pub good-split : (d : ℕ) (b : Bytes) (p : ℕ) → T (goodDirectory (suc d) (view b) p) → Good d b p
 unfolding goodDirectory
 good-split d b p h =
-    let r = conditions-cons (all (λ at. goodEntry b (entryAt b at)) (entries p)) _ h in
-    let s = conditions-cons (namesApart b (entries p)) _ (r .1) in
-    let t = conditions-cons (all (λ at. inDirectory true (goodDirectory d b) (entryAt b at)) (entries p)) [] (s .1) in
+    let r = conditions-cons (all (λ at. goodEntry (view b) (entryAt b at)) (entries p)) _ h in
+    let s = conditions-cons (namesApart (view b) (entries p)) _ (r .1) in
+    let t = conditions-cons (all (λ at. inDirectory true (goodDirectory d (view b)) (entryAt b at)) (entries p)) [] (s .1) in
     record {
-      each = all-occ (λ at. goodEntry b (entryAt b at)) (entries p) (r .0);
+      each = all-occ (λ at. goodEntry (view b) (entryAt b at)) (entries p) (r .0);
       apart = apart-split b (entries p) (s .0);
-      below = all-occ (λ at. inDirectory true (goodDirectory d b) (entryAt b at)) (entries p) (t .0);
+      below = all-occ (λ at. inDirectory true (goodDirectory d (view b)) (entryAt b at)) (entries p) (t .0);
     }
 
-pub good-join : (d : ℕ) (b : Bytes) (p : ℕ) → Good d b p → T (goodDirectory (suc d) b p)
+pub good-join : (d : ℕ) (b : Bytes) (p : ℕ) → Good d b p → T (goodDirectory (suc d) (view b) p)
 unfolding goodDirectory
 good-join d b p g =
-    cons-conditions (all (λ at. goodEntry b (entryAt b at)) (entries p)) _ (occ-all (λ at. goodEntry b (entryAt b at)) (entries p) (g .each))
-    (cons-conditions (namesApart b (entries p)) _ (apart-join b (entries p) (nodup-entries p) (g .apart))
-    (cons-conditions (all (λ at. inDirectory true (goodDirectory d b) (entryAt b at)) (entries p)) []
-    (occ-all (λ at. inDirectory true (goodDirectory d b) (entryAt b at)) (entries p) (g .below)) no-conditions))
+    cons-conditions (all (λ at. goodEntry (view b) (entryAt b at)) (entries p)) _ (occ-all (λ at. goodEntry (view b) (entryAt b at)) (entries p) (g .each))
+    (cons-conditions (namesApart (view b) (entries p)) _ (apart-join b (entries p) (nodup-entries p) (g .apart))
+    (cons-conditions (all (λ at. inDirectory true (goodDirectory d (view b)) (entryAt b at)) (entries p)) []
+    (occ-all (λ at. inDirectory true (goodDirectory d (view b)) (entryAt b at)) (entries p) (g .below)) no-conditions))
 
 -- ---- one entry changes
 
 -- An operation that passes every entry before the first that the test finds, and does its work there, commutes with reading the row.
 change-row : (b b′ : Bytes) (g g′ : ℕ → Row) (at : ℕ) (op : Row → Row) (test : Entry → Bool)
-    → ((e : Entry) → T (not (test e)) → (rest : Row) → op (entryRow b g e rest) ≡ entryRow b g e (op rest))
-    → ((rest : Row) → op (entryRow b g (entryAt b at) rest) ≡ entryRow b′ g′ (entryAt b′ at) rest)
+    → ((e : Entry) → T (not (test e)) → (rest : Row) → op (entryRow (view b) g e rest) ≡ entryRow (view b) g e (op rest))
+    → ((rest : Row) → op (entryRow (view b) g (entryAt b at) rest) ≡ entryRow (view b′) g′ (entryAt b′ at) rest)
     → (ats : List ℕ) → first (λ x. test (entryAt b x)) ats ≡ some at → Nodup ats
-    → ((x : ℕ) → Mem x ats → x ≢ at → (rest : Row) → entryRow b′ g′ (entryAt b′ x) rest ≡ entryRow b g (entryAt b x) rest)
-    → op (rowOf b g ats) ≡ rowOf b′ g′ ats
+    → ((x : ℕ) → Mem x ats → x ≢ at → (rest : Row) → entryRow (view b′) g′ (entryAt b′ x) rest ≡ entryRow (view b) g (entryAt b x) rest)
+    → op (rowOf (view b) g ats) ≡ rowOf (view b′) g′ ats
 unfolding rowOf first
 change-row b b′ g g′ at op test skip work [] e u h = absurd (Option·none-ne-some at e)
 change-row b b′ g g′ at op test skip work (x ∷ xs) e u h =
@@ -108,52 +109,52 @@ change-row b b′ g g′ at op test skip work (x ∷ xs) e u h =
     (λ k. change-row b b′ g g′ at op test skip work xs k (nodup-tail x xs u) (λ y m ne. h y (mem-tail y x xs m) ne))
   where
     go : (c : Bool) → test (entryAt b x) ≡ c → (if c then some x else first (λ y. test (entryAt b y)) xs) ≡ some at
-        → (first (λ y. test (entryAt b y)) xs ≡ some at → op (rowOf b g xs) ≡ rowOf b′ g′ xs)
-        → op (entryRow b g (entryAt b x) (rowOf b g xs)) ≡ entryRow b′ g′ (entryAt b′ x) (rowOf b′ g′ xs)
+        → (first (λ y. test (entryAt b y)) xs ≡ some at → op (rowOf (view b) g xs) ≡ rowOf (view b′) g′ xs)
+        → op (entryRow (view b) g (entryAt b x) (rowOf (view b) g xs)) ≡ entryRow (view b′) g′ (entryAt b′ x) (rowOf (view b′) g′ xs)
     go true q k next =
         let s : at ≡ x = sym (Option·some-injective x at k) in
-        subst (λ (y : ℕ). op (entryRow b g (entryAt b y) (rowOf b g xs)) ≡ entryRow b′ g′ (entryAt b′ y) (rowOf b′ g′ xs)) s
-        (work (rowOf b g xs)
-        ∙ ap (entryRow b′ g′ (entryAt b′ at))
+        subst (λ (y : ℕ). op (entryRow (view b) g (entryAt b y) (rowOf (view b) g xs)) ≡ entryRow (view b′) g′ (entryAt b′ y) (rowOf (view b′) g′ xs)) s
+        (work (rowOf (view b) g xs)
+        ∙ ap (entryRow (view b′) g′ (entryAt b′ at))
         (sym (rows-same b b′ g g′ xs (λ y m. h y (mem-tail y x xs m)
         (λ w. let o = ap (λ (v : ℕ). occ v xs) (w ∙ s) in omega (arith, nodup-head x xs u))))))
     go false q k next =
         let no-test : T (not (test (entryAt b x))) = subst (λ (c : Bool). T (not c)) (sym q) tt in
         let ne : x ≢ at = λ w. T-not (test (entryAt b x)) no-test (subst (λ (z : ℕ). T (test (entryAt b z))) (sym w) (first-found (λ y. test (entryAt b y)) xs at k .1)) in
-        skip (entryAt b x) no-test (rowOf b g xs)
-        ∙ sym (h x (mem-head x xs) ne (op (rowOf b g xs)))
-        ∙ ap (entryRow b′ g′ (entryAt b′ x)) (next k)
+        skip (entryAt b x) no-test (rowOf (view b) g xs)
+        ∙ sym (h x (mem-head x xs) ne (op (rowOf (view b) g xs)))
+        ∙ ap (entryRow (view b′) g′ (entryAt b′ x)) (next k)
 
 module _ (d : ℕ) (b b′ : Bytes) (p at : ℕ) (others : (x : ℕ) → Mem x (entries p) → x ≢ at → SameEntry b b′ d d x) where
   pub level-row : (op : Row → Row) (test : Entry → Bool)
-      → ((e : Entry) → T (not (test e)) → (rest : Row) → op (entryRow b (rowAt d b) e rest) ≡ entryRow b (rowAt d b) e (op rest))
-      → ((rest : Row) → op (entryRow b (rowAt d b) (entryAt b at) rest) ≡ entryRow b′ (rowAt d b′) (entryAt b′ at) rest)
+      → ((e : Entry) → T (not (test e)) → (rest : Row) → op (entryRow (view b) (rowAt d (view b)) e rest) ≡ entryRow (view b) (rowAt d (view b)) e (op rest))
+      → ((rest : Row) → op (entryRow (view b) (rowAt d (view b)) (entryAt b at) rest) ≡ entryRow (view b′) (rowAt d (view b′)) (entryAt b′ at) rest)
       → first (λ x. test (entryAt b x)) (entries p) ≡ some at
-      → op (rowAt (suc d) b p) ≡ rowAt (suc d) b′ p
+      → op (rowAt (suc d) (view b) p) ≡ rowAt (suc d) (view b′) p
   unfolding rowAt
   level-row op test skip work found =
-      change-row b b′ (rowAt d b) (rowAt d b′) at op test skip work (entries p) found (nodup-entries p) (λ x m ne. same-row b b′ d d (others x m ne))
+      change-row b b′ (rowAt d (view b)) (rowAt d (view b′)) at op test skip work (entries p) found (nodup-entries p) (λ x m ne. same-row b b′ d d (others x m ne))
 
   pub level-owned : Mem at (entries p) → (q : ℕ)
-      → occ q (owned (suc d) b′ p) + occ q (own d b (entryAt b at)) ≡ occ q (owned (suc d) b p) + occ q (own d b′ (entryAt b′ at))
+      → occ q (owned (suc d) (view b′) p) + occ q (own d b (entryAt b at)) ≡ occ q (owned (suc d) (view b) p) + occ q (own d b′ (entryAt b′ at))
   level-owned m q =
-      let x : occ q (owned (suc d) b p) ≡ occ q (flatMap (λ y. own d b (entryAt b y)) (entries p)) = ap (occ q) (owned-entries d b p) in
-      let x′ : occ q (owned (suc d) b′ p) ≡ occ q (flatMap (λ y. own d b′ (entryAt b′ y)) (entries p)) = ap (occ q) (owned-entries d b′ p) in
+      let x : occ q (owned (suc d) (view b) p) ≡ occ q (flatMap (λ y. own d b (entryAt b y)) (entries p)) = ap (occ q) (owned-entries d b p) in
+      let x′ : occ q (owned (suc d) (view b′) p) ≡ occ q (flatMap (λ y. own d b′ (entryAt b′ y)) (entries p)) = ap (occ q) (owned-entries d b′ p) in
       let c = occ-flatMap-change (λ y. own d b (entryAt b y)) (λ y. own d b′ (entryAt b′ y)) (entries p) at q (nodup-entries p) m
       (λ y k ne. sym (same-own b b′ d d (others y k ne))) in
       omega (arith, x, x′, c)
 
-  pub level-good : T (goodDirectory (suc d) b p)
-      → T (goodEntry b′ (entryAt b′ at)) → T (inDirectory true (goodDirectory d b′) (entryAt b′ at))
+  pub level-good : T (goodDirectory (suc d) (view b) p)
+      → T (goodEntry (view b′) (entryAt b′ at)) → T (inDirectory true (goodDirectory d (view b′)) (entryAt b′ at))
       → ((x : ℕ) → Mem x (entries p) → x ≢ at → T (not (sameName (entryAt b′ at) (entryAt b x))))
-      → T (goodDirectory (suc d) b′ p)
+      → T (goodDirectory (suc d) (view b′) p)
   level-good h good below name =
       let g = good-split d b p h in
       let new : (x : ℕ) → Mem x (entries p) → x ≢ at → T (not (sameName (entryAt b′ at) (entryAt b′ x))) = λ x m ne.
       subst (λ (e : Entry). T (not (sameName (entryAt b′ at) e))) (sym (others x m ne .fields)) (name x m ne) in
       good-join d b′ p (record {
         each = λ x m. elim (ℕ-discrete x at) [
-          | yes e ↦ subst (λ (y : ℕ). T (goodEntry b′ (entryAt b′ y))) (sym e) good
+          | yes e ↦ subst (λ (y : ℕ). T (goodEntry (view b′) (entryAt b′ y))) (sym e) good
           | no ne ↦ subst (λ (c : Bool). T c) (sym (same-good b b′ d d (others x m ne))) (g .each x m)
         ];
         apart = λ x y m k ne. elim (ℕ-discrete x at) [
@@ -167,7 +168,7 @@ module _ (d : ℕ) (b b′ : Bytes) (p at : ℕ) (others : (x : ℕ) → Mem x (
           ]
         ];
         below = λ x m. elim (ℕ-discrete x at) [
-          | yes e ↦ subst (λ (y : ℕ). T (inDirectory true (goodDirectory d b′) (entryAt b′ y))) (sym e) below
+          | yes e ↦ subst (λ (y : ℕ). T (inDirectory true (goodDirectory d (view b′)) (entryAt b′ y))) (sym e) below
           | no ne ↦ subst (λ (c : Bool). T c) (sym (same-below b b′ d d (others x m ne))) (g .below x m)
         ];
       })

@@ -14,6 +14,7 @@ use Rattle.volume.proofs.Occ.{occ, occ-append, not-mem}
 use Rattle.volume.proofs.Tests.{not-not, member-occ, occ-member}
 use Rattle.volume.proofs.Marks.{bit-cases}
 use Rattle.model.specs.Layout.{version1, pageCount, validLength}
+use Rattle.model.specs.Version1.{view}
 use Rattle.model.specs.Sound.{pagesAt, reachedEntries, sound, owners}
 use Rattle.model.specs.Tree.{Tree, freeNumber}
 use Rattle.model.specs.Image.{treeOf}
@@ -57,8 +58,8 @@ keep-one f p (x ∷ xs) h = go (member p (f x)) (member-occ p (f x)) refl (keep-
 pub page-owned : {b : Bytes} → Facts b → (p : ℕ) → 1 ≤ p → p < pageCount b → Owned b p
 unfolding owners
 page-owned {b} f p l u = elim (bit-cases version1 b p) [
-  | inl z ↦ isFree z (keep-none (pagesAt b) p (reachedEntries b) (f .exact p l u ∙ z))
-  | inr o ↦ let r = keep-one (pagesAt b) p (reachedEntries b) (f .exact p l u ∙ o) in isOwned (r .0) o (r .1)
+  | inl z ↦ isFree z (keep-none (pagesAt (view b)) p (reachedEntries b) (f .exact p l u ∙ z))
+  | inr o ↦ let r = keep-one (pagesAt (view b)) p (reachedEntries b) (f .exact p l u ∙ o) in isOwned (r .0) o (r .1)
 ]
 
 -- ---- a sound image

@@ -17,6 +17,7 @@ use Rattle.volume.proofs.Tests.{if-yes, if-no}
 use Rattle.volume.proofs.Puts.{part-bytes}
 use Rattle.model.specs.Layout.{pageCount, pagesFor, pageBit, link}
 use Rattle.model.specs.Entry.{occupied, isDirectory, isLocked, nameAt, startAt, sizeAt, dateAt, Entry, vacant, aFile, aDirectory, entryAt}
+use Rattle.model.specs.Version1.{view}
 use Rattle.model.specs.Sound.{pagesOf, goodEntry, isNamed, sameName, inDirectory, goodDirectory, sound}
 use Rattle.model.specs.Tree.{Row, file, relock, Node}
 use Rattle.model.specs.Path.{Name, below}
@@ -87,18 +88,18 @@ entry-relocked b b′ at k h o d l n a s z = rw (o, d, l, n, a, s, z) (go (occup
 
 -- ---- relock
 
-relock-skip : (b : Bytes) (g : ℕ → Row) (n : Bytes) (k : Bool) (x : Entry) → T (not (isNamed n x)) → (rest : Row) → relock n k (entryRow b g x rest) ≡ entryRow b g x (relock n k rest)
+relock-skip : (b : Bytes) (g : ℕ → Row) (n : Bytes) (k : Bool) (x : Entry) → T (not (isNamed n x)) → (rest : Row) → relock n k (entryRow (view b) g x rest) ≡ entryRow (view b) g x (relock n k rest)
 unfolding relock entryRow isNamed pagesOf
 relock-skip b g n k vacant h rest = refl
 relock-skip b g n k (aFile locked name date start size) h rest =
-    if-no (same name n) (entryRow b g (aFile k name date start size) rest) (entryRow b g (aFile locked name date start size) (relock n k rest)) h
+    if-no (same name n) (entryRow (view b) g (aFile k name date start size) rest) (entryRow (view b) g (aFile locked name date start size) (relock n k rest)) h
 relock-skip b g n k (aDirectory name date start size) h rest = refl
 
 relock-work : (b : Bytes) (g : ℕ → Row) (n : Bytes) (k locked : Bool) (name date : Bytes) (start size : ℕ) → T (isNamed n (aFile locked name date start size)) → (rest : Row)
-    → relock n k (entryRow b g (aFile locked name date start size) rest) ≡ entryRow b g (aFile k name date start size) rest
+    → relock n k (entryRow (view b) g (aFile locked name date start size) rest) ≡ entryRow (view b) g (aFile k name date start size) rest
 unfolding relock entryRow isNamed pagesOf
 relock-work b g n k locked name date start size h rest =
-    if-yes (same name n) (entryRow b g (aFile k name date start size) rest) (entryRow b g (aFile locked name date start size) (relock n k rest)) h
+    if-yes (same name n) (entryRow (view b) g (aFile k name date start size) rest) (entryRow (view b) g (aFile locked name date start size) (relock n k rest)) h
 
 -- ---- a file that some names lead to
 
@@ -163,23 +164,23 @@ module _ (b : Bytes) (f : Facts b) (ns : List Name) (n : Name) (tg : Target b ns
   works : Works b b′ e t at (relock (n .bytes) k) (isNamed (n .bytes))
   unfolding entryNamed goodEntry sameName isNamed entryRow pagesOf contentOf
   works = record {
-    skip = relock-skip b (rowAt e b) (n .bytes) k;
+    skip = relock-skip b (rowAt e (view b)) (n .bytes) k;
     work = λ rest.
-        ap (λ (x : Entry). relock (n .bytes) k (entryRow b (rowAt e b) x rest)) is
-        ∙ relock-work b (rowAt e b) (n .bytes) k (isLocked b at) (nameAt b at) (dateAt b at) (startAt b at) s₀
+        ap (λ (x : Entry). relock (n .bytes) k (entryRow (view b) (rowAt e (view b)) x rest)) is
+        ∙ relock-work b (rowAt e (view b)) (n .bytes) k (isLocked b at) (nameAt b at) (dateAt b at) (startAt b at) s₀
         (subst (λ (x : Entry). T (isNamed (n .bytes) x)) is (W.found b f ns n tg isFile .1)) rest
         ∙ ap (λ (v : Bytes). file k (nameAt b at) (dateAt b at) (take s₀ v) rest) (sym (same-pages .content))
-        ∙ ap (λ (ps : List ℕ). file k (nameAt b at) (dateAt b at) (contentOf b′ s₀ ps) rest) (sym (same-pages .pages))
-        ∙ ap (λ (x : Entry). entryRow b′ (rowAt e b′) x rest) (sym is′);
+        ∙ ap (λ (ps : List ℕ). file k (nameAt b at) (dateAt b at) (contentOf (view b′) s₀ ps) rest) (sym (same-pages .pages))
+        ∙ ap (λ (x : Entry). entryRow (view b′) (rowAt e (view b′)) x rest) (sym is′);
     found = tg .found;
-    good = subst (λ (x : Entry). T (goodEntry b′ x)) (sym is′)
-        (subst T (sym (same-pages .good)) (subst (λ (x : Entry). T (goodEntry b x)) is (W.good b f ns n tg isFile .each at (W.found b f ns n tg isFile .0))));
-    below = subst (λ (x : Entry). T (inDirectory true (goodDirectory e b′) x)) (sym is′) tt;
+    good = subst (λ (x : Entry). T (goodEntry (view b′) x)) (sym is′)
+        (subst T (sym (same-pages .good)) (subst (λ (x : Entry). T (goodEntry (view b) x)) is (W.good b f ns n tg isFile .each at (W.found b f ns n tg isFile .0))));
+    below = subst (λ (x : Entry). T (inDirectory true (goodDirectory e (view b′)) x)) (sym is′) tt;
     name = λ x m ne. subst (λ (y : Entry). T (not (sameName y (entryAt b x)))) (sym is′)
         (subst (λ (y : Entry). T (not (sameName y (entryAt b x)))) is (W.good b f ns n tg isFile .apart at x (W.found b f ns n tg isFile .0) m (λ q. ne (sym q))));
   }
 
-  pub locked-sound : T (sound b′) × (treeOf b′ ≡ record { pages = pageCount b; root = changeAt ns (relock (n .bytes) k) (rowAt (pageCount b) b 0) })
+  pub locked-sound : T (sound b′) × (treeOf b′ ≡ record { pages = pageCount b; root = changeAt ns (relock (n .bytes) k) (rowAt (pageCount b) (view b) 0) })
   unfolding On.pageBit own pagesOf
   locked-sound =
       let far = slot .within .far in
@@ -201,18 +202,18 @@ module _ (b : Bytes) (f : Facts b) (ns : List Name) (n : Name) (tg : Target b ns
 
 -- the entry of a path that leads to no directory is a file's
 pub target-file : {b : Bytes} {ns : List Name} {n : Name} (tg : Target b ns n)
-    → ((x : Node) → walkTo (below ns n) (rowAt (pageCount b) b 0) ≡ arrived x → T (not (isDirectoryNode x))) → T (W.isFileEntry (entryAt b (tg .at)))
+    → ((x : Node) → walkTo (below ns n) (rowAt (pageCount b) (view b) 0) ≡ arrived x → T (not (isDirectoryNode x))) → T (W.isFileEntry (entryAt b (tg .at)))
 target-file {b} {n} tg isFile =
-    W.node-file b (rowAt (tg .above .e) b) (n .bytes) (entryAt b (tg .at)) (named-found b (tg .above .t) (n .bytes) (tg .at) (tg .found) .1) (isFile _ (tg .node))
+    W.node-file b (rowAt (tg .above .e) (view b)) (n .bytes) (entryAt b (tg .at)) (named-found b (tg .above .t) (n .bytes) (tg .at) (tg .found) .1) (isFile _ (tg .node))
 
 pub locked-tree : {b : Bytes} → Facts b → (ns : List Name) (n : Name) (k : Bool)
-    → T (not (isMissing (walkTo (below ns n) (rowAt (pageCount b) b 0)))) → T (not (isBlocked (walkTo (below ns n) (rowAt (pageCount b) b 0))))
-    → ((x : Node) → walkTo (below ns n) (rowAt (pageCount b) b 0) ≡ arrived x → T (not (isDirectoryNode x)))
-    → T (sound (relocked (below ns n) k b)) × (treeOf (relocked (below ns n) k b) ≡ record { pages = pageCount b; root = changeAt ns (relock (n .bytes) k) (rowAt (pageCount b) b 0) })
+    → T (not (isMissing (walkTo (below ns n) (rowAt (pageCount b) (view b) 0)))) → T (not (isBlocked (walkTo (below ns n) (rowAt (pageCount b) (view b) 0))))
+    → ((x : Node) → walkTo (below ns n) (rowAt (pageCount b) (view b) 0) ≡ arrived x → T (not (isDirectoryNode x)))
+    → T (sound (relocked (below ns n) k b)) × (treeOf (relocked (below ns n) k b) ≡ record { pages = pageCount b; root = changeAt ns (relock (n .bytes) k) (rowAt (pageCount b) (view b) 0) })
 unfolding relocked
 locked-tree {b} f ns n k u v isFile =
     let tg = target f u v in
     let is = target-file tg isFile in
     subst (λ (at : ℕ). let b′ = set b at (withLock k (byteAt b at)) in
-    T (sound b′) × (treeOf b′ ≡ record { pages = pageCount b; root = changeAt ns (relock (n .bytes) k) (rowAt (pageCount b) b 0) }))
+    T (sound b′) × (treeOf b′ ≡ record { pages = pageCount b; root = changeAt ns (relock (n .bytes) k) (rowAt (pageCount b) (view b) 0) }))
     (sym (tg .position)) (locked-sound b f ns n tg is k)

@@ -24,6 +24,7 @@ use Rattle.volume.proofs.Stays.{Elsewhere}
 use Rattle.model.specs.Layout.{version1, pageCount, pagesFor, zeroBits, link}
 use Rattle.model.specs.Name.{legalName}
 use Rattle.model.specs.Entry.{entries, startAt, Entry, vacant, aFile, aDirectory, entryAt, newEntry}
+use Rattle.model.specs.Version1.{view}
 use Rattle.model.specs.Sound.{pagesOf, goodEntry, isNamed, sameName, inDirectory, goodDirectory, owned, sound}
 use Rattle.model.specs.Tree.{Row, file, dir, emptyRow, width, held as heldIn, Node, lookup, fill}
 use Rattle.model.specs.Path.{Name, below}
@@ -46,45 +47,45 @@ use Rattle.laws.proofs.NewEntry.{new-length, new-start, is-file, is-dir
 
 -- ---- the lowest vacant entry, and a name that is not there
 
-all-held : (b : Bytes) (g : ℕ → Row) (ats : List ℕ) → first (λ x. isVacant (entryAt b x)) ats ≡ none → heldIn (rowOf b g ats) ≡ width (rowOf b g ats)
+all-held : (b : Bytes) (g : ℕ → Row) (ats : List ℕ) → first (λ x. isVacant (entryAt b x)) ats ≡ none → heldIn (rowOf (view b) g ats) ≡ width (rowOf (view b) g ats)
 unfolding heldIn width rowOf first entryRow isVacant
 all-held b g [] e = refl
 all-held b g (x ∷ xs) e = go (entryAt b x) e (all-held b g xs)
   where
     go : (y : Entry) → (if isVacant y then some x else first (λ z. isVacant (entryAt b z)) xs) ≡ none
-        → (first (λ z. isVacant (entryAt b z)) xs ≡ none → heldIn (rowOf b g xs) ≡ width (rowOf b g xs))
-        → heldIn (entryRow b g y (rowOf b g xs)) ≡ width (entryRow b g y (rowOf b g xs))
+        → (first (λ z. isVacant (entryAt b z)) xs ≡ none → heldIn (rowOf (view b) g xs) ≡ width (rowOf (view b) g xs))
+        → heldIn (entryRow (view b) g y (rowOf (view b) g xs)) ≡ width (entryRow (view b) g y (rowOf (view b) g xs))
     go vacant u next = let bad : _≡_ {A = ℕ} 0 1 = cc in absurd (omega (arith, bad))
     go (aFile locked name date start size) u next = ap suc (next u)
     go (aDirectory name date start size) u next = ap suc (next u)
 
-some-vacant : (b : Bytes) (d p : ℕ) → T (not (eqb (heldIn (rowAt (suc d) b p)) (width (rowAt (suc d) b p)))) → first (λ x. isVacant (entryAt b x)) (entries p) ≡ some (lowestVacant b p)
+some-vacant : (b : Bytes) (d p : ℕ) → T (not (eqb (heldIn (rowAt (suc d) (view b) p)) (width (rowAt (suc d) (view b) p)))) → first (λ x. isVacant (entryAt b x)) (entries p) ≡ some (lowestVacant b p)
 unfolding rowAt lowestVacant
 some-vacant b d p h = go (first (λ x. isVacant (entryAt b x)) (entries p)) refl
   where
     go : (o : Option ℕ) → first (λ x. isVacant (entryAt b x)) (entries p) ≡ o → o ≡ some (Option·getD o 0)
-    go none e = absurd (T-not (eqb (heldIn (rowOf b (rowAt d b) (entries p))) (width (rowOf b (rowAt d b) (entries p)))) h (eq-eqb (all-held b (rowAt d b) (entries p) e)))
+    go none e = absurd (T-not (eqb (heldIn (rowOf (view b) (rowAt d (view b)) (entries p))) (width (rowOf (view b) (rowAt d (view b)) (entries p)))) h (eq-eqb (all-held b (rowAt d (view b)) (entries p) e)))
     go (some x) e = refl
 
-not-named : (b : Bytes) (d p : ℕ) (n : Bytes) → T (not (isThere (lookup n (rowAt (suc d) b p)))) → (x : ℕ) → Mem x (entries p) → T (not (isNamed n (entryAt b x)))
+not-named : (b : Bytes) (d p : ℕ) (n : Bytes) → T (not (isThere (lookup n (rowAt (suc d) (view b) p)))) → (x : ℕ) → Mem x (entries p) → T (not (isNamed n (entryAt b x)))
 unfolding isThere entryNamed
 not-named b d p n h = go (first (λ x. isNamed n (entryAt b x)) (entries p)) refl
     (subst (λ (o : Option Node). T (not (isThere o))) (lookup-named b d p n) h)
   where
-    go : (o : Option ℕ) → first (λ x. isNamed n (entryAt b x)) (entries p) ≡ o → T (not (isThere (Option·map (λ at. nodeOf b (rowAt d b) (entryAt b at)) o)))
+    go : (o : Option ℕ) → first (λ x. isNamed n (entryAt b x)) (entries p) ≡ o → T (not (isThere (Option·map (λ at. nodeOf b (rowAt d (view b)) (entryAt b at)) o)))
         → (x : ℕ) → Mem x (entries p) → T (not (isNamed n (entryAt b x)))
     go none e k x m = first-none (λ y. isNamed n (entryAt b y)) (entries p) e x m
     go (some y) e k x m = absurd k
 
 -- ---- fill
 
-fill-skip : (b : Bytes) (g : ℕ → Row) (h : Row → Row) (x : Entry) → T (not (isVacant x)) → (rest : Row) → fill h (entryRow b g x rest) ≡ entryRow b g x (fill h rest)
+fill-skip : (b : Bytes) (g : ℕ → Row) (h : Row → Row) (x : Entry) → T (not (isVacant x)) → (rest : Row) → fill h (entryRow (view b) g x rest) ≡ entryRow (view b) g x (fill h rest)
 unfolding fill entryRow isVacant
 fill-skip b g h vacant u rest = absurd u
 fill-skip b g h (aFile locked name date start size) u rest = refl
 fill-skip b g h (aDirectory name date start size) u rest = refl
 
-fill-work : (b : Bytes) (g : ℕ → Row) (h : Row → Row) (x : Entry) → T (isVacant x) → (rest : Row) → fill h (entryRow b g x rest) ≡ h rest
+fill-work : (b : Bytes) (g : ℕ → Row) (h : Row → Row) (x : Entry) → T (isVacant x) → (rest : Row) → fill h (entryRow (view b) g x rest) ≡ h rest
 unfolding fill entryRow isVacant
 fill-work b g h vacant u rest = refl
 fill-work b g h (aFile locked name date start size) u rest = absurd u
@@ -158,10 +159,10 @@ module _ {b : Bytes} (f : Facts b) (ns : List Name) (name date : Bytes) (fl z k 
 
   -- what the new entry must be like; the rest follows
   made-sound : let b′ = madeAt fl z k name date (w .at) b in (h : Row → Row) (x : Entry) → entryAt b′ (w .at) ≡ x
-      → own (w .above .e) b′ x ≡ On.gained version1 (pageCount b) k b → T (goodEntry b′ x) → T (inDirectory true (goodDirectory (w .above .e) b′) x)
+      → own (w .above .e) b′ x ≡ On.gained version1 (pageCount b) k b → T (goodEntry (view b′) x) → T (inDirectory true (goodDirectory (w .above .e) (view b′)) x)
       → ((y : Entry) → T (not (isNamed name y)) → T (not (sameName x y)))
-      → ((rest : Row) → h rest ≡ entryRow b′ (rowAt (w .above .e) b′) x rest)
-      → T (sound b′) × (treeOf b′ ≡ record { pages = pageCount b; root = changeAt ns (fill h) (rowAt (pageCount b) b 0) })
+      → ((rest : Row) → h rest ≡ entryRow (view b′) (rowAt (w .above .e) (view b′)) x rest)
+      → T (sound b′) × (treeOf b′ ≡ record { pages = pageCount b; root = changeAt ns (fill h) (rowAt (pageCount b) (view b) 0) })
   made-sound h x is mine good sub apart means =
       let b′ : Bytes = madeAt fl z k name date (w .at) b in
       let m = made-bytes in
@@ -181,12 +182,12 @@ module _ {b : Bytes} (f : Facts b) (ns : List Name) (name date : Bytes) (fl z k 
       (λ q c. let r = new q c in (r .0, λ o. absurd (omega (arith, r .2, f .exact q (r .0) (r .1)))))
       (fill h) isVacant (w .above .good)
       (record {
-        skip = fill-skip b (rowAt (w .above .e) b) h;
-        work = λ rest. fill-work b (rowAt (w .above .e) b) h (entryAt b (w .at)) (spot .1) rest ∙ means rest
-            ∙ ap (λ (y : Entry). entryRow b′ (rowAt (w .above .e) b′) y rest) (sym is);
+        skip = fill-skip b (rowAt (w .above .e) (view b)) h;
+        work = λ rest. fill-work b (rowAt (w .above .e) (view b)) h (entryAt b (w .at)) (spot .1) rest ∙ means rest
+            ∙ ap (λ (y : Entry). entryRow (view b′) (rowAt (w .above .e) (view b′)) y rest) (sym is);
         found = w .found;
-        good = subst (λ (y : Entry). T (goodEntry b′ y)) (sym is) good;
-        below = subst (λ (y : Entry). T (inDirectory true (goodDirectory (w .above .e) b′) y)) (sym is) sub;
+        good = subst (λ (y : Entry). T (goodEntry (view b′) y)) (sym is) good;
+        below = subst (λ (y : Entry). T (inDirectory true (goodDirectory (w .above .e) (view b′)) y)) (sym is) sub;
         name = λ y c ne. subst (λ (v : Entry). T (not (sameName v (entryAt b y)))) (sym is) (apart (entryAt b y) (w .apart y c));
       })
       (record {
@@ -199,7 +200,7 @@ module _ {b : Bytes} (f : Facts b) (ns : List Name) (name date : Bytes) (fl z k 
 
 module _ {b : Bytes} (f : Facts b) {ns : List Name} {name date : Bytes} (w : Place b ns name date (pagesFor 0)) where
   file-sound : let b′ = madeAt 0x80 0 (pagesFor 0) name date (w .at) b in
-      T (sound b′) × (treeOf b′ ≡ record { pages = pageCount b; root = changeAt ns (fill (file false name date [])) (rowAt (pageCount b) b 0) })
+      T (sound b′) × (treeOf b′ ≡ record { pages = pageCount b; root = changeAt ns (fill (file false name date [])) (rowAt (pageCount b) (view b) 0) })
   unfolding own pagesOf goodEntry sameName entryRow contentOf
   file-sound =
       let b′ : Bytes = madeAt 0x80 0 (pagesFor 0) name date (w .at) b in
@@ -212,18 +213,18 @@ module _ {b : Bytes} (f : Facts b) {ns : List Name} {name date : Bytes} (w : Pla
 
 -- ---- a directory: its page is all zero, so it is one of 8 vacant entries
 
-leads-many : (b : Bytes) (ns : List Name) (d p e t : ℕ) → Leads b d p ns e t → length ns ≤ length (owned d b p)
+leads-many : (b : Bytes) (ns : List Name) (d p e t : ℕ) → Leads b d p ns e t → length ns ≤ length (owned d (view b) p)
 unfolding own
 leads-many b [] d p e t l = omega arith
 leads-many b (n ∷ ns) zero p e t l = absurd l
 leads-many b (n ∷ ns) (suc d) p e t l =
     let m = named-found b p (n .bytes) (l .0) (l .2) .0 in
-    let o : length (own d b (entryAt b (l .0))) ≡ suc (length (owned d b (l .1))) = ap (λ (x : Entry). length (own d b x)) (l .3 .is) in
+    let o : length (own d b (entryAt b (l .0))) ≡ suc (length (owned d (view b) (l .1))) = ap (λ (x : Entry). length (own d b x)) (l .3 .is) in
     omega (arith, leads-many b ns d (l .1) e t (l .4), own-length d b p (l .0) m, o)
 
 module _ {b : Bytes} (f : Facts b) {ns : List Name} {name date : Bytes} (w : Place b ns name date 1) where
   directory-sound : let b′ = madeAt 0x81 0x0100 1 name date (w .at) b in
-      T (sound b′) × (treeOf b′ ≡ record { pages = pageCount b; root = changeAt ns (fill (dir name date (emptyRow 8))) (rowAt (pageCount b) b 0) })
+      T (sound b′) × (treeOf b′ ≡ record { pages = pageCount b; root = changeAt ns (fill (dir name date (emptyRow 8))) (rowAt (pageCount b) (view b) 0) })
   unfolding own goodEntry sameName entryRow chain beyond
   directory-sound = go (w .above .e) refl
     where
@@ -260,25 +261,25 @@ module _ {b : Bytes} (f : Facts b) {ns : List Name} {name date : Bytes} (w : Pla
         w .space,
       )
 
-      go : (e : ℕ) → w .above .e ≡ e → T (sound b′) × (treeOf b′ ≡ record { pages = pageCount b; root = changeAt ns (fill (dir name date (emptyRow 8))) (rowAt (pageCount b) b 0) })
+      go : (e : ℕ) → w .above .e ≡ e → T (sound b′) × (treeOf b′ ≡ record { pages = pageCount b; root = changeAt ns (fill (dir name date (emptyRow 8))) (rowAt (pageCount b) (view b) 0) })
       go zero q = absurd (omega (arith, q, deep))
       go (suc e) q =
           let is = is-directory 0x81 name 0x0100 date (w .long) (w .dated) b′ (w .at) (made-inside f ns name date 0x81 0x0100 1 w) (made-there f ns name date 0x81 0x0100 1 w) refl in
           made-sound f ns name date 0x81 0x0100 1 w (dir name date (emptyRow 8)) (aDirectory name date s 0x0100) is
-          (ap (λ (d : ℕ). s ∷ owned d b′ s) q ∙ ap (λ (l : List ℕ). s ∷ l) (vacant-owns b′ e s vacants) ∙ m .pages)
+          (ap (λ (d : ℕ). s ∷ owned d (view b′) s) q ∙ ap (λ (l : List ℕ). s ∷ l) (vacant-owns b′ e s vacants) ∙ m .pages)
           (both-and (legalName name) true (w .legal) tt)
-          (subst (λ (d : ℕ). T (goodDirectory d b′ s)) (sym q) (vacant-good b′ e s vacants))
+          (subst (λ (d : ℕ). T (goodDirectory d (view b′) s)) (sym q) (vacant-good b′ e s vacants))
           (λ y h. h)
           (λ rest. ap (λ (r : Row). dir name date r rest)
-          (sym (ap (λ (d : ℕ). rowAt d b′ s) q ∙ vacant-row b′ e s vacants ∙ ap emptyRow (eight-entries s low))))
+          (sym (ap (λ (d : ℕ). rowAt d (view b′) s) q ∙ vacant-row b′ e s vacants ∙ ap emptyRow (eight-entries s low))))
 
 -- ---- the calls
 
 -- what the lines of a granted make say
 pub record Clear (b : Bytes) (ns : List Name) (n : Name) (date : Bytes) (k : ℕ) : Type 0 where
-  pub reached : T (not (isMissing (walk ns (rowAt (pageCount b) b 0))))
-  pub entered : T (not (isBlocked (walk ns (rowAt (pageCount b) b 0))))
-  pub new : (r : Row) → walk ns (rowAt (pageCount b) b 0) ≡ arrived r → T (not (isThere (lookup (n .bytes) r))) × T (not (eqb (heldIn r) (width r)))
+  pub reached : T (not (isMissing (walk ns (rowAt (pageCount b) (view b) 0))))
+  pub entered : T (not (isBlocked (walk ns (rowAt (pageCount b) (view b) 0))))
+  pub new : (r : Row) → walk ns (rowAt (pageCount b) (view b) 0) ≡ arrived r → T (not (isThere (lookup (n .bytes) r))) × T (not (eqb (heldIn r) (width r)))
   pub legal : T (legalName (n .bytes))
   pub long : length (n .bytes) ≡ 16
   pub dated : length date ≡ 8
@@ -287,7 +288,7 @@ pub record Clear (b : Bytes) (ns : List Name) (n : Name) (date : Bytes) (k : ℕ
 pub place-of : {b : Bytes} → Facts b → {ns : List Name} {n : Name} {date : Bytes} {k : ℕ} → Clear b ns n date k → Place b ns (n .bytes) date k
 place-of {b} f {ns} {n} c =
     let p = parent f (c .reached) (c .entered) in
-    let r = c .new (rowAt (suc (p .e)) b (p .t)) (p .row) in
+    let r = c .new (rowAt (suc (p .e)) (view b) (p .t)) (p .row) in
     record {
       above = p;
       at = lowestVacant b (p .t);
@@ -306,18 +307,18 @@ made-position {b} n date fl z k p = ap (λ (v : Walked ℕ). madeAt fl z k (n .b
 
 pub file-tree : {b : Bytes} → Facts b → {ns : List Name} {n : Name} {date : Bytes} → Clear b ns n date (pagesFor 0)
     → T (sound (fileMade (below ns n) date b))
-    × (treeOf (fileMade (below ns n) date b) ≡ record { pages = pageCount b; root = changeAt ns (fill (file false (n .bytes) date [])) (rowAt (pageCount b) b 0) })
+    × (treeOf (fileMade (below ns n) date b) ≡ record { pages = pageCount b; root = changeAt ns (fill (file false (n .bytes) date [])) (rowAt (pageCount b) (view b) 0) })
 unfolding place-of
 file-tree {b} f {ns} {n} {date} c =
-    subst (λ (b′ : Bytes). T (sound b′) × (treeOf b′ ≡ record { pages = pageCount b; root = changeAt ns (fill (file false (n .bytes) date [])) (rowAt (pageCount b) b 0) }))
+    subst (λ (b′ : Bytes). T (sound b′) × (treeOf b′ ≡ record { pages = pageCount b; root = changeAt ns (fill (file false (n .bytes) date [])) (rowAt (pageCount b) (view b) 0) }))
     (sym (made-position n date 0x80 0 (pagesFor 0) (parent f (c .reached) (c .entered))))
     (file-sound f (place-of f c))
 
 pub directory-tree : {b : Bytes} → Facts b → {ns : List Name} {n : Name} {date : Bytes} → Clear b ns n date 1
     → T (sound (directoryMade (below ns n) date b))
-    × (treeOf (directoryMade (below ns n) date b) ≡ record { pages = pageCount b; root = changeAt ns (fill (dir (n .bytes) date (emptyRow 8))) (rowAt (pageCount b) b 0) })
+    × (treeOf (directoryMade (below ns n) date b) ≡ record { pages = pageCount b; root = changeAt ns (fill (dir (n .bytes) date (emptyRow 8))) (rowAt (pageCount b) (view b) 0) })
 unfolding place-of
 directory-tree {b} f {ns} {n} {date} c =
-    subst (λ (b′ : Bytes). T (sound b′) × (treeOf b′ ≡ record { pages = pageCount b; root = changeAt ns (fill (dir (n .bytes) date (emptyRow 8))) (rowAt (pageCount b) b 0) }))
+    subst (λ (b′ : Bytes). T (sound b′) × (treeOf b′ ≡ record { pages = pageCount b; root = changeAt ns (fill (dir (n .bytes) date (emptyRow 8))) (rowAt (pageCount b) (view b) 0) }))
     (sym (made-position n date 0x81 0x0100 1 (parent f (c .reached) (c .entered))))
     (directory-sound f (place-of f c))

@@ -13,6 +13,7 @@ use Rattle.volume.proofs.Tests.{not-not, if-no}
 use Rattle.model.specs.Layout.{pageCount, pagesFor, validLength, validHeader, zeroBits}
 use Rattle.model.specs.Date.{goodDate}
 use Rattle.model.specs.Entry.{sizeAt, entryAt}
+use Rattle.model.specs.Version1.{view}
 use Rattle.model.specs.Sound.{sound}
 use Rattle.model.specs.Tree.{Row, end, width, held, freeNumber, Node, fileNode, directoryNode, lookup}
 use Rattle.model.specs.Path.{Name, Path, noPath, root, below, pathOf, isNoPath, isRoot, parents, names, lastName}
@@ -59,9 +60,9 @@ pub record Writes (b path : Bytes) (from : ℕ) (v : Bytes) : Type 0 where
   pub ns : List Name
   pub n : Name
   pub is : pathOf path ≡ below ns n
-  pub reached : T (not (isMissing (walkTo (below ns n) (rowAt (pageCount b) b 0))))
-  pub entered : T (not (isBlocked (walkTo (below ns n) (rowAt (pageCount b) b 0))))
-  pub leads : walkTo (below ns n) (rowAt (pageCount b) b 0) ≡ arrived (node path (treeOf b))
+  pub reached : T (not (isMissing (walkTo (below ns n) (rowAt (pageCount b) (view b) 0))))
+  pub entered : T (not (isBlocked (walkTo (below ns n) (rowAt (pageCount b) (view b) 0))))
+  pub leads : walkTo (below ns n) (rowAt (pageCount b) (view b) 0) ≡ arrived (node path (treeOf b))
   pub isFile : T (not (isDirectoryNode (node path (treeOf b))))
   pub begins : from ≤ size path (treeOf b)
   pub space : pagesFor (max (size path (treeOf b)) (from + length v)) - pagesFor (size path (treeOf b)) ≤ zeroBits b (pageCount b)
@@ -70,17 +71,17 @@ pub record Locks (b path : Bytes) : Type 0 where
   pub ns : List Name
   pub n : Name
   pub is : pathOf path ≡ below ns n
-  pub reached : T (not (isMissing (walkTo (below ns n) (rowAt (pageCount b) b 0))))
-  pub entered : T (not (isBlocked (walkTo (below ns n) (rowAt (pageCount b) b 0))))
-  pub isFile : (x : Node) → walkTo (below ns n) (rowAt (pageCount b) b 0) ≡ arrived x → T (not (isDirectoryNode x))
+  pub reached : T (not (isMissing (walkTo (below ns n) (rowAt (pageCount b) (view b) 0))))
+  pub entered : T (not (isBlocked (walkTo (below ns n) (rowAt (pageCount b) (view b) 0))))
+  pub isFile : (x : Node) → walkTo (below ns n) (rowAt (pageCount b) (view b) 0) ≡ arrived x → T (not (isDirectoryNode x))
 
 pub record Removes (b path : Bytes) : Type 0 where
   pub ns : List Name
   pub n : Name
   pub is : pathOf path ≡ below ns n
-  pub reached : T (not (isMissing (walkTo (below ns n) (rowAt (pageCount b) b 0))))
-  pub entered : T (not (isBlocked (walkTo (below ns n) (rowAt (pageCount b) b 0))))
-  pub empty : (x : Node) → walkTo (below ns n) (rowAt (pageCount b) b 0) ≡ arrived x → held (rowIn x) ≤ 0
+  pub reached : T (not (isMissing (walkTo (below ns n) (rowAt (pageCount b) (view b) 0))))
+  pub entered : T (not (isBlocked (walkTo (below ns n) (rowAt (pageCount b) (view b) 0))))
+  pub empty : (x : Node) → walkTo (below ns n) (rowAt (pageCount b) (view b) 0) ≡ arrived x → held (rowIn x) ≤ 0
 
 last-name : (p : Path) → T (not (isNoPath p)) → T (not (isRoot p)) → (ns : List Name) × (n : Name) × (p ≡ below ns n)
 unfolding isNoPath isRoot
@@ -127,7 +128,7 @@ module _ {b : Bytes} (f : Facts b) where
       let p7 = passed _ _ (p6 .1) in
       let o = neither (isRoot (pathOf path)) _ (p5 .0) in
       let w = last-name (pathOf path) (p1 .0) (o .0) in
-      let top : Row = rowAt (pageCount b) b 0 in
+      let top : Row = rowAt (pageCount b) (view b) 0 in
       let good = not-not (goodDate date) (p2 .0) in
       let name = last-legal path (w .0) (w .1) (w .2) in
       record {
@@ -161,7 +162,7 @@ module _ {b : Bytes} (f : Facts b) where
       let p5 = passed _ _ (p4 .1) in
       let p6 = passed _ _ (p5 .1) in
       let p7 = passed _ _ (p6 .1) in
-      let top : Row = rowAt (pageCount b) b 0 in
+      let top : Row = rowAt (pageCount b) (view b) 0 in
       let w = last-name (pathOf path) (p1 .0) (not-root (pathOf path) top (p4 .0)) in
       record {
         ns = w .0;
@@ -183,7 +184,7 @@ module _ {b : Bytes} (f : Facts b) where
       let p3 = passed _ _ (p2 .1) in
       let p4 = passed _ _ (p3 .1) in
       let p5 = passed _ _ (p4 .1) in
-      let top : Row = rowAt (pageCount b) b 0 in
+      let top : Row = rowAt (pageCount b) (view b) 0 in
       let w = last-name (pathOf path) (p1 .0) (p2 .0) in
       record {
         ns = w .0;
@@ -205,7 +206,7 @@ module _ {b : Bytes} (f : Facts b) where
       let p4 = passed _ _ (p3 .1) in
       let p5 = passed _ _ (p4 .1) in
       let p6 = passed _ _ (p5 .1) in
-      let top : Row = rowAt (pageCount b) b 0 in
+      let top : Row = rowAt (pageCount b) (view b) 0 in
       let w = last-name (pathOf path) (p1 .0) (p2 .0) in
       let come = arrives end (walk (names (pathOf path)) top) (p3 .0) (p4 .0) in
       let s : Row = arrivedOr end (walk (names (pathOf path)) top) in
@@ -227,7 +228,7 @@ module _ {b : Bytes} (f : Facts b) where
       let p2 = passed _ _ (p1 .1) in
       let p3 = passed _ _ (p2 .1) in
       let p4 = passed _ _ (p3 .1) in
-      let top : Row = rowAt (pageCount b) b 0 in
+      let top : Row = rowAt (pageCount b) (view b) 0 in
       let w = last-name (pathOf path) (p1 .0) (not-root (pathOf path) top (p4 .0)) in
       record {
         ns = w .0;
@@ -267,11 +268,11 @@ module _ (b : Bytes) (f : Facts b) (path : Bytes) (from : ℕ) (v : Bytes) (w : 
   pub write-position : entryPosition b (pathOf path) ≡ at
   write-position = ap (entryPosition b) (w .is) ∙ write-target .position
 
-  node-here : node path (treeOf b) ≡ nodeOf b (rowAt (write-target .above .e) b) (entryAt b at)
+  node-here : node path (treeOf b) ≡ nodeOf b (rowAt (write-target .above .e) (view b)) (entryAt b at)
   node-here = let l = w .leads in let r = write-target .node in cc
 
   pub write-file : T (isFileEntry (entryAt b at))
-  write-file = node-file b (rowAt (write-target .above .e) b) (w .n .bytes) (entryAt b at) (named-found b (write-target .above .t) (w .n .bytes) at (write-target .found) .1)
+  write-file = node-file b (rowAt (write-target .above .e) (view b)) (w .n .bytes) (entryAt b at) (named-found b (write-target .above .t) (w .n .bytes) at (write-target .found) .1)
       (subst (λ (x : Node). T (not (isDirectoryNode x))) node-here (w .isFile))
 
   pub write-size : size path (treeOf b) ≡ sizeAt b at

@@ -14,6 +14,7 @@ use Rattle.volume.proofs.Tests.{if-yes, if-no}
 use Rattle.volume.proofs.Entries.{Removed, removed-is}
 use Rattle.model.specs.Layout.{version1, pageCount}
 use Rattle.model.specs.Entry.{entries, Entry, vacant, aFile, aDirectory, entryAt}
+use Rattle.model.specs.Version1.{view}
 use Rattle.model.specs.Sound.{pagesOf, pagesAt, goodEntry, isNamed, sameName, inDirectory, goodDirectory, reached, owned, sound}
 use Rattle.model.specs.Tree.{Row, free, held, Node, vacate}
 use Rattle.model.specs.Path.{Name, below}
@@ -32,23 +33,23 @@ use Rattle.laws.proofs.Slots.{size, lawful, head-kept, rest-kept, Slot,
 
 -- ---- a directory that holds nothing owns nothing
 
-held-nothing : (d : ℕ) (b : Bytes) (ats : List ℕ) → held (rowOf b (rowAt d b) ats) ≤ 0 → flatMap (λ x. own d b (entryAt b x)) ats ≡ []
+held-nothing : (d : ℕ) (b : Bytes) (ats : List ℕ) → held (rowOf (view b) (rowAt d (view b)) ats) ≤ 0 → flatMap (λ x. own d b (entryAt b x)) ats ≡ []
 unfolding held rowOf flatMap own entryRow
 held-nothing d b [] h = refl
 held-nothing d b (x ∷ xs) h = go (entryAt b x) h (held-nothing d b xs)
   where
-    go : (y : Entry) → held (entryRow b (rowAt d b) y (rowOf b (rowAt d b) xs)) ≤ 0 → (held (rowOf b (rowAt d b) xs) ≤ 0 → flatMap (λ z. own d b (entryAt b z)) xs ≡ [])
+    go : (y : Entry) → held (entryRow (view b) (rowAt d (view b)) y (rowOf (view b) (rowAt d (view b)) xs)) ≤ 0 → (held (rowOf (view b) (rowAt d (view b)) xs) ≤ 0 → flatMap (λ z. own d b (entryAt b z)) xs ≡ [])
         → own d b y ++ flatMap (λ z. own d b (entryAt b z)) xs ≡ []
     go vacant k next = next k
     go (aFile locked name date start size) k next = absurd (omega arith)
     go (aDirectory name date start size) k next = absurd (omega arith)
 
-empty-owns : (d : ℕ) (b : Bytes) (p : ℕ) → held (rowAt d b p) ≤ 0 → owned d b p ≡ []
+empty-owns : (d : ℕ) (b : Bytes) (p : ℕ) → held (rowAt d (view b) p) ≤ 0 → owned d (view b) p ≡ []
 unfolding rowAt reached flatMap
 empty-owns zero b p h = refl
 empty-owns (suc d) b p h = owned-entries d b p ∙ held-nothing d b (entries p) h
 
-entry-pages : (d : ℕ) (b : Bytes) (x : Entry) → held (rowIn (nodeOf b (rowAt d b) x)) ≤ 0 → own d b x ≡ pagesOf b x
+entry-pages : (d : ℕ) (b : Bytes) (x : Entry) → held (rowIn (nodeOf b (rowAt d (view b)) x)) ≤ 0 → own d b x ≡ pagesOf (view b) x
 unfolding own pagesOf nodeOf rowIn
 entry-pages d b vacant h = refl
 entry-pages d b (aFile locked name date start size) h = refl
@@ -56,54 +57,54 @@ entry-pages d b (aDirectory name date start size) h = ap (λ (l : List ℕ). sta
 
 -- ---- vacate
 
-vacate-skip : (b : Bytes) (g : ℕ → Row) (n : Bytes) (x : Entry) → T (not (isNamed n x)) → (rest : Row) → vacate n (entryRow b g x rest) ≡ entryRow b g x (vacate n rest)
+vacate-skip : (b : Bytes) (g : ℕ → Row) (n : Bytes) (x : Entry) → T (not (isNamed n x)) → (rest : Row) → vacate n (entryRow (view b) g x rest) ≡ entryRow (view b) g x (vacate n rest)
 unfolding vacate entryRow isNamed
 vacate-skip b g n vacant h rest = refl
-vacate-skip b g n (aFile locked name date start size) h rest = if-no (same name n) (free rest) (entryRow b g (aFile locked name date start size) (vacate n rest)) h
-vacate-skip b g n (aDirectory name date start size) h rest = if-no (same name n) (free rest) (entryRow b g (aDirectory name date start size) (vacate n rest)) h
+vacate-skip b g n (aFile locked name date start size) h rest = if-no (same name n) (free rest) (entryRow (view b) g (aFile locked name date start size) (vacate n rest)) h
+vacate-skip b g n (aDirectory name date start size) h rest = if-no (same name n) (free rest) (entryRow (view b) g (aDirectory name date start size) (vacate n rest)) h
 
-vacate-work : (b : Bytes) (g : ℕ → Row) (n : Bytes) (x : Entry) → T (isNamed n x) → (rest : Row) → vacate n (entryRow b g x rest) ≡ free rest
+vacate-work : (b : Bytes) (g : ℕ → Row) (n : Bytes) (x : Entry) → T (isNamed n x) → (rest : Row) → vacate n (entryRow (view b) g x rest) ≡ free rest
 unfolding vacate entryRow isNamed
 vacate-work b g n vacant h rest = absurd h
-vacate-work b g n (aFile locked name date start size) h rest = if-yes (same name n) (free rest) (entryRow b g (aFile locked name date start size) (vacate n rest)) h
-vacate-work b g n (aDirectory name date start size) h rest = if-yes (same name n) (free rest) (entryRow b g (aDirectory name date start size) (vacate n rest)) h
+vacate-work b g n (aFile locked name date start size) h rest = if-yes (same name n) (free rest) (entryRow (view b) g (aFile locked name date start size) (vacate n rest)) h
+vacate-work b g n (aDirectory name date start size) h rest = if-yes (same name n) (free rest) (entryRow (view b) g (aDirectory name date start size) (vacate n rest)) h
 
 -- ---- the entry afterwards
 
-vacant-works : (b b′ : Bytes) (e t at : ℕ) (n : Bytes) → entryNamed b t n ≡ some at → entryAt b′ at ≡ vacant → Works b b′ e t at (vacate n) (isNamed n)
+vacant-works : (b b′ : Bytes) (e t at : ℕ) (n : Bytes) → entryNamed (view b) t n ≡ some at → entryAt b′ at ≡ vacant → Works b b′ e t at (vacate n) (isNamed n)
 unfolding entryNamed goodEntry sameName entryRow
 vacant-works b b′ e t at n found v = record {
-  skip = vacate-skip b (rowAt e b) n;
-  work = λ rest. vacate-work b (rowAt e b) n (entryAt b at) (named-found b t n at found .1) rest ∙ ap (λ (x : Entry). entryRow b′ (rowAt e b′) x rest) (sym v);
+  skip = vacate-skip b (rowAt e (view b)) n;
+  work = λ rest. vacate-work b (rowAt e (view b)) n (entryAt b at) (named-found b t n at found .1) rest ∙ ap (λ (x : Entry). entryRow (view b′) (rowAt e (view b′)) x rest) (sym v);
   found = found;
-  good = subst (λ (x : Entry). T (goodEntry b′ x)) (sym v) tt;
-  below = subst (λ (x : Entry). T (inDirectory true (goodDirectory e b′) x)) (sym v) tt;
+  good = subst (λ (x : Entry). T (goodEntry (view b′) x)) (sym v) tt;
+  below = subst (λ (x : Entry). T (inDirectory true (goodDirectory e (view b′)) x)) (sym v) tt;
   name = λ x m ne. subst (λ (y : Entry). T (not (sameName y (entryAt b x)))) (sym v) tt;
 }
 
 -- ---- the call
 
 module _ {b : Bytes} (f : Facts b) {ns : List Name} {n : Name} (tg : Target b ns n)
-    (empty : held (rowIn (nodeOf b (rowAt (tg .above .e) b) (entryAt b (tg .at)))) ≤ 0) where
-  pub removed-bytes : Removed version1 (pageCount b) b (set (foldl (On.released version1) b (pagesAt b (tg .at))) (tg .at) 0) (tg .at) (pagesAt b (tg .at))
+    (empty : held (rowIn (nodeOf b (rowAt (tg .above .e) (view b)) (entryAt b (tg .at)))) ≤ 0) where
+  pub removed-bytes : Removed version1 (pageCount b) b (set (foldl (On.released version1) b (pagesAt (view b) (tg .at))) (tg .at) 0) (tg .at) (pagesAt (view b) (tg .at))
   removed-bytes =
       let e : ℕ = tg .above .e in
       let t : ℕ = tg .above .t in
       let at : ℕ = tg .at in
       let m : Mem at (entries t) = named-found b t (n .bytes) at (tg .found) .0 in
       let s : Slot b t at = slot f ns (suc e) t at (tg .above .leads) m in
-      let o : Owned b (pagesAt b at) = subst (Owned b) (entry-pages e b (entryAt b at) empty) (entry-owned f ns e t at (tg .above .leads) m) in
-      removed-is (lawful f) b at (pagesAt b at) (size f .whole) (omega (arith, s .inside)) (rest-kept f at (omega (arith, s .within .far)))
+      let o : Owned b (pagesAt (view b) at) = subst (Owned b) (entry-pages e b (entryAt b at) empty) (entry-owned f ns e t at (tg .above .leads) m) in
+      removed-is (lawful f) b at (pagesAt (view b) at) (size f .whole) (omega (arith, s .inside)) (rest-kept f at (omega (arith, s .within .far)))
       (λ q k. (o .inside q k .1, o .inside q k .2)) (o .once)
 
-  removed-sound : let b′ = set (foldl (On.released version1) b (pagesAt b (tg .at))) (tg .at) 0 in
-      T (sound b′) × (treeOf b′ ≡ record { pages = pageCount b; root = changeAt ns (vacate (n .bytes)) (rowAt (pageCount b) b 0) })
+  removed-sound : let b′ = set (foldl (On.released version1) b (pagesAt (view b) (tg .at))) (tg .at) 0 in
+      T (sound b′) × (treeOf b′ ≡ record { pages = pageCount b; root = changeAt ns (vacate (n .bytes)) (rowAt (pageCount b) (view b) 0) })
   unfolding own
   removed-sound =
       let e : ℕ = tg .above .e in
       let t : ℕ = tg .above .t in
       let at : ℕ = tg .at in
-      let ps : List ℕ = pagesAt b at in
+      let ps : List ℕ = pagesAt (view b) at in
       let b′ : Bytes = set (foldl (On.released version1) b ps) at 0 in
       let m : Mem at (entries t) = named-found b t (n .bytes) at (tg .found) .0 in
       let mine : own e b (entryAt b at) ≡ ps = entry-pages e b (entryAt b at) empty in
@@ -127,12 +128,12 @@ module _ {b : Bytes} (f : Facts b) {ns : List Name} {n : Name} (tg : Target b ns
       })
 
 pub removed-tree : {b : Bytes} → Facts b → (ns : List Name) (n : Name)
-    → T (not (isMissing (walkTo (below ns n) (rowAt (pageCount b) b 0)))) → T (not (isBlocked (walkTo (below ns n) (rowAt (pageCount b) b 0))))
-    → ((x : Node) → walkTo (below ns n) (rowAt (pageCount b) b 0) ≡ arrived x → held (rowIn x) ≤ 0)
-    → T (sound (removed (below ns n) b)) × (treeOf (removed (below ns n) b) ≡ record { pages = pageCount b; root = changeAt ns (vacate (n .bytes)) (rowAt (pageCount b) b 0) })
+    → T (not (isMissing (walkTo (below ns n) (rowAt (pageCount b) (view b) 0)))) → T (not (isBlocked (walkTo (below ns n) (rowAt (pageCount b) (view b) 0))))
+    → ((x : Node) → walkTo (below ns n) (rowAt (pageCount b) (view b) 0) ≡ arrived x → held (rowIn x) ≤ 0)
+    → T (sound (removed (below ns n) b)) × (treeOf (removed (below ns n) b) ≡ record { pages = pageCount b; root = changeAt ns (vacate (n .bytes)) (rowAt (pageCount b) (view b) 0) })
 unfolding removed
 removed-tree {b} f ns n u v empty =
     let tg = target f u v in
-    subst (λ (at : ℕ). let b′ = set (foldl (On.released version1) b (pagesAt b at)) at 0 in
-    T (sound b′) × (treeOf b′ ≡ record { pages = pageCount b; root = changeAt ns (vacate (n .bytes)) (rowAt (pageCount b) b 0) }))
+    subst (λ (at : ℕ). let b′ = set (foldl (On.released version1) b (pagesAt (view b) at)) at 0 in
+    T (sound b′) × (treeOf b′ ≡ record { pages = pageCount b; root = changeAt ns (vacate (n .bytes)) (rowAt (pageCount b) (view b) 0) }))
     (sym (tg .position)) (removed-sound f tg (empty _ (tg .node)))

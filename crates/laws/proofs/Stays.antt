@@ -24,6 +24,7 @@ use Rattle.volume.proofs.Chains.{chain-length}
 use Rattle.volume.proofs.Stays.{Unmarked, Elsewhere, released-stays}
 use Rattle.model.specs.Layout.{version1, pageCount, pagesFor, validLength, pageBit, zeroBits, link}
 use Rattle.model.specs.Entry.{startAt, sizeAt, entryAt}
+use Rattle.model.specs.Version1.{view}
 use Rattle.model.specs.Sound.{pagesAt}
 use Rattle.model.specs.Path.{pathOf}
 use Rattle.model.specs.Image.{treeOf}
@@ -190,37 +191,37 @@ module _ (b : Bytes) (f : Facts b) (path : Bytes) (from : ℕ) (v : Bytes) (w : 
       zero-out i l = not-mem (i / 256) (ps ++ qs) (λ c. omega (arith, l, write-inside b f (w .ns) (w .n) tg isFile from v begins space (i / 256) c .0))
 
   written-stayed : Stayed b (written (pathOf path) from v b)
-      (byWrite (entryPosition b (pathOf path)) from (length v) (pagesAt b (entryPosition b (pathOf path))) (On.gained version1 (pageCount b) (wanted (write path from v) (treeOf b)) b))
+      (byWrite (entryPosition b (pathOf path)) from (length v) (pagesAt (view b) (entryPosition b (pathOf path))) (On.gained version1 (pageCount b) (wanted (write path from v) (treeOf b)) b))
       (On.gained version1 (pageCount b) (wanted (write path from v) (treeOf b)) b)
   unfolding written wanted
   written-stayed = go (eqb (length v) 0)
     where
       go : (c : Bool) → Stayed b (if c then b else rewritten (entryPosition b (pathOf path)) from v b)
-          (byWrite (entryPosition b (pathOf path)) from (length v) (pagesAt b (entryPosition b (pathOf path)))
+          (byWrite (entryPosition b (pathOf path)) from (length v) (pagesAt (view b) (entryPosition b (pathOf path)))
           (On.gained version1 (pageCount b) (pagesFor (max (size path (treeOf b)) (from + length v)) - pagesFor (size path (treeOf b))) b))
           (On.gained version1 (pageCount b) (pagesFor (max (size path (treeOf b)) (from + length v)) - pagesFor (size path (treeOf b))) b)
       go true = unchanged
       go false =
           let taken : ℕ → List ℕ = λ m. On.gained version1 (pageCount b) (pagesFor (max m (from + length v)) - pagesFor m) b in
           subst (λ (m : ℕ). Stayed b (rewritten (entryPosition b (pathOf path)) from v b)
-          (byWrite (entryPosition b (pathOf path)) from (length v) (pagesAt b (entryPosition b (pathOf path))) (taken m)) (taken m)) (sym (write-size b f path from v w))
-          (subst (λ (x : ℕ). Stayed b (rewritten x from v b) (byWrite x from (length v) (pagesAt b x) qs) qs) (sym (write-position b f path from v w))
+          (byWrite (entryPosition b (pathOf path)) from (length v) (pagesAt (view b) (entryPosition b (pathOf path))) (taken m)) (taken m)) (sym (write-size b f path from v w))
+          (subst (λ (x : ℕ). Stayed b (rewritten x from v b) (byWrite x from (length v) (pagesAt (view b) x) qs) qs) (sym (write-position b f path from v w))
           (subst (λ (l : List ℕ). Stayed b (rewritten (tg .at) from v b) (byWrite (tg .at) from (length v) l qs) qs) (sym (file-pages b f (w .ns) (w .n) tg isFile)) rewritten-stayed))
 
 -- ---- remove
 
 removed-stayed : {b : Bytes} → Facts b → {path : Bytes} → Removes b path
-    → Stayed b (removed (pathOf path) b) (byRemoval (entryPosition b (pathOf path)) (pagesAt b (entryPosition b (pathOf path)))) (pagesAt b (entryPosition b (pathOf path)))
+    → Stayed b (removed (pathOf path) b) (byRemoval (entryPosition b (pathOf path)) (pagesAt (view b) (entryPosition b (pathOf path)))) (pagesAt (view b) (entryPosition b (pathOf path)))
 unfolding removed byRemoval
 removed-stayed {b} f {path} r =
     let tg : Target b (r .ns) (r .n) = target f (r .reached) (r .entered) in
     let position : entryPosition b (pathOf path) ≡ tg .at = ap (entryPosition b) (r .is) ∙ tg .position in
     let at : ℕ = tg .at in
-    let ps : List ℕ = pagesAt b at in
+    let ps : List ℕ = pagesAt (view b) at in
     let b₁ : Bytes = foldl (On.released version1) b ps in
     let x = removed-bytes f tg (r .empty _ (tg .node)) in
     let far = entry-within (tg .above .t) at (named-found b (tg .above .t) (r .n .bytes) at (tg .found) .0) .far in
-    subst (λ (y : ℕ). Stayed b (set (foldl (On.released version1) b (pagesAt b y)) y 0) (countFrom y 1 ++ account (pagesAt b y)) (pagesAt b y)) (sym position)
+    subst (λ (y : ℕ). Stayed b (set (foldl (On.released version1) b (pagesAt (view b) y)) y 0) (countFrom y 1 ++ account (pagesAt (view b) y)) (pagesAt (view b) y)) (sym position)
     (record {
       bytes = λ i o.
           let both = occ-append i (countFrom at 1) (account ps) in

@@ -14,6 +14,7 @@ use Rattle.volume.specs.Bytes.{Bytes, byteAt, bit, if_then_else_}
 use Rattle.volume.specs.Lists.{first}
 use Rattle.volume.proofs.Occ.{Mem, mem-head, mem-tail, hit-cases}
 use Rattle.model.specs.Entry.{entries, isLocked, nameAt, startAt, sizeAt, dateAt, Entry, vacant, aFile, aDirectory, entryAt}
+use Rattle.model.specs.Version1.{view}
 use Rattle.model.specs.Sound.{isNamed}
 use Rattle.model.specs.Path.{Name, Path, below}
 use Rattle.model.specs.Walk.{Walked, entryNamed, enterOn, walkOn, arrivedOr, entryPosition}
@@ -70,35 +71,35 @@ module _ (b : Bytes) (f : Facts b) (ns : List Name) (n : Name) (tg : Target b ns
         ap P (entry-same b b′ x (L.long b f ns n tg isFile k) (λ i l u. L.lock-rest b f ns n tg isFile k i (λ q. ne .0 (omega (arith, here, there, q)))))
   ]
 
-  named-same : (p : ℕ) (w : Bytes) → entryNamed b′ p w ≡ entryNamed b p w
+  named-same : (p : ℕ) (w : Bytes) → entryNamed (view b′) p w ≡ entryNamed (view b) p w
   unfolding entryNamed isNamed
   named-same p w =
       first-same (λ x. isNamed w (entryAt b′ x)) (λ x. isNamed w (entryAt b x)) (entries p) (λ x m. entry-alike (isNamed w) (λ l m n d s z. refl) p x m)
 
-  walk-same : (ms : List Name) (p : ℕ) → walkOn b′ ms p ≡ walkOn b ms p
+  walk-same : (ms : List Name) (p : ℕ) → walkOn (view b′) ms p ≡ walkOn (view b) ms p
   unfolding walkOn enterOn
   walk-same [] p = refl
   walk-same (m ∷ ms) p =
-      ap (λ (o : Option ℕ). enterOn m (Option·map (entryAt b′) o) (walkOn b′ ms)) (named-same p (m .bytes)) ∙ go (entryNamed b p (m .bytes)) refl (walk-same ms)
+      ap (λ (o : Option ℕ). enterOn m (Option·map (entryAt b′) o) (walkOn (view b′) ms)) (named-same p (m .bytes)) ∙ go (entryNamed (view b) p (m .bytes)) refl (walk-same ms)
     where
-      step : (y : Entry) → ((s : ℕ) → walkOn b′ ms s ≡ walkOn b ms s) → enterOn m (some y) (walkOn b′ ms) ≡ enterOn m (some y) (walkOn b ms)
+      step : (y : Entry) → ((s : ℕ) → walkOn (view b′) ms s ≡ walkOn (view b) ms s) → enterOn m (some y) (walkOn (view b′) ms) ≡ enterOn m (some y) (walkOn (view b) ms)
       step vacant next = refl
       step (aFile locked name date start size) next = refl
       step (aDirectory name date start size) next = next start
 
-      go : (o : Option ℕ) → entryNamed b p (m .bytes) ≡ o → ((s : ℕ) → walkOn b′ ms s ≡ walkOn b ms s)
-          → enterOn m (Option·map (entryAt b′) o) (walkOn b′ ms) ≡ enterOn m (Option·map (entryAt b) o) (walkOn b ms)
+      go : (o : Option ℕ) → entryNamed (view b) p (m .bytes) ≡ o → ((s : ℕ) → walkOn (view b′) ms s ≡ walkOn (view b) ms s)
+          → enterOn m (Option·map (entryAt b′) o) (walkOn (view b′) ms) ≡ enterOn m (Option·map (entryAt b) o) (walkOn (view b) ms)
       go none e next = refl
       go (some x) e next =
-          entry-alike (λ (y : Entry). enterOn m (some y) (walkOn b′ ms)) (λ l m n d s z. refl) p x (named-found b p (m .bytes) x e .0) ∙ step (entryAt b x) next
+          entry-alike (λ (y : Entry). enterOn m (some y) (walkOn (view b′) ms)) (λ l m n d s z. refl) p x (named-found b p (m .bytes) x e .0) ∙ step (entryAt b x) next
 
   pub locked-twice : relocked (below ns n) k b′ ≡ b′
   unfolding relocked
   locked-twice =
       let x : ℕ = withLock k (byteAt b at) in
       let there : entryPosition b′ (below ns n) ≡ at =
-      ap (λ (w : Walked ℕ). Option·getD (entryNamed b′ (arrivedOr 0 w) (n .bytes)) 0) (walk-same ns 0)
-      ∙ ap (λ (o : Option ℕ). Option·getD o 0) (named-same (arrivedOr 0 (walkOn b ns 0)) (n .bytes))
+      ap (λ (w : Walked ℕ). Option·getD (entryNamed (view b′) (arrivedOr 0 w) (n .bytes)) 0) (walk-same ns 0)
+      ∙ ap (λ (o : Option ℕ). Option·getD o 0) (named-same (arrivedOr 0 (walkOn (view b) ns 0)) (n .bytes))
       ∙ tg .position in
       ap (λ (i : ℕ). set b′ i (withLock k (byteAt b′ i))) there
       ∙ ap (λ (y : ℕ). set b′ at (withLock k y)) (L.lock-flags b f ns n tg isFile k)

@@ -25,6 +25,7 @@ use Rattle.volume.proofs.Stays.{Elsewhere, written-stays}
 use Rattle.model.specs.Layout.{version1, pageCount, pagesFor, zeroBits, link}
 use Rattle.model.specs.Name.{legalName}
 use Rattle.model.specs.Entry.{entries, occupied, isDirectory, isLocked, nameAt, startAt, sizeAt, dateAt, Entry, vacant, aFile, aDirectory, entryAt}
+use Rattle.model.specs.Version1.{view}
 use Rattle.model.specs.Sound.{pagesOf, pagesAt, goodEntry, isNamed, sameName, inDirectory, goodDirectory, sound}
 use Rattle.model.specs.Tree.{Row, file, Node, rewrite}
 use Rattle.model.specs.Path.{Name, below}
@@ -72,18 +73,18 @@ node-file b g n (aDirectory name date start size) h k = k
 
 -- ---- rewrite
 
-rewrite-skip : (b : Bytes) (g : ℕ → Row) (n w : Bytes) (x : Entry) → T (not (isNamed n x)) → (rest : Row) → rewrite n w (entryRow b g x rest) ≡ entryRow b g x (rewrite n w rest)
+rewrite-skip : (b : Bytes) (g : ℕ → Row) (n w : Bytes) (x : Entry) → T (not (isNamed n x)) → (rest : Row) → rewrite n w (entryRow (view b) g x rest) ≡ entryRow (view b) g x (rewrite n w rest)
 unfolding rewrite entryRow isNamed
 rewrite-skip b g n w vacant h rest = refl
 rewrite-skip b g n w (aFile locked name date start size) h rest =
-    if-no (same name n) (file locked name date w rest) (entryRow b g (aFile locked name date start size) (rewrite n w rest)) h
+    if-no (same name n) (file locked name date w rest) (entryRow (view b) g (aFile locked name date start size) (rewrite n w rest)) h
 rewrite-skip b g n w (aDirectory name date start size) h rest = refl
 
 rewrite-work : (b : Bytes) (g : ℕ → Row) (n w : Bytes) (locked : Bool) (name date : Bytes) (start size : ℕ) → T (isNamed n (aFile locked name date start size)) → (rest : Row)
-    → rewrite n w (entryRow b g (aFile locked name date start size) rest) ≡ file locked name date w rest
+    → rewrite n w (entryRow (view b) g (aFile locked name date start size) rest) ≡ file locked name date w rest
 unfolding rewrite entryRow isNamed
 rewrite-work b g n w locked name date start size h rest =
-    if-yes (same name n) (file locked name date w rest) (entryRow b g (aFile locked name date start size) (rewrite n w rest)) h
+    if-yes (same name n) (file locked name date w rest) (entryRow (view b) g (aFile locked name date start size) (rewrite n w rest)) h
 
 -- the sizes of a file that grows
 pages-rise : (s₀ s : ℕ) → s₀ ≤ s → pagesFor s₀ + (pagesFor s - pagesFor s₀) ≡ pagesFor s
@@ -110,7 +111,7 @@ module _ (b : Bytes) (f : Facts b) (ns : List Name) (n : Name) (tg : Target b ns
   ps = chain (link b) (pagesFor s₀) (startAt b at)
 
   abbrev content : Bytes
-  content = contentOf b s₀ ps
+  content = contentOf (view b) s₀ ps
 
   pub found : Mem at (entries t) × T (isNamed (n .bytes) (entryAt b at))
   found = named-found b t (n .bytes) at (tg .found)
@@ -118,9 +119,9 @@ module _ (b : Bytes) (f : Facts b) (ns : List Name) (n : Name) (tg : Target b ns
   pub is : entryAt b at ≡ aFile (isLocked b at) (nameAt b at) (dateAt b at) (startAt b at) s₀
   is = file-entry b b at isFile refl refl refl
 
-  pub file-pages : pagesAt b at ≡ ps
+  pub file-pages : pagesAt (view b) at ≡ ps
   unfolding pagesOf
-  file-pages = ap (pagesOf b) is
+  file-pages = ap (pagesOf (view b)) is
 
   pub mine : own e b (entryAt b at) ≡ ps
   unfolding own pagesOf
@@ -132,7 +133,7 @@ module _ (b : Bytes) (f : Facts b) (ns : List Name) (n : Name) (tg : Target b ns
   pub file-good : T (legalName (nameAt b at)) × (beyond (link b) (pagesFor s₀) (startAt b at) ≡ 0)
   unfolding goodEntry
   file-good =
-      let r = and-both (legalName (nameAt b at)) (eqb (beyond (link b) (pagesFor s₀) (startAt b at)) 0) (subst (λ (x : Entry). T (goodEntry b x)) is (good .each at (found .0))) in
+      let r = and-both (legalName (nameAt b at)) (eqb (beyond (link b) (pagesFor s₀) (startAt b at)) 0) (subst (λ (x : Entry). T (goodEntry (view b) x)) is (good .each at (found .0))) in
       (r .0, eqb→eq (beyond (link b) (pagesFor s₀) (startAt b at)) 0 (r .1))
 
   pub file-owned : Owned b ps
@@ -157,34 +158,34 @@ module _ (b : Bytes) (f : Facts b) (ns : List Name) (n : Name) (tg : Target b ns
       let h = held f file-slot 18 2 (omega arith) in
       record { inside = h .inside; bytes = λ i l u. (h .bytes i l u .0, h .bytes i l u .1, λ x. omega arith) }
 
-  pub file-content : contentIn (nodeOf b (rowAt e b) (entryAt b at)) ≡ content
+  pub file-content : contentIn (nodeOf b (rowAt e (view b)) (entryAt b at)) ≡ content
   unfolding contentIn nodeOf pagesOf
-  file-content = ap (λ (x : Entry). contentIn (nodeOf b (rowAt e b) x)) is
+  file-content = ap (λ (x : Entry). contentIn (nodeOf b (rowAt e (view b)) x)) is
 
   pub file-size : length content ≡ s₀
   file-size = content-length b (startAt b at) s₀ (λ q m. let r = file-owned .inside q m in omega (arith, r .1, size f .whole))
 
   -- what the entry must be afterwards: a file of the same name and date, with these bytes
   works : (b′ : Bytes) (start s : ℕ) (w : Bytes) → entryAt b′ at ≡ aFile (isLocked b at) (nameAt b at) (dateAt b at) start s
-      → contentOf b′ s (chain (link b′) (pagesFor s) start) ≡ w → beyond (link b′) (pagesFor s) start ≡ 0
+      → contentOf (view b′) s (chain (link b′) (pagesFor s) start) ≡ w → beyond (link b′) (pagesFor s) start ≡ 0
       → Works b b′ e t at (rewrite (n .bytes) w) (isNamed (n .bytes))
   unfolding entryNamed goodEntry sameName entryRow pagesOf
   works b′ start s w is′ c ends = record {
-    skip = rewrite-skip b (rowAt e b) (n .bytes) w;
+    skip = rewrite-skip b (rowAt e (view b)) (n .bytes) w;
     work = λ rest.
-        ap (λ (x : Entry). rewrite (n .bytes) w (entryRow b (rowAt e b) x rest)) is
-        ∙ rewrite-work b (rowAt e b) (n .bytes) w (isLocked b at) (nameAt b at) (dateAt b at) (startAt b at) s₀ (subst (λ (x : Entry). T (isNamed (n .bytes) x)) is (found .1)) rest
+        ap (λ (x : Entry). rewrite (n .bytes) w (entryRow (view b) (rowAt e (view b)) x rest)) is
+        ∙ rewrite-work b (rowAt e (view b)) (n .bytes) w (isLocked b at) (nameAt b at) (dateAt b at) (startAt b at) s₀ (subst (λ (x : Entry). T (isNamed (n .bytes) x)) is (found .1)) rest
         ∙ ap {B = Row} (λ v. file (isLocked b at) (nameAt b at) (dateAt b at) v rest) (sym c)
-        ∙ ap (λ (x : Entry). entryRow b′ (rowAt e b′) x rest) (sym is′);
+        ∙ ap (λ (x : Entry). entryRow (view b′) (rowAt e (view b′)) x rest) (sym is′);
     found = tg .found;
-    good = subst (λ (x : Entry). T (goodEntry b′ x)) (sym is′) (both-and (legalName (nameAt b at)) (eqb (beyond (link b′) (pagesFor s) start) 0) (file-good .0) (eq-eqb ends));
-    below = subst (λ (x : Entry). T (inDirectory true (goodDirectory e b′) x)) (sym is′) tt;
+    good = subst (λ (x : Entry). T (goodEntry (view b′) x)) (sym is′) (both-and (legalName (nameAt b at)) (eqb (beyond (link b′) (pagesFor s) start) 0) (file-good .0) (eq-eqb ends));
+    below = subst (λ (x : Entry). T (inDirectory true (goodDirectory e (view b′)) x)) (sym is′) tt;
     name = λ x m ne. subst (λ (y : Entry). T (not (sameName y (entryAt b x)))) (sym is′)
         (subst (λ (y : Entry). T (not (sameName y (entryAt b x)))) is (good .apart at x (found .0) m (λ q. ne (sym q))));
   }
 
   -- a write of no bytes
-  unchanged : T (sound b) × (treeOf b ≡ record { pages = pageCount b; root = changeAt ns (rewrite (n .bytes) content) (rowAt (pageCount b) b 0) })
+  unchanged : T (sound b) × (treeOf b ≡ record { pages = pageCount b; root = changeAt ns (rewrite (n .bytes) content) (rowAt (pageCount b) (view b) 0) })
   unchanged =
       changed b f ns e t at [] (tg .above .leads) (found .0)
       (record { len = refl; head = λ i l. refl; rest = λ i l u z. refl }) (λ q k. absurd (omega arith))
@@ -261,7 +262,7 @@ module _ (b : Bytes) (f : Facts b) (ns : List Name) (n : Name) (tg : Target b ns
     zero-out : occ 0 (ps ++ qs) ≡ 0
     zero-out = not-mem 0 (ps ++ qs) (λ c. omega (arith, write-inside 0 c .0))
 
-    pub rewritten-sound : T (sound b′) × (treeOf b′ ≡ record { pages = pageCount b; root = changeAt ns (rewrite (n .bytes) (put from v content)) (rowAt (pageCount b) b 0) })
+    pub rewritten-sound : T (sound b′) × (treeOf b′ ≡ record { pages = pageCount b; root = changeAt ns (rewrite (n .bytes) (put from v content)) (rowAt (pageCount b) (view b) 0) })
     unfolding contentOf
     rewritten-sound =
         let w = write-bytes in
@@ -281,7 +282,7 @@ module _ (b : Bytes) (f : Facts b) (ns : List Name) (n : Name) (tg : Target b ns
         ))
         (rewrite (n .bytes) (put from v content)) (isNamed (n .bytes)) (tg .above .good)
         (works b′ (startAt b′ at) s (put from v content) is′
-        (ap (λ (l : List ℕ). take s (flatMap (contentOn b′) l)) pages′ ∙ w .content)
+        (ap (λ (l : List ℕ). take s (flatMap (contentOn (view b′)) l)) pages′ ∙ w .content)
         (ap (λ (m : ℕ). beyond (link b′) m (startAt b′ at)) (sym many) ∙ w .ends))
         (record {
           bits = λ q l. omega (arith, ap (occ q) mine, ap (occ q) mine′, occ-append q ps qs, w .bits q l);
@@ -302,22 +303,22 @@ put-none from [] c e = splice-nil c from
 put-none from (x ∷ v) c e = absurd (omega arith)
 
 pub written-tree : {b : Bytes} → Facts b → (ns : List Name) (n : Name) (from : ℕ) (v : Bytes)
-    → T (not (isMissing (walkTo (below ns n) (rowAt (pageCount b) b 0)))) → T (not (isBlocked (walkTo (below ns n) (rowAt (pageCount b) b 0))))
-    → (x : Node) → walkTo (below ns n) (rowAt (pageCount b) b 0) ≡ arrived x → T (not (isDirectoryNode x))
+    → T (not (isMissing (walkTo (below ns n) (rowAt (pageCount b) (view b) 0)))) → T (not (isBlocked (walkTo (below ns n) (rowAt (pageCount b) (view b) 0))))
+    → (x : Node) → walkTo (below ns n) (rowAt (pageCount b) (view b) 0) ≡ arrived x → T (not (isDirectoryNode x))
     → from ≤ length (contentIn x) → pagesFor (max (length (contentIn x)) (from + length v)) - pagesFor (length (contentIn x)) ≤ zeroBits b (pageCount b)
     → T (sound (written (below ns n) from v b))
-    × (treeOf (written (below ns n) from v b) ≡ record { pages = pageCount b; root = changeAt ns (rewrite (n .bytes) (put from v (contentIn x))) (rowAt (pageCount b) b 0) })
+    × (treeOf (written (below ns n) from v b) ≡ record { pages = pageCount b; root = changeAt ns (rewrite (n .bytes) (put from v (contentIn x))) (rowAt (pageCount b) (view b) 0) })
 unfolding written
 written-tree {b} f ns n from v u w x q nd hf space = go (eqb (length v) 0) (eqb→eq (length v) 0)
   where
     tg : Target b ns n
     tg = target f u w
 
-    node : x ≡ nodeOf b (rowAt (tg .above .e) b) (entryAt b (tg .at))
+    node : x ≡ nodeOf b (rowAt (tg .above .e) (view b)) (entryAt b (tg .at))
     node = cc (q, tg .node)
 
     isFile : T (isFileEntry (entryAt b (tg .at)))
-    isFile = node-file b (rowAt (tg .above .e) b) (n .bytes) (entryAt b (tg .at)) (named-found b (tg .above .t) (n .bytes) (tg .at) (tg .found) .1) (subst (λ (y : Node). T (not (isDirectoryNode y))) node nd)
+    isFile = node-file b (rowAt (tg .above .e) (view b)) (n .bytes) (entryAt b (tg .at)) (named-found b (tg .above .t) (n .bytes) (tg .at) (tg .found) .1) (subst (λ (y : Node). T (not (isDirectoryNode y))) node nd)
 
     same-content : content b f ns n tg isFile ≡ contentIn x
     same-content = sym (ap contentIn node ∙ file-content b f ns n tg isFile)
@@ -326,7 +327,7 @@ written-tree {b} f ns n from v u w x q nd hf space = go (eqb (length v) 0) (eqb�
     same-size = ap length (sym same-content) ∙ file-size b f ns n tg isFile
 
     Says : Bytes → Bytes → Type 0
-    Says b′ c = T (sound b′) × (treeOf b′ ≡ record { pages = pageCount b; root = changeAt ns (rewrite (n .bytes) c) (rowAt (pageCount b) b 0) })
+    Says b′ c = T (sound b′) × (treeOf b′ ≡ record { pages = pageCount b; root = changeAt ns (rewrite (n .bytes) c) (rowAt (pageCount b) (view b) 0) })
 
     full : Says (rewritten (tg .at) from v b) (put from v (contentIn x))
     full =

@@ -7,6 +7,7 @@ use mathlib.Core.List.{[], _++_}
 use lib.Dec.{T}
 use Rattle.volume.specs.Bytes.{Bytes}
 use Rattle.model.specs.Layout.{pageCount}
+use Rattle.model.specs.Version1.{view}
 use Rattle.model.specs.Sound.{owned, sound}
 use Rattle.model.specs.Tree.{freeNumber}
 use Rattle.model.specs.Image.{treeOf}
@@ -59,7 +60,7 @@ refused-listing b f e = ap (λ (a : Answer Verdict). listingOf a (treeOf b)) e
 -- ---- a sound image
 
 module _ (b : Bytes) (pages free : ℕ) (good : T (sound b)) (same : pages ≡ pageCount b) where
-  pub root-readable : (0 < pageCount b) × Readable b (owned pages b 0) × (0 + 17 * pages ≤ 4352)
+  pub root-readable : (0 < pageCount b) × Readable b (owned pages (view b) 0) × (0 + 17 * pages ≤ 4352)
   root-readable =
       let f = sound-facts good in
       let s = valid-sized b (f .fits) in

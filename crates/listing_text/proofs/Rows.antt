@@ -17,6 +17,7 @@ use Rattle.volume.proofs.Occ.{Mem, mem-head, mem-tail}
 use Rattle.model.specs.Layout.{pageCount, pagesFor, link}
 use Rattle.model.specs.Entry as Model
 use Rattle.model.specs.Entry.{entryCount, entriesStart, entries, isLocked, nameAt, dateAt, entryAt, vacant, aFile, aDirectory}
+use Rattle.model.specs.Version1.{view}
 use Rattle.model.specs.Sound.{pagesOf, owned}
 use Rattle.model.specs.Tree.{Row, end}
 use Rattle.model.specs.Image.{entryRow, rowOf, rowAt}
@@ -40,10 +41,10 @@ position p i = entriesStart p + 32 * i
 
 -- the lines of the entries from entry i on
 unfoldable pub linesFrom : (depth : ℕ) → Bytes → (page i : ℕ) → (path : Bytes) → Bytes
-linesFrom d b p i path = rowLines path (rowOf b (rowAt d b) (map (position p) (countFrom i (entryCount p - i))))
+linesFrom d b p i path = rowLines path (rowOf (view b) (rowAt d (view b)) (map (position p) (countFrom i (entryCount p - i))))
 
 lines-apart : (d : ℕ) (b : Bytes) (e : Model.Entry) (rest : Row) (path : Bytes)
-    → rowLines path (entryRow b (rowAt d b) e rest) ≡ rowLines path (entryRow b (rowAt d b) e end) ++ rowLines path rest
+    → rowLines path (entryRow (view b) (rowAt d (view b)) e rest) ≡ rowLines path (entryRow (view b) (rowAt d (view b)) e end) ++ rowLines path rest
 unfolding entryRow rowLines
 lines-apart d b vacant rest path = refl
 lines-apart d b (aFile locked name date start size) rest path = simp append-nil
@@ -64,7 +65,7 @@ module _ (b : Bytes) (p : ℕ) (path : Bytes) where
   unfolding linesFrom entryLines rowOf countFrom
   lines-next d i h =
       let e : entryCount p - i ≡ suc (entryCount p - (i + 1)) = omega arith in
-      rw (e, add-one i) (lines-apart d b (entryAt b (position p i)) (rowOf b (rowAt d b) (map (position p) (countFrom (suc i) (entryCount p - suc i)))) path)
+      rw (e, add-one i) (lines-apart d b (entryAt b (position p i)) (rowOf (view b) (rowAt d (view b)) (map (position p) (countFrom (suc i) (entryCount p - suc i)))) path)
 
   pub lines-last : (d n i : ℕ) → n ≡ entryCount p → n ≤ i → linesFrom d b p i path ≡ []
   unfolding linesFrom rowOf countFrom rowLines
@@ -108,7 +109,7 @@ position-in s i (suc n) j l u = elim (decLe j i) [
   | no h ↦ mem-tail (s + 32 * j) (s + 32 * i) (map (λ k. s + 32 * k) (countFrom (suc i) n)) (position-in s (suc i) n j (omega arith) (omega arith))
 ]
 
-pub entry-readable : (b : Bytes) (p depth i at n : ℕ) → depth ≢ 0 → n ≡ entryCount p → i < n → at ≡ position p i → Readable b (owned depth b p)
+pub entry-readable : (b : Bytes) (p depth i at n : ℕ) → depth ≢ 0 → n ≡ entryCount p → i < n → at ≡ position p i → Readable b (owned depth (view b) p)
     → Readable b (own (depth - 1) b (entryAt b at))
 unfolding entries
 entry-readable b p zero i at n ne k h e r = absurd (ne refl)
@@ -157,15 +158,15 @@ module _ (d : ℕ) (b : Bytes) (at : ℕ) {r : Entry} (read : entryOf r (isLocke
         (poured-next (line (text "D") 256 (take end path′)) (directoryLines d b (start .0) (take end path′)) w l m)
 
   module _ {start : Page} {size : ℕ} (e : r ≡ Directory start size) (k : Readable b (own d b (entryAt b at))) where
-    below : Readable b (start .0 ∷ owned d b (start .0))
+    below : Readable b (start .0 ∷ owned d (view b) (start .0))
     unfolding own
     below = subst (λ (x : Model.Entry). Readable b (own d b x)) (sym (seen e)) k
 
     pub below-inside : start .0 < pageCount b
-    below-inside = omega (arith, below .inside (start .0) (mem-head (start .0) (owned d b (start .0))))
+    below-inside = omega (arith, below .inside (start .0) (mem-head (start .0) (owned d (view b) (start .0))))
 
-    pub below-readable : Readable b (owned d b (start .0))
-    below-readable = record { inside = λ q m. below .inside q (mem-tail q (start .0) (owned d b (start .0)) m) }
+    pub below-readable : Readable b (owned d (view b) (start .0))
+    below-readable = record { inside = λ q m. below .inside q (mem-tail q (start .0) (owned d (view b) (start .0)) m) }
 
 -- the path of the directory stays when what is behind it was written
 pub front-kept : {b : Bytes} {at : ℕ} {path path′ : Bytes} (path″ : Bytes) {len end : ℕ} → Extended b at path path′ len end → take end path″ ≡ take end path′

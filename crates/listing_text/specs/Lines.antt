@@ -6,6 +6,7 @@ use lib.ListN.{take}
 use Rattle.volume.specs.Bytes.{Bytes}
 use Rattle.model.specs.Entry.{nameAt, entryAt}
 use Rattle.model.specs.Name.{unpadded}
+use Rattle.model.specs.Version1.{view}
 use Rattle.model.specs.Tree.{end}
 use Rattle.model.specs.Image.{entryRow, rowAt}
 use Rattle.model.specs.Text.{text}
@@ -14,10 +15,10 @@ use Rattle.laws.proofs.Counting.{InImage}
 
 -- the lines of the directory on a page, read to a depth, and of the entry at a position with the directories below it read to a depth
 unfoldable pub directoryLines : (depth : ℕ) → Bytes → (page : ℕ) → (path : Bytes) → Bytes
-directoryLines depth b p path = rowLines path (rowAt depth b p)
+directoryLines depth b p path = rowLines path (rowAt depth (view b) p)
 
 unfoldable pub entryLines : (depth : ℕ) → Bytes → (at : ℕ) → (path : Bytes) → Bytes
-entryLines depth b at path = rowLines path (entryRow b (rowAt depth b) (entryAt b at) end)
+entryLines depth b at path = rowLines path (entryRow (view b) (rowAt depth (view b)) (entryAt b at) end)
 
 -- the path of the entry at a position in the directory at this path
 abbrev pub entryPath : Bytes → (at : ℕ) → (path : Bytes) → Bytes

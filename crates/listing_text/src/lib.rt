@@ -13,6 +13,7 @@ ghost use lib.Dec.{T};
 ghost use Rattle.volume.specs.Bytes.{put};
 ghost use Rattle.model.specs.Layout.{pageCount};
 ghost use Rattle.model.specs.Entry.{entryAt};
+ghost use Rattle.model.specs.Version1.{view};
 ghost use Rattle.model.specs.Sound.{owned, sound};
 ghost use Rattle.model.specs.Tree.{freeNumber};
 ghost use Rattle.model.specs.Image.{treeOf};
@@ -151,7 +152,7 @@ fn list_directory(
     out: &mut [u8],
     sink: Sink,
 ) -> Sink
-    requires { ⌜ (directory .0 < pageCount (now image)) × Readable (now image) (owned depth (now image) (directory .0))
+    requires { ⌜ (directory .0 < pageCount (now image)) × Readable (now image) (owned depth (view (now image)) (directory .0))
         × (len + 17 * depth ≤ length (now path)) ⌝ }
     ensures { λ r. ⌜ (window r (now (out .exit)) ≡
         poured (directoryLines depth (now (image .entry)) (directory .0) (take len (now (path .entry)))) (window sink (now (out .entry))))

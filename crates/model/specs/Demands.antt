@@ -21,6 +21,7 @@ use Rattle.model.specs.Image.{contentOf, treeOf}
 use Rattle.model.specs.Walk.{arrived, walkTo, entryPosition, entryNamed}
 use Rattle.model.specs.Call.{Call, format, verdict, setLock, store, Told, bufferBefore, Refusal, refusal, Answer, refused, granted, find, Found}
 use Rattle.model.specs.Name.{legalText, padded}
+use Rattle.model.specs.Version1.{view}
 use Rattle.model.specs.Refusal.{bufferLines, earlier, wanted, Passes}
 use Rattle.model.specs.Meaning.{freshTree, shown, lentShown, treeAnswer, treeBuffer, treeAfter, faultTold, isFormat, answer, after, bufferAfter, numbers}
 use Rattle.model.specs.Touched.{moved, touched}
@@ -76,7 +77,7 @@ pub record ExactNames : Type 0 where
   pub padding : (v w : Bytes) → T (legalText v) → T (legalText w) → padded v ≡ padded w → v ≡ w
   -- what is found for a name has this name, in the tree and in the bytes
   pub inTree : (n : Bytes) (r : Row) (x : Node) → lookup n r ≡ some x → HeldAs n x r
-  pub inBytes : (b : Bytes) (page : ℕ) (n : Bytes) (at : ℕ) → entryNamed b page n ≡ some at → T (occupied b at) × (nameAt b at ≡ n)
+  pub inBytes : (b : Bytes) (page : ℕ) (n : Bytes) (at : ℕ) → entryNamed (view b) page n ≡ some at → T (occupied b at) × (nameAt b at ≡ n)
   -- two paths that are found and lead to one entry are the same bytes (the root has no entry; its position is 0, where none stands)
   pub paths : (b : Bytes) → T (sound b) → (p q : Bytes) (x y : Found) → answer (find p) b ≡ granted x → answer (find q) b ≡ granted y
       → entryPosition b (pathOf p) ≡ entryPosition b (pathOf q) → p ≡ q
@@ -183,7 +184,7 @@ pub record WholeFile (b : Bytes) (at : ℕ) (locked : Bool) (date content : Byte
   pub size : ℕ
   pub is : entryAt b at ≡ aFile locked name date start size
   pub unbroken : Unbroken b start size
-  pub holds : contentOf b size (chain (link b) (pagesFor size) start) ≡ content
+  pub holds : contentOf (view b) size (chain (link b) (pagesFor size) start) ≡ content
 
 -- the entry at a position is a directory, on a page of the image that is not the header
 pub record WholeDirectory (b : Bytes) (at : ℕ) (date : Bytes) : Type 0 where

@@ -11,6 +11,7 @@ use Rattle.volume.specs.Field.{byte}
 use Rattle.volume.specs.Geometry as On
 use Rattle.model.specs.Layout.{version1, pageCount, pagesFor}
 use Rattle.model.specs.Entry.{entries, Entry, vacant, aFile, aDirectory, entryAt, sizeAt, newEntry}
+use Rattle.model.specs.Version1.{view}
 use Rattle.model.specs.Sound.{pagesAt}
 use Rattle.model.specs.Path.{Path, lastName}
 use Rattle.model.specs.Walk.{parentPage, entryPosition}
@@ -44,7 +45,7 @@ directoryMade path date b = made 0x81 0x0100 1 path date b
 -- v put at place `from` of the content of the file at position `at`, which keeps its pages, gains those wanted and has the larger size
 unfoldable pub rewritten : (at from : ℕ) (v : Bytes) → Bytes → Bytes
 rewritten at from v b =
-    let ps = pagesAt b at in
+    let ps = pagesAt (view b) at in
     let size = max (sizeAt b at) (from + length v) in
     On.written version1 (pageCount b) (byte (at + 17)) ps (pagesFor size - length ps) (at + 18) (le16 size) from v b
 
@@ -63,4 +64,4 @@ relocked path locked b = let at = entryPosition b path in set b at (withLock loc
 unfoldable pub removed : Path → Bytes → Bytes
 removed path b =
     let at = entryPosition b path in
-    set (foldl (On.released version1) b (pagesAt b at)) at 0
+    set (foldl (On.released version1) b (pagesAt (view b) at)) at 0

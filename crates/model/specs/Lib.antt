@@ -1,5 +1,7 @@
 -- The specification: what a reader must believe, in the order of document 01, with the requests of paper 02 that are named where they count.
 -- It rests on the crate `volume`, which says how pages are taken, linked and given back in any image; `Layout` says where version 1 keeps them.
+-- An image is read once, into a `View`. What is said of entries, directories and walks is said of a view v; what is said of a whole image, of its
+-- bytes b, whose view is `view b`.
 --
 -- Words. The paper's word stands left where ours is another one.
 --   record            file: an entry with a name, a date and a byte string
@@ -20,6 +22,8 @@ pub mod Layout
 pub mod Name
 pub mod Date
 pub mod Entry
+pub mod View
+pub mod Version1
 pub mod Sound
 pub mod Judge
 pub mod Tree

@@ -7,6 +7,7 @@ use lib.ListN.{length, getD}
 use lib.Dec.{eqb}
 use Rattle.volume.specs.Bytes.{Bytes, part, if_then_else_}
 use Rattle.model.specs.Layout.{pageSize, pagesFor}
+use Rattle.model.specs.Version1.{view}
 use Rattle.model.specs.Sound.{pagesAt}
 use Rattle.model.specs.Path.{Name, Path, parents}
 use Rattle.model.specs.Walk.{parentPage}
@@ -32,7 +33,7 @@ lastPages parent = if eqb parent 0 then 0 ∷ [] else 0 ∷ parent ∷ []
 -- the pages in order: the new file's along its chain, whose entry a make puts in the parent's lowest vacant one, then the last ones
 unfoldable pub storePages : Path → (date content : Bytes) → Bytes → List ℕ
 storePages path date v b =
-    pagesAt (stored path date v b) (lowestVacant b (parentPage b path)) ++ lastPages (parentPage b path)
+    pagesAt (view (stored path date v b)) (lowestVacant b (parentPage b path)) ++ lastPages (parentPage b path)
 
 unfoldable pub stores : Path → (date content : Bytes) → Bytes → List Store
 stores path date v b = map (storeOf (stored path date v b)) (storePages path date v b)

@@ -8,6 +8,7 @@ use Rattle.volume.specs.Lists.{countFrom, upTo, lastOr}
 use Rattle.volume.specs.Chain.{along}
 use Rattle.volume.specs.Geometry as On
 use Rattle.model.specs.Layout.{pageSize, room, version1, pageCount}
+use Rattle.model.specs.Version1.{view}
 use Rattle.model.specs.Sound.{pagesAt}
 use Rattle.model.specs.Path.{pathOf}
 use Rattle.model.specs.Image.{treeOf}
@@ -32,8 +33,8 @@ moved (read path position buffer) b = []
 moved (makeFile path date) b = taken (makeFile path date) b
 moved (makeDirectory path date) b = taken (makeDirectory path date) b
 moved (write path position bytes) b = taken (write path position bytes) b
-moved (removeFile path) b = pagesAt b (entryPosition b (pathOf path))
-moved (removeDirectory path) b = pagesAt b (entryPosition b (pathOf path))
+moved (removeFile path) b = pagesAt (view b) (entryPosition b (pathOf path))
+moved (removeDirectory path) b = pagesAt (view b) (entryPosition b (pathOf path))
 moved (setLock locked path) b = []
 moved (store path date content number buffer) b = []
 
@@ -78,7 +79,7 @@ touched (makeDirectory path date) b = byMake (lowestVacant b (parentPage b (path
 touched (write path position []) b = []
 touched (write path position (x ∷ v)) b =
     let at = entryPosition b (pathOf path) in
-    byWrite at position (length (x ∷ v)) (pagesAt b at) (moved (write path position (x ∷ v)) b)
+    byWrite at position (length (x ∷ v)) (pagesAt (view b) at) (moved (write path position (x ∷ v)) b)
 touched (removeFile path) b = byRemoval (entryPosition b (pathOf path)) (moved (removeFile path) b)
 touched (removeDirectory path) b = byRemoval (entryPosition b (pathOf path)) (moved (removeDirectory path) b)
 touched (setLock locked path) b = countFrom (entryPosition b (pathOf path)) 1

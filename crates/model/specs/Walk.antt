@@ -1,12 +1,15 @@
 -- Document 01, "The plain tree": the path is walked with a state that takes one name and yields the next place. The walk on the tree, and
--- the walk on the bytes, which says where make, write and remove work. Law `walk-bytes`: they lead to the same place or stop at the same name.
+-- the walk on the bytes, by a view v (in version 1 `view b`), which says where make, write and remove work. Law `walk-bytes`: they lead to the same
+-- place or stop at the same name.
 use Prim.Native.Nat.{ℕ}
 use mathlib.Core.Option.{Option, none, some, Option·getD, Option·map}
 use mathlib.Core.List.{List, [], _∷_}
 use lib.ListN.{replicate}
 use Rattle.volume.specs.Bytes.{Bytes}
 use Rattle.volume.specs.Lists.{first}
-use Rattle.model.specs.Entry.{entries, Entry, vacant, aFile, aDirectory, entryAt}
+use Rattle.model.specs.Entry.{Entry, vacant, aFile, aDirectory}
+use Rattle.model.specs.View.{View}
+use Rattle.model.specs.Version1.{view}
 use Rattle.model.specs.Sound.{isNamed}
 use Rattle.model.specs.Tree.{Row, Node, fileNode, directoryNode, lookup, inside}
 use Rattle.model.specs.Path.{Name, Path, noPath, root, below, parents, lastName}
@@ -53,9 +56,9 @@ changeAt (n ∷ ns) f r = inside (n .bytes) (changeAt ns f) r
 
 -- ---- on the bytes
 
--- the position of the entry of that name in the directory on page p
-unfoldable pub entryNamed : Bytes → (page : ℕ) → Bytes → Option ℕ
-entryNamed b p n = first (λ at. isNamed n (entryAt b at)) (entries p)
+-- the position of the entry of that name in the directory p
+unfoldable pub entryNamed : View → (directory : ℕ) → Bytes → Option ℕ
+entryNamed v p n = first (λ at. isNamed n (v .entryAt at)) (v .entries p)
 
 unfoldable pub enterOn : Name → Option Entry → (ℕ → Walked ℕ) → Walked ℕ
 enterOn n none on = missing (n .begins)
@@ -63,10 +66,10 @@ enterOn n (some vacant) on = missing (n .begins)
 enterOn n (some (aFile locked name date start size)) on = blocked (n .begins)
 enterOn n (some (aDirectory name date start size)) on = on start
 
--- the page of the directory that the names lead to from the one on page p
-unfoldable pub walkOn : Bytes → List Name → (page : ℕ) → Walked ℕ
-walkOn b [] p = arrived p
-walkOn b (n ∷ ns) p = enterOn n (Option·map (entryAt b) (entryNamed b p (n .bytes))) (walkOn b ns)
+-- the directory that the names lead to from the directory p
+unfoldable pub walkOn : View → List Name → (directory : ℕ) → Walked ℕ
+walkOn v [] p = arrived p
+walkOn v (n ∷ ns) p = enterOn n (Option·map (v .entryAt) (entryNamed v p (n .bytes))) (walkOn v ns)
 
 -- ---- what a walk arrived at; where it stopped a refusal stands above all that asks
 
@@ -77,7 +80,7 @@ arrivedOr d (blocked i) = d
 
 -- the page of a path's parent directory, and the position of the entry that the path leads to
 abbrev pub parentPage : Bytes → Path → ℕ
-parentPage b p = arrivedOr 0 (walkOn b (parents p) 0)
+parentPage b p = arrivedOr 0 (walkOn (view b) (parents p) 0)
 
 abbrev pub entryPosition : Bytes → Path → ℕ
-entryPosition b p = Option·getD (entryNamed b (parentPage b p) (lastName p)) 0
+entryPosition b p = Option·getD (entryNamed (view b) (parentPage b p) (lastName p)) 0

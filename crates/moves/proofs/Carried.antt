@@ -17,6 +17,7 @@ use Rattle.volume.proofs.Tests.{both-and, occ-countFrom, eq-eqb}
 use Rattle.volume.proofs.Puts.{byte-part}
 use Rattle.model.specs.Layout.{pageCount}
 use Rattle.model.specs.Entry.{occupied, startAt, entryCount, entries, Entry, vacant, aFile, aDirectory, entryAt}
+use Rattle.model.specs.Version1.{view}
 use Rattle.model.specs.Sound.{pagesOf, pagesAt, inDirectory, reachedEntries}
 use Rattle.laws.proofs.Facts.{Facts, Sized, valid-sized}
 use Rattle.moves.specs.Tidy.{placeOf, ownerEntry, movedEntry, movedAs, movedPage, movedBits, movedHeader, moved}
@@ -92,8 +93,8 @@ module _ (b : Bytes) (f : Facts b) (places : List ℕ) (a : Accepted b places) w
       reached-each b (λ x. Mem x (reachedEntries b)) (DirectoryMoved b b′ to) (λ x. entryAt b′ (carriedTo to x) ≡ renamed to (entryAt b x)) here below
       (pageCount b) 0 at (root-moved b f places a) (λ y n. n) m
 
-  pub pages-placed : (at : ℕ) → Mem at (reachedEntries b) → pagesAt b′ (newPosition places at) ≡ map to (pagesAt b at)
-  pages-placed at m = ap (pagesOf b′) (entry-stands at m) ∙ entry-pages b b′ to (entryAt b at) (entry-moved b f places a at m (entryAt b at) refl)
+  pub pages-placed : (at : ℕ) → Mem at (reachedEntries b) → pagesAt (view b′) (newPosition places at) ≡ map to (pagesAt (view b) at)
+  pages-placed at m = ap (pagesOf (view b′)) (entry-stands at m) ∙ entry-pages b b′ to (entryAt b at) (entry-moved b f places a at m (entryAt b at) refl)
 
   -- ---- bytes
 

@@ -17,6 +17,7 @@ use Rattle.volume.proofs.Marks.{bit-low}
 use Rattle.volume.proofs.Flat.{mem-flatMap, occ-flatMap-le}
 use Rattle.model.specs.Layout.{version1, pageCount, pagesFor, link}
 use Rattle.model.specs.Entry.{Entry, vacant, aFile, aDirectory, entryAt}
+use Rattle.model.specs.Version1.{view}
 use Rattle.model.specs.Sound.{pagesOf, pagesAt, reachedEntries, owners, sound}
 use Rattle.model.specs.Demands.{Owned, isFree, isOwned}
 use Rattle.laws.proofs.Facts.{Facts, sound-facts, valid-sized}
@@ -102,32 +103,32 @@ module _ (b : Bytes) (f : Facts b) where
   range-page q l u = omega (arith, nodup-countFrom 1 (pageCount b - 1) q, occ-countFrom 1 (pageCount b - 1) q l (omega arith))
 
   -- the owner of a page, if it has one, has it among its pages
-  pub owner-has : (q x : ℕ) → owners b q ≡ x ∷ [] → Mem x (reachedEntries b) × Mem q (pagesAt b x)
+  pub owner-has : (q x : ℕ) → owners b q ≡ x ∷ [] → Mem x (reachedEntries b) × Mem q (pagesAt (view b) x)
   unfolding owners
   owner-has q x e =
-      let r = keep-mem (λ at. member q (pagesAt b at)) (reachedEntries b) x (subst (Mem x) (sym e) (mem-head x [])) in
-      (r .0, member-occ q (pagesAt b x) (r .1))
+      let r = keep-mem (λ at. member q (pagesAt (view b) at)) (reachedEntries b) x (subst (Mem x) (sym e) (mem-head x [])) in
+      (r .0, member-occ q (pagesAt (view b) x) (r .1))
 
   -- a file of the image: entry e stands at position `at`
   record File (at start : ℕ) (e : Entry) : Type 0 where
     reach : Mem at (reachedEntries b)
     is : entryAt b at ≡ e
-    from : Mem start (pagesOf b e)
-    all : fileFrom b start ≡ pagesOf b e
+    from : Mem start (pagesOf (view b) e)
+    all : fileFrom b start ≡ pagesOf (view b) e
 
   -- the file of an owned page
   file-of : (at : ℕ) (locked : Bool) (name date : Bytes) (start size : ℕ) → Mem at (reachedEntries b) → entryAt b at ≡ aFile locked name date start size → File at start (aFile locked name date start size)
   unfolding fileFrom ownerEntry pagesOf pagesFor
   file-of at locked name date start size m q =
-      let h : Mem start (pagesOf b (aFile locked name date start size)) = chain-head (link b) (pagesFor size) start (omega arith) in
-      let k : Mem start (pagesAt b at) = subst (λ (e : Entry). Mem start (pagesOf b e)) (sym q) h in
+      let h : Mem start (pagesOf (view b) (aFile locked name date start size)) = chain-head (link b) (pagesFor size) start (omega arith) in
+      let k : Mem start (pagesAt (view b) at) = subst (λ (e : Entry). Mem start (pagesOf (view b) e)) (sym q) h in
       let o = owner-is b f at start m k .2 in
       record {
         reach = m;
         is = q;
         from = h;
         all = ap (λ (l : List ℕ). startsOn b start (firstEntry b l)) o ∙ ap (startsOn b start) q
-            ∙ ap (λ (c : Bool). if c then pagesOf b (aFile locked name date start size) else []) (true-of (eqb start start) (let r : start ≡ start = refl in eq-eqb r));
+            ∙ ap (λ (c : Bool). if c then pagesOf (view b) (aFile locked name date start size) else []) (true-of (eqb start start) (let r : start ≡ start = refl in eq-eqb r));
       }
     where
       true-of : (c : Bool) → T c → c ≡ true
@@ -138,7 +139,7 @@ module _ (b : Bytes) (f : Facts b) where
   record From (p q : ℕ) : Type 0 where
     at : ℕ
     reach : Mem at (reachedEntries b)
-    owns : Mem q (pagesAt b at)
+    owns : Mem q (pagesAt (view b) at)
     file : T (isFileEntry (entryAt b at))
     unique : (locked : Bool) (name date : Bytes) (start size : ℕ) → entryAt b at ≡ aFile locked name date start size → start ≡ p
 
@@ -150,11 +151,11 @@ module _ (b : Bytes) (f : Facts b) where
       starts at r vacant e k = absurd (omega arith)
       starts at r (aFile locked name date start size) e k = test (eqb start p) refl k
         where
-          test : (c : Bool) → eqb start p ≡ c → Mem q (if c then pagesOf b (aFile locked name date start size) else []) → From p q
+          test : (c : Bool) → eqb start p ≡ c → Mem q (if c then pagesOf (view b) (aFile locked name date start size) else []) → From p q
           test true t k = record {
             at = at;
             reach = r;
-            owns = subst (λ (x : Entry). Mem q (pagesOf b x)) (sym e) k;
+            owns = subst (λ (x : Entry). Mem q (pagesOf (view b) x)) (sym e) k;
             file = subst (λ (x : Entry). T (isFileEntry x)) (sym e) tt;
             unique = λ k n d s z w.
                 let same : start ≡ s = ap startOf (sym e ∙ w) in
@@ -174,7 +175,7 @@ module _ (b : Bytes) (f : Facts b) where
 
   -- ---- each page once
 
-  owner-same : (x at q : ℕ) → owners b q ≡ x ∷ [] → Mem at (reachedEntries b) → Mem q (pagesAt b at) → at ≡ x
+  owner-same : (x at q : ℕ) → owners b q ≡ x ∷ [] → Mem at (reachedEntries b) → Mem q (pagesAt (view b) at) → at ≡ x
   owner-same x at q e m k =
       let o : at ∷ [] ≡ x ∷ [] = sym (owner-is b f at q m k .2) ∙ e in
       ap (λ (l : List ℕ). getD l 0 0) o
@@ -207,14 +208,14 @@ module _ (b : Bytes) (f : Facts b) where
   owned-once q x l u o (aFile locked name date start size) e =
       let has = owner-has q x o in
       let file = file-of x locked name date start size (has .0) e in
-      let st : Mem start (pagesAt b x) = subst (λ (y : Entry). Mem start (pagesOf b y)) (sym e) (file .from) in
+      let st : Mem start (pagesAt (view b) x) = subst (λ (y : Entry). Mem start (pagesOf (view b) y)) (sym e) (file .from) in
       let so = owner-is b f x start (has .0) st in
       let one = occ-flatMap-one (fileFrom b) pages start q (nodup-countFrom 1 (pageCount b - 1)) (omega (arith, range-page start (so .0) (so .1))) (λ y m ne.
       not-mem q (fileFrom b y) (λ k.
       let r = page-range y m in
       let w = from-file y q (r .0) (r .1) k in
       ne (sym (w .unique locked name date start size (ap (entryAt b) (owner-same x (w .at) q o (w .reach) (w .owns)) ∙ e))))) in
-      let same : fileFrom b start ≡ pagesAt b x = file .all ∙ ap (pagesOf b) (sym e) in
+      let same : fileFrom b start ≡ pagesAt (view b) x = file .all ∙ ap (pagesOf (view b)) (sym e) in
       let none : occ q (keep (isOther b) pages) ≡ 0 = not-mem q (keep (isOther b) pages) (λ m.
       subst (λ (y : Entry). T (not (isFileEntry y))) (ap (firstEntry b) o ∙ e) (keep-mem (isOther b) pages q m .1)) in
       omega (
@@ -224,7 +225,7 @@ module _ (b : Bytes) (f : Facts b) where
         ap (occ q) same,
         none,
         has .1,
-        occ-flatMap-le (pagesAt b) (reachedEntries b) x q (has .0),
+        occ-flatMap-le (pagesAt (view b)) (reachedEntries b) x q (has .0),
         f .exact q l u,
         bit-low version1 b q,
       )
@@ -269,20 +270,20 @@ module _ (b : Bytes) (f : Facts b) where
     | inr k ↦ rest-range q k .1
   ])
 
-  order-together : (at : ℕ) → Mem at (reachedEntries b) → Together (order b) (pagesAt b at)
+  order-together : (at : ℕ) → Mem at (reachedEntries b) → Together (order b) (pagesAt (view b) at)
   unfolding pagesOf order
   order-together at m = go (entryAt b at) refl
     where
-      go : (e : Entry) → entryAt b at ≡ e → Together (order b) (pagesOf b e)
+      go : (e : Entry) → entryAt b at ≡ e → Together (order b) (pagesOf (view b) e)
       go vacant q = record { before = []; behind = order b; whole = refl }
       go (aFile locked name date start size) q =
           let file = file-of at locked name date start size m q in
-          let st : Mem start (pagesAt b at) = subst (λ (y : Entry). Mem start (pagesOf b y)) (sym q) (file .from) in
+          let st : Mem start (pagesAt (view b) at) = subst (λ (y : Entry). Mem start (pagesOf (view b) y)) (sym q) (file .from) in
           let so = owner-is b f at start m st in
-          together-in 0 (flatMap (fileFrom b) pages) (pagesOf b (aFile locked name date start size)) (keep (isOther b) pages)
+          together-in 0 (flatMap (fileFrom b) pages) (pagesOf (view b) (aFile locked name date start size)) (keep (isOther b) pages)
           (subst (Together (flatMap (fileFrom b) pages)) (file .all) (flatMap-together (fileFrom b) pages start (omega (arith, range-page start (so .0) (so .1)))))
       go (aDirectory name date start size) q =
-          let st : Mem start (pagesAt b at) = subst (λ (y : Entry). Mem start (pagesOf b y)) (sym q) (mem-head start []) in
+          let st : Mem start (pagesAt (view b) at) = subst (λ (y : Entry). Mem start (pagesOf (view b) y)) (sym q) (mem-head start []) in
           let so = owner-is b f at start m st in
           mem-together (order b) start (omega (arith, order-once start (so .1)))
 

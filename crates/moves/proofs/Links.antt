@@ -17,6 +17,7 @@ use Rattle.volume.proofs.Chains.{chain-length}
 use Rattle.model.specs.Layout.{pageCount, pagesFor, link}
 use Rattle.model.specs.Name.{legalName}
 use Rattle.model.specs.Entry.{entries, Entry, vacant, aFile, aDirectory, entryAt}
+use Rattle.model.specs.Version1.{view}
 use Rattle.model.specs.Sound.{pagesOf, pagesAt, goodEntry, inDirectory, goodDirectory, reachedBy, reached, reachedEntries, owners}
 use Rattle.model.specs.Demands.{Owned, isFree, isOwned}
 use Rattle.laws.proofs.Facts.{Facts}
@@ -30,25 +31,25 @@ use Rattle.moves.proofs.Near.{Linked, chain-near, near-chain, neighbour
 use Rattle.moves.proofs.Bytewise.{length-map}
 
 -- every entry that is reached from a good directory is good
-deeper : (d : ℕ) (b : Bytes) (at x : ℕ) (e : Entry) → entryAt b at ≡ e → T (goodEntry b e) → T (inDirectory true (goodDirectory d b) e)
-    → ((p x : ℕ) → T (goodDirectory d b p) → Mem x (reached d b p) → T (goodEntry b (entryAt b x))) → Mem x (reachedBy at (reached d b) e) → T (goodEntry b (entryAt b x))
+deeper : (d : ℕ) (b : Bytes) (at x : ℕ) (e : Entry) → entryAt b at ≡ e → T (goodEntry (view b) e) → T (inDirectory true (goodDirectory d (view b)) e)
+    → ((p x : ℕ) → T (goodDirectory d (view b) p) → Mem x (reached d (view b) p) → T (goodEntry (view b) (entryAt b x))) → Mem x (reachedBy at (reached d (view b)) e) → T (goodEntry (view b) (entryAt b x))
 unfolding reachedBy
 deeper d b at x vacant q g h ih m = absurd (omega arith)
 deeper d b at x (aFile locked name date start size) q g h ih m = elim (mem-cons x at [] m) [
-  | inl u ↦ subst (λ (y : Entry). T (goodEntry b y)) (sym (ap (entryAt b) u ∙ q)) g
+  | inl u ↦ subst (λ (y : Entry). T (goodEntry (view b) y)) (sym (ap (entryAt b) u ∙ q)) g
   | inr k ↦ absurd (omega arith)
 ]
-deeper d b at x (aDirectory name date start size) q g h ih m = elim (mem-cons x at (reached d b start) m) [
-  | inl u ↦ subst (λ (y : Entry). T (goodEntry b y)) (sym (ap (entryAt b) u ∙ q)) g
+deeper d b at x (aDirectory name date start size) q g h ih m = elim (mem-cons x at (reached d (view b) start) m) [
+  | inl u ↦ subst (λ (y : Entry). T (goodEntry (view b) y)) (sym (ap (entryAt b) u ∙ q)) g
   | inr k ↦ ih start x h k
 ]
 
-pub good-reached : (d : ℕ) (b : Bytes) (p x : ℕ) → T (goodDirectory d b p) → Mem x (reached d b p) → T (goodEntry b (entryAt b x))
+pub good-reached : (d : ℕ) (b : Bytes) (p x : ℕ) → T (goodDirectory d (view b) p) → Mem x (reached d (view b) p) → T (goodEntry (view b) (entryAt b x))
 unfolding reached
 good-reached zero b p x g m = absurd (omega arith)
 good-reached (suc d) b p x g m =
     let r = good-split d b p g in
-    let w = mem-flatMap (λ at. reachedBy at (reached d b) (entryAt b at)) (entries p) x m in
+    let w = mem-flatMap (λ at. reachedBy at (reached d (view b)) (entryAt b at)) (entries p) x m in
     deeper d b (w .0) x (entryAt b (w .0)) refl (r .each (w .0) (w .1)) (r .below (w .0) (w .1)) (λ q y. good-reached d b q y) (w .2)
 
 module _ (b : Bytes) (f : Facts b) (places : List ℕ) where
@@ -60,9 +61,9 @@ module _ (b : Bytes) (f : Facts b) (places : List ℕ) where
   LinksNear = (p : ℕ) → 1 ≤ p → p < pageCount b → T (isFileEntry (ownerEntry b p)) → Linked (link b) to p
 
   abbrev FilesNear : Type 0
-  FilesNear = (at : ℕ) → Mem at (reachedEntries b) → T (neighbours (map to (pagesAt b at)))
+  FilesNear = (at : ℕ) → Mem at (reachedEntries b) → T (neighbours (map to (pagesAt (view b) at)))
 
-  owner-entry : (at q : ℕ) → Mem at (reachedEntries b) → Mem q (pagesAt b at) → ownerEntry b q ≡ entryAt b at
+  owner-entry : (at q : ℕ) → Mem at (reachedEntries b) → Mem q (pagesAt (view b) at) → ownerEntry b q ≡ entryAt b at
   unfolding ownerEntry
   owner-entry at q m k = ap (firstEntry b) (owner-is b f at q m k .2)
 
@@ -80,7 +81,7 @@ module _ (b : Bytes) (f : Facts b) (places : List ℕ) where
   unfolding pagesFor
   one-more size = omega arith
 
-  file-near : (e : Entry) → ((p : ℕ) → Mem p (pagesOf b e) → (1 ≤ p) × (T (isFileEntry e) → Linked (link b) to p)) → T (neighbours (map to (pagesOf b e)))
+  file-near : (e : Entry) → ((p : ℕ) → Mem p (pagesOf (view b) e) → (1 ≤ p) × (T (isFileEntry e) → Linked (link b) to p)) → T (neighbours (map to (pagesOf (view b) e)))
   unfolding pagesOf neighbours countFrom same
   file-near vacant h = tt
   file-near (aDirectory name date start size) h = tt
@@ -90,7 +91,7 @@ module _ (b : Bytes) (f : Facts b) (places : List ℕ) where
       subst (λ (n : ℕ). T (neighbours (map to (chain (link b) n start)))) (sym e) (cons-near k start (chain-near (link b) to k start (λ q m.
       let r = h q (subst (λ (n : ℕ). Mem q (chain (link b) n start)) (sym e) m) in (r .0, r .1 tt))))
 
-  near-file : (e : Entry) → T (isFileEntry e) → T (goodEntry b e) → (p : ℕ) → Mem p (pagesOf b e) → T (neighbours (map to (pagesOf b e))) → Linked (link b) to p
+  near-file : (e : Entry) → T (isFileEntry e) → T (goodEntry (view b) e) → (p : ℕ) → Mem p (pagesOf (view b) e) → T (neighbours (map to (pagesOf (view b) e))) → Linked (link b) to p
   unfolding pagesOf goodEntry
   near-file vacant t g p m h = absurd t
   near-file (aDirectory name date start size) t g p m h = absurd t

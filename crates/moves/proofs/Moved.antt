@@ -16,6 +16,7 @@ use Rattle.volume.proofs.Puts.{byte-part, part-part, part-length}
 use Rattle.volume.proofs.Flat.{flatMap-length}
 use Rattle.model.specs.Layout.{pageCount, validLength, link}
 use Rattle.model.specs.Entry.{entryCount, entries, Entry, vacant, aFile, aDirectory, entryAt}
+use Rattle.model.specs.Version1.{view}
 use Rattle.model.specs.Sound.{pagesOf, pagesAt, reachedEntries}
 use Rattle.model.specs.Image.{contentOn}
 use Rattle.laws.proofs.Facts.{Sized, valid-sized, Facts}
@@ -224,19 +225,19 @@ module _ (b : Bytes) (f : Facts b) (places : List ℕ) (a : Accepted b places) w
 
   -- ---- files
 
-  file-moved : (p : ℕ) → 1 ≤ p → p < pageCount b → movedPage places b p ≡ to (link b p) ∷ contentOn b p → FilePageMoved b b′ to p
+  file-moved : (p : ℕ) → 1 ≤ p → p < pageCount b → movedPage places b p ≡ to (link b p) ∷ contentOn (view b) p → FilePageMoved b b′ to p
   file-moved p l u e =
       let z : 256 * to p ≡ 256 * to p + 0 = omega arith in
       record {
         next = ap (byteAt b′) z ∙ sym (byte-part (256 * to p) 256 0 b′ (omega arith)) ∙ ap (λ (v : Bytes). byteAt v 0) (page-moved p l u ∙ e);
         content =
             sym (part-part (256 * to p) 256 1 255 b′ (omega arith)) ∙ ap (part 1 255) (page-moved p l u ∙ e)
-            ∙ take-all 255 (contentOn b p) (omega (arith, part-length (256 * p + 1) 255 b (omega (arith, s .whole))));
+            ∙ take-all 255 (contentOn (view b) p) (omega (arith, part-length (256 * p + 1) 255 b (omega (arith, s .whole))));
       }
 
   -- ---- all that is reached
 
-  page-as : (at q : ℕ) → Mem at (reachedEntries b) → Mem q (pagesAt b at) → movedPage places b q ≡ movedAs places b q (entryAt b at)
+  page-as : (at q : ℕ) → Mem at (reachedEntries b) → Mem q (pagesAt (view b) at) → movedPage places b q ≡ movedAs places b q (entryAt b at)
   unfolding movedPage ownerEntry
   page-as at q m k = ap (λ (l : List ℕ). movedAs places b q (firstEntry b l)) (owner-is b f at q m k .2)
 
@@ -244,11 +245,11 @@ module _ (b : Bytes) (f : Facts b) (places : List ℕ) (a : Accepted b places) w
   unfolding movedAs pagesOf
   entry-moved at m vacant q = tt
   entry-moved at m (aFile locked name date start size) q = λ p k.
-      let k′ : Mem p (pagesAt b at) = subst (λ (e : Entry). Mem p (pagesOf b e)) (sym q) k in
+      let k′ : Mem p (pagesAt (view b) at) = subst (λ (e : Entry). Mem p (pagesOf (view b) e)) (sym q) k in
       let o = owner-is b f at p m k′ in
       file-moved p (o .0) (o .1) (page-as at p m k′ ∙ ap (movedAs places b p) q)
   entry-moved at m (aDirectory name date start size) q =
-      let k′ : Mem start (pagesAt b at) = subst (λ (e : Entry). Mem start (pagesOf b e)) (sym q) (mem-head start []) in
+      let k′ : Mem start (pagesAt (view b) at) = subst (λ (e : Entry). Mem start (pagesOf (view b) e)) (sym q) (mem-head start []) in
       let o = owner-is b f at start m k′ in
       below-moved start (o .0) (o .1) (page-as at start m k′ ∙ ap (movedAs places b start) q)
 

@@ -15,6 +15,7 @@ use Rattle.volume.specs.Geometry as On
 use Rattle.volume.proofs.Occ.{hit-cases, occ, Mem, Nodup, Under, sum, sum-one, sum-occ, under-mem, under-head, under-tail, nodup-head, nodup-tail}
 use Rattle.volume.proofs.Tests.{no-conditions, cons-conditions, occ-member, occ-distinct, occ-all, countFrom-occ, eq-eqb, same-refl}
 use Rattle.model.specs.Layout.{pageCount}
+use Rattle.model.specs.Version1.{view}
 use Rattle.model.specs.Sound.{pagesAt, reachedEntries}
 use Rattle.moves.specs.Tidy.{placeOf, neighbours, accepted}
 use Rattle.moves.specs.Propose.{numbered}
@@ -103,7 +104,7 @@ getD-mid xs ps ys j l = getD-append-add xs (ps ++ ys) j 0 ∙ left ps j l
 
 module _ (b : Bytes) (order row : List ℕ) (many : length row ≡ pageCount b) (low : 1 ≤ pageCount b)
     (once : (q : ℕ) → q < pageCount b → occ q order ≡ 1) (under : Under (pageCount b) order) (head : getD order 0 0 ≡ 0)
-    (together : (at : ℕ) → Mem at (reachedEntries b) → Together order (pagesAt b at)) where
+    (together : (at : ℕ) → Mem at (reachedEntries b) → Together order (pagesAt (view b) at)) where
   long : length order ≡ pageCount b
   long = omega (arith, sum-occ order (pageCount b) under, sum-ones (λ p. occ p order) (pageCount b) once)
 
@@ -149,5 +150,5 @@ module _ (b : Bytes) (order row : List ℕ) (many : length row ≡ pageCount b) 
       (cons-conditions _ _ (occ-all (λ q. member q places) (upTo (pageCount b)) (λ q m. let r = countFrom-occ 0 (pageCount b) q m in occ-member q places (there q (omega (arith, r .1)))))
       (cons-conditions _ _ (occ-distinct places (once-each places (pageCount b) many-places there))
       (cons-conditions _ _ (eq-eqb first)
-      (cons-conditions _ [] (occ-all (λ at. neighbours (map (placeOf places) (pagesAt b at))) (reachedEntries b) (λ at m. near (pagesAt b at) (together at m)))
+      (cons-conditions _ [] (occ-all (λ at. neighbours (map (placeOf places) (pagesAt (view b) at))) (reachedEntries b) (λ at m. near (pagesAt (view b) at) (together at m)))
       no-conditions))))

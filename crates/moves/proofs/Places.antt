@@ -13,6 +13,7 @@ use Rattle.volume.specs.Lists.{all, member, distinct, upTo, first}
 use Rattle.volume.proofs.Occ.{hit, hit-ne, hit-cases, occ, Mem, Nodup, Under, mem-head, mem-tail, mem-cons, sum, sum-add, sum-zero, sum-hit, under-mem, nodup-head, nodup-tail}
 use Rattle.volume.proofs.Tests.{conditions-cons, member-occ, distinct-occ, all-occ, occ-countFrom, countFrom-occ, first-found, first-none, eq-eqb}
 use Rattle.model.specs.Layout.{pageCount}
+use Rattle.model.specs.Version1.{view}
 use Rattle.model.specs.Sound.{pagesAt, reachedEntries}
 use Rattle.moves.specs.Tidy.{placeOf, pageAt, neighbours, accepted}
 
@@ -87,7 +88,7 @@ pub record Accepted (b : Bytes) (places : List ℕ) : Type 0 where
   pub once : Nodup places
   pub under : Under (pageCount b) places
   pub renames : Renaming (pageCount b) (placeOf places) (pageAt places)
-  pub near : (at : ℕ) → Mem at (reachedEntries b) → T (neighbours (map (placeOf places) (pagesAt b at)))
+  pub near : (at : ℕ) → Mem at (reachedEntries b) → T (neighbours (map (placeOf places) (pagesAt (view b) at)))
 
 pub accepted-is : (b : Bytes) (places : List ℕ) → T (accepted b places) → Accepted b places
 unfolding accepted
@@ -97,7 +98,7 @@ accepted-is b places h =
     let t2 = conditions-cons (all (λ q. member q places) (upTo N)) _ (t1 .1) in
     let t3 = conditions-cons (distinct places) _ (t2 .1) in
     let t4 = conditions-cons (eqb (placeOf places 0) 0) _ (t3 .1) in
-    let t5 = conditions-cons (all (λ at. neighbours (map (placeOf places) (pagesAt b at))) (reachedEntries b)) [] (t4 .1) in
+    let t5 = conditions-cons (all (λ at. neighbours (map (placeOf places) (pagesAt (view b) at))) (reachedEntries b)) [] (t4 .1) in
     let many : length places ≡ N = eqb→eq (length places) N (t1 .0) in
     let once : Nodup places = distinct-occ places (t3 .0) in
     let there : (q : ℕ) → q < N → Mem q places = λ q l. member-occ q places (all-occ (λ q. member q places) (upTo N) (t2 .0) q (occ-countFrom 0 N q (omega arith) (omega arith))) in
@@ -115,5 +116,5 @@ accepted-is b places h =
             getD-injective places once (pageAt places (placeOf places p)) p (r .0) (omega arith) (r .1);
         onto = λ q l. let r = page-at places once q (there q l) in (omega (arith, r .0), r .1);
       };
-      near = λ at m. all-occ (λ at. neighbours (map (placeOf places) (pagesAt b at))) (reachedEntries b) (t5 .0) at m;
+      near = λ at m. all-occ (λ at. neighbours (map (placeOf places) (pagesAt (view b) at))) (reachedEntries b) (t5 .0) at m;
     }

@@ -17,6 +17,7 @@ use Rattle.volume.proofs.Flat.{occ-flatMap-le}
 use Rattle.model.specs.Layout.{pagesFor, link}
 use Rattle.model.specs.Name.{legalName}
 use Rattle.model.specs.Entry.{entryCount, entriesStart, entries, Entry, vacant, aFile, aDirectory, entryAt}
+use Rattle.model.specs.Version1.{view}
 use Rattle.model.specs.Sound.{pagesOf, goodEntry, isNamed, sameName, namesApart, inDirectory, goodDirectory, reachedBy, reached, owned}
 use Rattle.model.specs.Tree.{Row, file, dir}
 use Rattle.model.specs.Image.{contentOn, contentOf, entryRow, rowOf, rowAt}
@@ -109,36 +110,36 @@ module _ (b b′ : Bytes) (to : ℕ → ℕ) where
   -- page q of a file
   pub record FilePageMoved (q : ℕ) : Type 0 where
     pub next : link b′ (to q) ≡ to (link b q)
-    pub content : contentOn b′ (to q) ≡ contentOn b q
+    pub content : contentOn (view b′) (to q) ≡ contentOn (view b) q
 
   -- the pages of an entry have moved
   abbrev pub EntryMoved : Entry → Type 0
   EntryMoved vacant = Unit {0}
-  EntryMoved (aFile locked name date start size) = (q : ℕ) → Mem q (pagesOf b (aFile locked name date start size)) → FilePageMoved q
+  EntryMoved (aFile locked name date start size) = (q : ℕ) → Mem q (pagesOf (view b) (aFile locked name date start size)) → FilePageMoved q
   EntryMoved (aDirectory name date start size) = DirectoryMoved start
 
   -- the directory on page p means in b′ what it means in b
   pub record Moves (d p : ℕ) : Type 0 where
-    pub row : rowAt d b′ (to p) ≡ rowAt d b p
-    pub owns : owned d b′ (to p) ≡ map to (owned d b p)
-    pub good : T (goodDirectory d b′ (to p))
-    pub reaches : reached d b′ (to p) ≡ map (carriedTo to) (reached d b p)
+    pub row : rowAt d (view b′) (to p) ≡ rowAt d (view b) p
+    pub owns : owned d (view b′) (to p) ≡ map to (owned d (view b) p)
+    pub good : T (goodDirectory d (view b′) (to p))
+    pub reaches : reached d (view b′) (to p) ≡ map (carriedTo to) (reached d (view b) p)
 
   abbrev pub BelowMoves : (d : ℕ) → Entry → Type 0
   BelowMoves d e = inDirectory (Unit {0}) (Moves d) e
 
   entry-row : (d : ℕ) (e : Entry) → EntryMoved e → BelowMoves d e → (rest : Row)
-      → entryRow b′ (rowAt d b′) (renamed to e) rest ≡ entryRow b (rowAt d b) e rest
+      → entryRow (view b′) (rowAt d (view b′)) (renamed to e) rest ≡ entryRow (view b) (rowAt d (view b)) e rest
   unfolding entryRow contentOf pagesOf
   entry-row d vacant h s rest = refl
   entry-row d (aFile locked name date start size) h s rest =
       let r = chain-renamed (link b) (link b′) to (pagesFor size) start (λ q m. h q m .next) in
-      ap {B = Row} (λ (l : List ℕ). file locked name date (take size (flatMap (contentOn b′) l)) rest) (r .0)
-      ∙ ap {B = Row} (λ (v : Bytes). file locked name date (take size v) rest) (flatMap-map (contentOn b) (contentOn b′) to (chain (link b) (pagesFor size) start) (λ q m. h q m .content))
+      ap {B = Row} (λ (l : List ℕ). file locked name date (take size (flatMap (contentOn (view b′)) l)) rest) (r .0)
+      ∙ ap {B = Row} (λ (v : Bytes). file locked name date (take size v) rest) (flatMap-map (contentOn (view b)) (contentOn (view b′)) to (chain (link b) (pagesFor size) start) (λ q m. h q m .content))
   entry-row d (aDirectory name date start size) h s rest = ap (λ (r : Row). dir name date r rest) (s .row)
 
   -- the pages of an entry are where its pages came to
-  pub entry-pages : (e : Entry) → EntryMoved e → pagesOf b′ (renamed to e) ≡ map to (pagesOf b e)
+  pub entry-pages : (e : Entry) → EntryMoved e → pagesOf (view b′) (renamed to e) ≡ map to (pagesOf (view b) e)
   unfolding pagesOf
   entry-pages vacant h = refl
   entry-pages (aFile locked name date start size) h = chain-renamed (link b) (link b′) to (pagesFor size) start (λ q m. h q m .next) .0
@@ -150,7 +151,7 @@ module _ (b b′ : Bytes) (to : ℕ → ℕ) where
   entry-own d (aFile locked name date start size) h s = chain-renamed (link b) (link b′) to (pagesFor size) start (λ q m. h q m .next) .0
   entry-own d (aDirectory name date start size) h s = ap (λ (l : List ℕ). to start ∷ l) (s .owns)
 
-  entry-good : to 0 ≡ 0 → (e : Entry) → EntryMoved e → T (goodEntry b e) → T (goodEntry b′ (renamed to e))
+  entry-good : to 0 ≡ 0 → (e : Entry) → EntryMoved e → T (goodEntry (view b) e) → T (goodEntry (view b′) (renamed to e))
   unfolding goodEntry pagesOf
   entry-good z vacant h g = tt
   entry-good z (aFile locked name date start size) h g =
@@ -160,12 +161,12 @@ module _ (b b′ : Bytes) (to : ℕ → ℕ) where
       both-and (legalName name) (eqb (beyond (link b′) (pagesFor size) (to start)) 0) (a .0) (eq-eqb e)
   entry-good z (aDirectory name date start size) h g = g
 
-  entry-below : (d : ℕ) (e : Entry) → BelowMoves d e → T (inDirectory true (goodDirectory d b′) (renamed to e))
+  entry-below : (d : ℕ) (e : Entry) → BelowMoves d e → T (inDirectory true (goodDirectory d (view b′)) (renamed to e))
   entry-below d vacant s = tt
   entry-below d (aFile locked name date start size) s = tt
   entry-below d (aDirectory name date start size) s = s .good
 
-  entry-reached : (d at : ℕ) (e : Entry) → BelowMoves d e → reachedBy (carriedTo to at) (reached d b′) (renamed to e) ≡ map (carriedTo to) (reachedBy at (reached d b) e)
+  entry-reached : (d at : ℕ) (e : Entry) → BelowMoves d e → reachedBy (carriedTo to at) (reached d (view b′)) (renamed to e) ≡ map (carriedTo to) (reachedBy at (reached d (view b)) e)
   unfolding reachedBy
   entry-reached d at vacant s = refl
   entry-reached d at (aFile locked name date start size) s = refl
@@ -174,15 +175,15 @@ module _ (b b′ : Bytes) (to : ℕ → ℕ) where
   -- ---- one level
 
   rows-paired : (g g′ : ℕ → Row) (f f′ : ℕ → ℕ) (is : List ℕ)
-      → ((i : ℕ) → Mem i is → (rest : Row) → entryRow b′ g′ (entryAt b′ (f′ i)) rest ≡ entryRow b g (entryAt b (f i)) rest)
-      → rowOf b′ g′ (map f′ is) ≡ rowOf b g (map f is)
+      → ((i : ℕ) → Mem i is → (rest : Row) → entryRow (view b′) g′ (entryAt b′ (f′ i)) rest ≡ entryRow (view b) g (entryAt b (f i)) rest)
+      → rowOf (view b′) g′ (map f′ is) ≡ rowOf (view b) g (map f is)
   unfolding rowOf
   rows-paired g g′ f f′ [] h = refl
   rows-paired g g′ f f′ (i ∷ is) h =
-      h i (mem-head i is) (rowOf b′ g′ (map f′ is)) ∙ ap (entryRow b g (entryAt b (f i))) (rows-paired g g′ f f′ is (λ j m. h j (mem-tail j i is m)))
+      h i (mem-head i is) (rowOf (view b′) g′ (map f′ is)) ∙ ap (entryRow (view b) g (entryAt b (f i))) (rows-paired g g′ f f′ is (λ j m. h j (mem-tail j i is m)))
 
   apart-paired : (f f′ : ℕ → ℕ) (is : List ℕ) → ((i : ℕ) → Mem i is → entryAt b′ (f′ i) ≡ renamed to (entryAt b (f i)))
-      → namesApart b′ (map f′ is) ≡ namesApart b (map f is)
+      → namesApart (view b′) (map f′ is) ≡ namesApart (view b) (map f is)
   unfolding namesApart
   apart-paired f f′ [] h = refl
   apart-paired f f′ (i ∷ is) h =
@@ -200,7 +201,7 @@ module _ (b b′ : Bytes) (to : ℕ → ℕ) where
   unfolding entries
   in-entries p i k = map-mem (position p) (upTo (entryCount p)) i k
 
-  level : (d p : ℕ) → to 0 ≡ 0 → DirectoryMoved p → T (goodDirectory (suc d) b p)
+  level : (d p : ℕ) → to 0 ≡ 0 → DirectoryMoved p → T (goodDirectory (suc d) (view b) p)
       → ((i : ℕ) → Mem i (upTo (entryCount p)) → EntryMoved (entryAt b (position p i)) × BelowMoves d (entryAt b (position p i)))
       → Moves (suc d) p
   unfolding rowAt goodDirectory entries reached
@@ -209,27 +210,27 @@ module _ (b b′ : Bytes) (to : ℕ → ℕ) where
       let f = position p in
       let f′ = position (to p) in
       let es = moved-entries p m in
-      let c1 = conditions-cons (all (λ at. goodEntry b (entryAt b at)) (entries p)) _ g in
-      let c2 = conditions-cons (namesApart b (entries p)) _ (c1 .1) in
+      let c1 = conditions-cons (all (λ at. goodEntry (view b) (entryAt b at)) (entries p)) _ g in
+      let c2 = conditions-cons (namesApart (view b) (entries p)) _ (c1 .1) in
       record {
-        row = ap (rowOf b′ (rowAt d b′)) es ∙ rows-paired (rowAt d b) (rowAt d b′) f f′ ps (λ i k rest.
-            ap (λ (e : Entry). entryRow b′ (rowAt d b′) e rest) (m .each i k) ∙ entry-row d (entryAt b (f i)) (h i k .0) (h i k .1) rest);
+        row = ap (rowOf (view b′) (rowAt d (view b′))) es ∙ rows-paired (rowAt d (view b)) (rowAt d (view b′)) f f′ ps (λ i k rest.
+            ap (λ (e : Entry). entryRow (view b′) (rowAt d (view b′)) e rest) (m .each i k) ∙ entry-row d (entryAt b (f i)) (h i k .0) (h i k .1) rest);
         owns = owned-entries d b′ (to p) ∙ ap (flatMap (λ at. own d b′ (entryAt b′ at))) es
             ∙ flatMap-paired to (λ at. own d b (entryAt b at)) (λ at. own d b′ (entryAt b′ at)) f f′ ps (λ i k.
             ap (own d b′) (m .each i k) ∙ entry-own d (entryAt b (f i)) (h i k .0) (h i k .1))
             ∙ ap (map to) (sym (owned-entries d b p));
-        reaches = ap (flatMap (λ at. reachedBy at (reached d b′) (entryAt b′ at))) es
-            ∙ flatMap-paired (carriedTo to) (λ at. reachedBy at (reached d b) (entryAt b at)) (λ at. reachedBy at (reached d b′) (entryAt b′ at)) f f′ ps (λ i k.
-            ap₂ (λ (x : ℕ) (e : Entry). reachedBy x (reached d b′) e) (m .stands i k) (m .each i k) ∙ entry-reached d (f i) (entryAt b (f i)) (h i k .1));
-        good = subst (λ (l : List ℕ). T (conditions (all (λ at. goodEntry b′ (entryAt b′ at)) l ∷ namesApart b′ l ∷ all (λ at. inDirectory true (goodDirectory d b′) (entryAt b′ at)) l ∷ []))) (sym es)
+        reaches = ap (flatMap (λ at. reachedBy at (reached d (view b′)) (entryAt b′ at))) es
+            ∙ flatMap-paired (carriedTo to) (λ at. reachedBy at (reached d (view b)) (entryAt b at)) (λ at. reachedBy at (reached d (view b′)) (entryAt b′ at)) f f′ ps (λ i k.
+            ap₂ (λ (x : ℕ) (e : Entry). reachedBy x (reached d (view b′)) e) (m .stands i k) (m .each i k) ∙ entry-reached d (f i) (entryAt b (f i)) (h i k .1));
+        good = subst (λ (l : List ℕ). T (conditions (all (λ at. goodEntry (view b′) (entryAt b′ at)) l ∷ namesApart (view b′) l ∷ all (λ at. inDirectory true (goodDirectory d (view b′)) (entryAt b′ at)) l ∷ []))) (sym es)
             (cons-conditions _ _
-            (occ-all (λ at. goodEntry b′ (entryAt b′ at)) (map f′ ps) (λ x k. let r = mem-map f′ ps x k in
-            subst (λ (y : ℕ). T (goodEntry b′ (entryAt b′ y))) (sym (r .2)) (subst (λ (e : Entry). T (goodEntry b′ e)) (sym (m .each (r .0) (r .1)))
-            (entry-good z (entryAt b (f (r .0))) (h (r .0) (r .1) .0) (all-occ (λ at. goodEntry b (entryAt b at)) (entries p) (c1 .0) (f (r .0)) (in-entries p (r .0) (r .1)))))))
+            (occ-all (λ at. goodEntry (view b′) (entryAt b′ at)) (map f′ ps) (λ x k. let r = mem-map f′ ps x k in
+            subst (λ (y : ℕ). T (goodEntry (view b′) (entryAt b′ y))) (sym (r .2)) (subst (λ (e : Entry). T (goodEntry (view b′) e)) (sym (m .each (r .0) (r .1)))
+            (entry-good z (entryAt b (f (r .0))) (h (r .0) (r .1) .0) (all-occ (λ at. goodEntry (view b) (entryAt b at)) (entries p) (c1 .0) (f (r .0)) (in-entries p (r .0) (r .1)))))))
             (cons-conditions _ _ (subst (λ (c : Bool). T c) (sym (apart-paired f f′ ps (m .each))) (c2 .0))
             (cons-conditions _ []
-            (occ-all (λ at. inDirectory true (goodDirectory d b′) (entryAt b′ at)) (map f′ ps) (λ x k. let r = mem-map f′ ps x k in
-            subst (λ (y : ℕ). T (inDirectory true (goodDirectory d b′) (entryAt b′ y))) (sym (r .2)) (subst (λ (e : Entry). T (inDirectory true (goodDirectory d b′) e)) (sym (m .each (r .0) (r .1)))
+            (occ-all (λ at. inDirectory true (goodDirectory d (view b′)) (entryAt b′ at)) (map f′ ps) (λ x k. let r = mem-map f′ ps x k in
+            subst (λ (y : ℕ). T (inDirectory true (goodDirectory d (view b′)) (entryAt b′ y))) (sym (r .2)) (subst (λ (e : Entry). T (inDirectory true (goodDirectory d (view b′)) e)) (sym (m .each (r .0) (r .1)))
             (entry-below d (entryAt b (f (r .0))) (h (r .0) (r .1) .1)))))
             no-conditions)));
       }
@@ -237,31 +238,31 @@ module _ (b b′ : Bytes) (to : ℕ → ℕ) where
   -- ---- all levels
 
   -- an entry of a directory is reached from it, and so is what is below the entry
-  reached-here : (d p at : ℕ) → Mem at (entries p) → (x : ℕ) → Mem x (reachedBy at (reached d b) (entryAt b at)) → Mem x (reached (suc d) b p)
+  reached-here : (d p at : ℕ) → Mem at (entries p) → (x : ℕ) → Mem x (reachedBy at (reached d (view b)) (entryAt b at)) → Mem x (reached (suc d) (view b) p)
   unfolding reached
-  reached-here d p at m x k = omega (arith, occ-flatMap-le (λ y. reachedBy y (reached d b) (entryAt b y)) (entries p) at x m)
+  reached-here d p at m x k = omega (arith, occ-flatMap-le (λ y. reachedBy y (reached d (view b)) (entryAt b y)) (entries p) at x m)
 
-  itself : (d at : ℕ) (e : Entry) → ((x : ℕ) → Mem x (reachedBy at (reached d b) e) → EntryMoved (entryAt b x)) → entryAt b at ≡ e → EntryMoved e
+  itself : (d at : ℕ) (e : Entry) → ((x : ℕ) → Mem x (reachedBy at (reached d (view b)) e) → EntryMoved (entryAt b x)) → entryAt b at ≡ e → EntryMoved e
   unfolding reachedBy
   itself d at vacant h q = tt
   itself d at (aFile locked name date start size) h q = subst EntryMoved q (h at (mem-head at []))
-  itself d at (aDirectory name date start size) h q = subst EntryMoved q (h at (mem-head at (reached d b start)))
+  itself d at (aDirectory name date start size) h q = subst EntryMoved q (h at (mem-head at (reached d (view b) start)))
 
-  deeper : (d at : ℕ) (e : Entry) → EntryMoved e → T (inDirectory true (goodDirectory d b) e)
-      → ((x : ℕ) → Mem x (reachedBy at (reached d b) e) → EntryMoved (entryAt b x))
-      → ((p : ℕ) → DirectoryMoved p → T (goodDirectory d b p) → ((x : ℕ) → Mem x (reached d b p) → EntryMoved (entryAt b x)) → Moves d p) → BelowMoves d e
+  deeper : (d at : ℕ) (e : Entry) → EntryMoved e → T (inDirectory true (goodDirectory d (view b)) e)
+      → ((x : ℕ) → Mem x (reachedBy at (reached d (view b)) e) → EntryMoved (entryAt b x))
+      → ((p : ℕ) → DirectoryMoved p → T (goodDirectory d (view b) p) → ((x : ℕ) → Mem x (reached d (view b) p) → EntryMoved (entryAt b x)) → Moves d p) → BelowMoves d e
   unfolding reachedBy
   deeper d at vacant e g h go = tt
   deeper d at (aFile locked name date start size) e g h go = tt
-  deeper d at (aDirectory name date start size) e g h go = go start e g (λ x m. h x (mem-tail x at (reached d b start) m))
+  deeper d at (aDirectory name date start size) e g h go = go start e g (λ x m. h x (mem-tail x at (reached d (view b) start) m))
 
-  pub directory-moves : (d p : ℕ) → to 0 ≡ 0 → DirectoryMoved p → T (goodDirectory d b p)
-      → ((x : ℕ) → Mem x (reached d b p) → EntryMoved (entryAt b x)) → Moves d p
+  pub directory-moves : (d p : ℕ) → to 0 ≡ 0 → DirectoryMoved p → T (goodDirectory d (view b) p)
+      → ((x : ℕ) → Mem x (reached d (view b) p) → EntryMoved (entryAt b x)) → Moves d p
   unfolding goodDirectory
   directory-moves zero p z m g h = absurd g
   directory-moves (suc d) p z m g h = level d p z m g (λ i k.
       let at : ℕ = position p i in
       let on : Mem at (entries p) = in-entries p i k in
-      let hs : (x : ℕ) → Mem x (reachedBy at (reached d b) (entryAt b at)) → EntryMoved (entryAt b x) = λ x n. h x (reached-here d p at on x n) in
+      let hs : (x : ℕ) → Mem x (reachedBy at (reached d (view b)) (entryAt b at)) → EntryMoved (entryAt b x) = λ x n. h x (reached-here d p at on x n) in
       let it : EntryMoved (entryAt b at) = itself d at (entryAt b at) hs refl in
       (it, deeper d at (entryAt b at) it (good-below d b p at g on) hs (λ q n u v. directory-moves d q z n u v)))

@@ -19,6 +19,7 @@ use Rattle.volume.proofs.Puts.{byte-part, part-length}
 use Rattle.volume.proofs.Marks.{bit-low}
 use Rattle.model.specs.Layout.{version1, pageCount, validLength, validHeader, freeCount, pageBit, zeroBits}
 use Rattle.model.specs.Entry.{entries}
+use Rattle.model.specs.Version1.{view}
 use Rattle.model.specs.Sound.{goodDirectory, reached, owned, sound, reachedEntries, ownedPages}
 use Rattle.model.specs.Tree.{Row, Tree}
 use Rattle.model.specs.Image.{rowAt, treeOf}
@@ -190,8 +191,8 @@ module _ (b : Bytes) (f : Facts b) (places : List ℕ) (a : Accepted b places) w
     length-map to (ownedPages b),
   )
 
-  owns : owned (pageCount b) b′ 0 ≡ map to (ownedPages b)
-  owns = ap (owned (pageCount b) b′) (sym (ren .stays)) ∙ (root-moves b f places a) .owns
+  owns : owned (pageCount b) (view b′) 0 ≡ map to (ownedPages b)
+  owns = ap (owned (pageCount b) (view b′)) (sym (ren .stays)) ∙ (root-moves b f places a) .owns
 
   facts : FactsTo (pageCount b) b′
   facts = record {
@@ -199,21 +200,21 @@ module _ (b : Bytes) (f : Facts b) (places : List ℕ) (a : Accepted b places) w
     headed = headed;
     bit-zero = bit-first;
     counted = counted ∙ ap (zeroBits b′) (sym (pages b f places a));
-    formed = subst (λ (p : ℕ). T (goodDirectory (pageCount b) b′ p)) (ren .stays) ((root-moves b f places a) .good);
+    formed = subst (λ (p : ℕ). T (goodDirectory (pageCount b) (view b′) p)) (ren .stays) ((root-moves b f places a) .good);
     inside = λ q m. let r = inside-moved q (subst (Mem q) owns m) in (r .0, omega (arith, r .1, (pages b f places a)));
     exact = λ q l u. ap (occ q) owns ∙ exact-moved q l (omega (arith, (pages b f places a)));
   }
 
   -- each entry stands where its page came to
   pub entries-moved : reachedEntries b′ ≡ map (carriedTo to) (reachedEntries b)
-  entries-moved = ap (λ (n : ℕ). reached n b′ 0) (pages b f places a) ∙ ap (reached (pageCount b) b′) (sym (ren .stays)) ∙ (root-moves b f places a) .reaches
+  entries-moved = ap (λ (n : ℕ). reached n (view b′) 0) (pages b f places a) ∙ ap (reached (pageCount b) (view b′)) (sym (ren .stays)) ∙ (root-moves b f places a) .reaches
 
   tidied : T (sound b′) × (treeOf b′ ≡ treeOf b)
   unfolding treeOf
   tidied = (
     facts-sound (subst (λ (n : ℕ). FactsTo n b′) (sym (pages b f places a)) facts),
     ap₂ {C = Tree} (λ (n : ℕ) (r : Row). record { pages = n; root = r }) (pages b f places a)
-        (ap (λ (n : ℕ). rowAt n b′ 0) (pages b f places a) ∙ ap (rowAt (pageCount b) b′) (sym (ren .stays)) ∙ (root-moves b f places a) .row),
+        (ap (λ (n : ℕ). rowAt n (view b′) 0) (pages b f places a) ∙ ap (rowAt (pageCount b) (view b′)) (sym (ren .stays)) ∙ (root-moves b f places a) .row),
   )
 
 -- An accepted proposal on a sound image gives a sound image of the same length with the same tree.

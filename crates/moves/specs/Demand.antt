@@ -10,6 +10,7 @@ use Rattle.volume.specs.Bytes.{Bytes, byteAt}
 use Rattle.volume.specs.Lists.{any, member}
 use Rattle.model.specs.Layout.{pageSize, pageCount}
 use Rattle.model.specs.Entry.{occupied, entries}
+use Rattle.model.specs.Version1.{view}
 use Rattle.model.specs.Sound.{sound, pagesAt, reachedEntries}
 use Rattle.model.specs.Image.{treeOf}
 use Rattle.model.specs.Call.{Call, verdict, Refusal, refusal, refused, granted}
@@ -56,7 +57,7 @@ pub record Tidied (b places after : Bytes) : Type 0 where
   pub long : length after ≡ length b
   -- every entry stands where its page came to, and the pages of every file and directory are where the proposal puts them
   pub reaches : reachedEntries after ≡ map (newPosition places) (reachedEntries b)
-  pub placed : (at : ℕ) → T (member at (reachedEntries b)) → pagesAt after (newPosition places at) ≡ map (placeOf places) (pagesAt b at)
+  pub placed : (at : ℕ) → T (member at (reachedEntries b)) → pagesAt (view after) (newPosition places at) ≡ map (placeOf places) (pagesAt (view b) at)
   -- every byte that does not follow is carried along with its page
   pub carried : (p i : ℕ) → p < pageCount b → i < pageSize → T (not (follows b p i)) → byteAt after (pageSize * placeOf places p + i) ≡ byteAt b (pageSize * p + i)
   -- demand 3 starts afresh from it

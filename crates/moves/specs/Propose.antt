@@ -8,6 +8,7 @@ use Rattle.volume.specs.Bytes.{Bytes, if_then_else_}
 use Rattle.volume.specs.Lists.{keep, countFrom}
 use Rattle.model.specs.Layout.{pageCount}
 use Rattle.model.specs.Entry.{Entry, vacant, aFile, aDirectory}
+use Rattle.model.specs.Version1.{view}
 use Rattle.model.specs.Sound.{pagesOf}
 use Rattle.model.specs.Call.{refusal, Answer, refused, granted}
 use Rattle.model.specs.Refusal.{Line, settle}
@@ -27,7 +28,7 @@ isDirectoryEntry (aDirectory name date start size) = true
 -- the pages of the file that starts on page p, in the order of its chain; none where no file does
 abbrev pub startsOn : Bytes → (page : ℕ) → Entry → List ℕ
 startsOn b p vacant = []
-startsOn b p (aFile locked name date start size) = if eqb start p then pagesOf b (aFile locked name date start size) else []
+startsOn b p (aFile locked name date start size) = if eqb start p then pagesOf (view b) (aFile locked name date start size) else []
 startsOn b p (aDirectory name date start size) = []
 
 unfoldable pub fileFrom : Bytes → (page : ℕ) → List ℕ

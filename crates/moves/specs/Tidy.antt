@@ -9,6 +9,7 @@ use Rattle.volume.specs.Bytes.{Bytes, part, same, if_then_else_}
 use Rattle.volume.specs.Lists.{all, conditions, member, distinct, countFrom, upTo, first}
 use Rattle.model.specs.Layout.{pageSize, pageCount, pageBit, link}
 use Rattle.model.specs.Entry.{occupied, startAt, entries, Entry, vacant, aFile, aDirectory, entryAt}
+use Rattle.model.specs.Version1.{view}
 use Rattle.model.specs.Sound.{pagesAt, reachedEntries, owners}
 use Rattle.model.specs.Image.{contentOn}
 use Rattle.model.specs.Call.{refusal, Answer, refused, granted}
@@ -37,7 +38,7 @@ accepted b places = conditions (
     ∷ all (λ q. member q places) (upTo (pageCount b))
     ∷ distinct places
     ∷ eqb (placeOf places 0) 0
-    ∷ all (λ at. neighbours (map (placeOf places) (pagesAt b at))) (reachedEntries b)
+    ∷ all (λ at. neighbours (map (placeOf places) (pagesAt (view b) at))) (reachedEntries b)
     ∷ [])
 
 -- ---- "occupied slots' start pages, links and bitmap following and all other page bytes carried along"
@@ -59,7 +60,7 @@ ownerEntry b p = firstEntry b (owners b p)
 -- the bytes of page p, by its owner's entry: in a file's page the link follows, in a directory's the start pages, and a free page stays
 unfoldable pub movedAs : List ℕ → Bytes → (page : ℕ) → Entry → Bytes
 movedAs places b p vacant = part (pageSize * p) pageSize b
-movedAs places b p (aFile locked name date start size) = placeOf places (link b p) ∷ contentOn b p
+movedAs places b p (aFile locked name date start size) = placeOf places (link b p) ∷ contentOn (view b) p
 movedAs places b p (aDirectory name date start size) = flatMap (movedEntry places b) (entries p)
 
 unfoldable pub movedPage : List ℕ → Bytes → (page : ℕ) → Bytes

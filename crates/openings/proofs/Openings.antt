@@ -14,6 +14,7 @@ use Rattle.volume.specs.Lists.{first}
 use Rattle.model.specs.Layout.{pageSize, pageCount}
 use Rattle.model.specs.Date.{goodDate}
 use Rattle.model.specs.Entry.{entries, Entry, vacant, aFile, aDirectory, entryAt}
+use Rattle.model.specs.Version1.{view}
 use Rattle.model.specs.Tree.{Row, end, free, file, dir, width, held, lookup}
 use Rattle.model.specs.Path.{Name, Path, below, pathOf, isNoPath, isRoot, parents, lastName}
 use Rattle.model.specs.Image.{entryRow, rowOf, rowAt, treeOf}
@@ -56,7 +57,7 @@ stopped-refused path o r e w is = ap refused w ∙ ap (λ (y : Opening). refused
 -- ---- one directory
 
 -- the answer for the name's entry is s
-module _ (b : Bytes) (p begins : ℕ) (bytes m : Bytes) (is : m ≡ bytes) (s : Spot) (spot : spotOf s ≡ entryNamed b p m) where
+module _ (b : Bytes) (p begins : ℕ) (bytes m : Bytes) (is : m ≡ bytes) (s : Spot) (spot : spotOf s ≡ entryNamed (view b) p m) where
   abbrev name : Name
   name = record { begins = begins; bytes = bytes }
 
@@ -87,16 +88,16 @@ held-width (free r) = omega (arith, held-width r)
 held-width (file l n d v r) = omega (arith, held-width r)
 held-width (dir n d i r) = omega (arith, held-width r)
 
-row-full : (b : Bytes) (g : ℕ → Row) (ats : List ℕ) → eqb (held (rowOf b g ats)) (width (rowOf b g ats)) ≡ isNone (first (vacancy b) ats)
+row-full : (b : Bytes) (g : ℕ → Row) (ats : List ℕ) → eqb (held (rowOf (view b) g ats)) (width (rowOf (view b) g ats)) ≡ isNone (first (vacancy b) ats)
 unfolding held width rowOf entryRow first isVacant isNone
 row-full b g [] = refl
 row-full b g (x ∷ xs) = go (entryAt b x) (row-full b g xs)
   where
-    go : (y : Entry) → eqb (held (rowOf b g xs)) (width (rowOf b g xs)) ≡ isNone (first (vacancy b) xs)
-        → eqb (held (entryRow b g y (rowOf b g xs))) (width (entryRow b g y (rowOf b g xs))) ≡ isNone (if isVacant y then some x else first (vacancy b) xs)
-    go vacant e = ne-eqb (held (rowOf b g xs)) (suc (width (rowOf b g xs))) (λ q. omega (arith, q, held-width (rowOf b g xs)))
-    go (aFile locked name date start k) e = eqb·suc-suc (held (rowOf b g xs)) (width (rowOf b g xs)) ∙ e
-    go (aDirectory name date start k) e = eqb·suc-suc (held (rowOf b g xs)) (width (rowOf b g xs)) ∙ e
+    go : (y : Entry) → eqb (held (rowOf (view b) g xs)) (width (rowOf (view b) g xs)) ≡ isNone (first (vacancy b) xs)
+        → eqb (held (entryRow (view b) g y (rowOf (view b) g xs))) (width (entryRow (view b) g y (rowOf (view b) g xs))) ≡ isNone (if isVacant y then some x else first (vacancy b) xs)
+    go vacant e = ne-eqb (held (rowOf (view b) g xs)) (suc (width (rowOf (view b) g xs))) (λ q. omega (arith, q, held-width (rowOf (view b) g xs)))
+    go (aFile locked name date start k) e = eqb·suc-suc (held (rowOf (view b) g xs)) (width (rowOf (view b) g xs)) ∙ e
+    go (aDirectory name date start k) e = eqb·suc-suc (held (rowOf (view b) g xs)) (width (rowOf (view b) g xs)) ∙ e
 
 -- ---- the lines behind the path and the date
 
@@ -110,24 +111,25 @@ abbrev linesOf : (isRoot : Bool) → Bytes → Walked Row → Place → Answer P
 linesOf r n w x = settle (walkLines w ++ ((r || isThere (lookup n (arrivedOr end w)), refusal 8) ∷ (eqb (held (arrivedOr end w)) (width (arrivedOr end w)), refusal 9) ∷ [])) refused (granted x)
 
 module _ (b : Bytes) (f : Facts b) where
-  directory-asked : (t : ℕ) (n : Name) → linesOf false (n .bytes) (arrived (rowAt (pageCount b) b t)) (lowestVacant b t, n .bytes) ≡ openingNamed b t n
+  directory-asked : (t : ℕ) (n : Name) → linesOf false (n .bytes) (arrived (rowAt (pageCount b) (view b) t)) (lowestVacant b t, n .bytes) ≡ openingNamed b t n
   unfolding settle isMissing isBlocked arrivedOr rowAt lowestVacant isThere unlessNamed vacancyOr isNone
   directory-asked t n =
       let deep : pageCount b ≡ suc (pageCount b - 1) = omega (arith, size f .low) in
-      rw (deep, lookup-named b (pageCount b - 1) t (n .bytes), row-full b (rowAt (pageCount b - 1) b) (entries t)) (go (entryNamed b t (n .bytes)) (first (vacancy b) (entries t)))
+      subst (λ (k : ℕ). linesOf false (n .bytes) (arrived (rowAt k (view b) t)) (lowestVacant b t, n .bytes) ≡ openingNamed b t n) (sym deep)
+      (rw (lookup-named b (pageCount b - 1) t (n .bytes), row-full b (rowAt (pageCount b - 1) (view b)) (entries t)) (go (entryNamed (view b) t (n .bytes)) (first (vacancy b) (entries t))))
     where
-      go : (o v : Option ℕ) → (if isThere (Option·map (λ at. nodeOf b (rowAt (pageCount b - 1) b) (entryAt b at)) o) then refused (refusal 8) else if isNone v then refused (refusal 9) else granted (Option·getD v 0, n .bytes))
+      go : (o v : Option ℕ) → (if isThere (Option·map (λ at. nodeOf b (rowAt (pageCount b - 1) (view b)) (entryAt b at)) o) then refused (refusal 8) else if isNone v then refused (refusal 9) else granted (Option·getD v 0, n .bytes))
           ≡ unlessNamed (vacancyOr (n .bytes) v) o
       go none none = refl
       go none (some at) = refl
       go (some at) none = refl
       go (some at) (some at′) = refl
 
-  parents-asked : (ns : List Name) (n : Name) → linesOf false (n .bytes) (walk ns (treeOf b .root)) (lowestVacant b (arrivedOr 0 (walkOn b ns 0)), n .bytes) ≡ openingBy b (code.walkedParent b (below ns n) 0)
+  parents-asked : (ns : List Name) (n : Name) → linesOf false (n .bytes) (walk ns (treeOf b .root)) (lowestVacant b (arrivedOr 0 (walkOn (view b) ns 0)), n .bytes) ≡ openingBy b (code.walkedParent b (below ns n) 0)
   unfolding mapWalked inWalked settle isMissing isBlocked stoppedAt arrivedOr
-  parents-asked ns n = ap (λ (w : Walked Row). linesOf false (n .bytes) w (lowestVacant b (arrivedOr 0 (walkOn b ns 0)), n .bytes)) (walk-bytes f ns) ∙ go (walkOn b ns 0)
+  parents-asked ns n = ap (λ (w : Walked Row). linesOf false (n .bytes) w (lowestVacant b (arrivedOr 0 (walkOn (view b) ns 0)), n .bytes)) (walk-bytes f ns) ∙ go (walkOn (view b) ns 0)
     where
-      go : (w : Walked ℕ) → linesOf false (n .bytes) (mapWalked (rowAt (pageCount b) b) w) (lowestVacant b (arrivedOr 0 w), n .bytes) ≡ openingBy b (inWalked w (λ q. arrived (q, n)))
+      go : (w : Walked ℕ) → linesOf false (n .bytes) (mapWalked (rowAt (pageCount b) (view b)) w) (lowestVacant b (arrivedOr 0 w), n .bytes) ≡ openingBy b (inWalked w (λ q. arrived (q, n)))
       go (arrived t) = directory-asked t n
       go (missing i) = refl
       go (blocked i) = refl
@@ -194,9 +196,9 @@ module _ (b : Bytes) (s : T (sound b)) where
   -- the directory that a walk has come to lies in the image
   pub page-inside : (path : Bytes) (w : Parent) → code.parentOf path w ≡ code.walkedParent b (pathOf path) 0 → (q : Walk) (from : ℕ) → w ≡ In q from → q .0 .0 < pageCount b
   unfolding inWalked isMissing isBlocked
-  page-inside path w walked q from is = go (walkOn b (parents (pathOf path)) 0) refl (rw is at walked)
+  page-inside path w walked q from is = go (walkOn (view b) (parents (pathOf path)) 0) refl (rw is at walked)
     where
-      go : (v : Walked ℕ) → walkOn b (parents (pathOf path)) 0 ≡ v
+      go : (v : Walked ℕ) → walkOn (view b) (parents (pathOf path)) 0 ≡ v
           → _≡_ {A = Walked (ℕ × Name)} (arrived (q .0 .0, code.nameIn path from (length path))) (inWalked v (λ t. arrived (t, code.last (pathOf path)))) → q .0 .0 < pageCount b
       go (arrived t) come k =
           let l = leads b (sound-facts s) (parents (pathOf path)) t come in

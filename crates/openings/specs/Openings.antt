@@ -6,6 +6,7 @@ use lib.ListN.{length}
 use Rattle.volume.specs.Bytes.{Bytes}
 use Rattle.volume.specs.Lists.{first}
 use Rattle.model.specs.Entry.{entries, entryAt}
+use Rattle.model.specs.Version1.{view}
 use Rattle.model.specs.Path.{Name, pathOf, lastName}
 use Rattle.model.specs.Image.{treeOf}
 use Rattle.model.specs.Walk.{entryNamed, parentPage}
@@ -34,7 +35,7 @@ unlessNamed a (some at) = refused (refusal 8)
 
 -- 8, then 9, for a name in the directory on page p
 abbrev pub openingNamed : Bytes → (page : ℕ) → Name → Answer Place
-openingNamed b p n = unlessNamed (vacancyOr (n .bytes) (first (λ at. isVacant (entryAt b at)) (entries p))) (entryNamed b p (n .bytes))
+openingNamed b p n = unlessNamed (vacancyOr (n .bytes) (first (λ at. isVacant (entryAt b at)) (entries p))) (entryNamed (view b) p (n .bytes))
 
 -- ---- the lines of a make above that of the free pages
 

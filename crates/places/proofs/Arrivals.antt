@@ -12,6 +12,7 @@ use Rattle.volume.specs.Bytes.{Bytes, if_then_else_}
 use Rattle.volume.specs.Chain.{chain}
 use Rattle.model.specs.Layout.{pageCount, pagesFor, link}
 use Rattle.model.specs.Entry.{isLocked, Entry, vacant, aFile, aDirectory, nameAt, startAt, sizeAt, dateAt, occupied, isDirectory, entryAt}
+use Rattle.model.specs.Version1.{view}
 use Rattle.model.specs.Sound.{pagesOf, isNamed}
 use Rattle.model.specs.Tree.{Row, Node, fileNode, directoryNode, lookup}
 use Rattle.model.specs.Path.{Name, Path, noPath, root, below}
@@ -49,29 +50,29 @@ directory-read b at {name} {date} {start} {size} e = go (occupied b at) (isDirec
 
 abbrev pub nodeAt : Bytes → Spot → Node
 nodeAt b theRoot = directoryNode (replicate 8 0) (treeOf b .root)
-nodeAt b (theFile at begins start size) = nodeOf b (rowAt (pageCount b - 1) b) (entryAt b at)
-nodeAt b (theDirectory at begins start size) = nodeOf b (rowAt (pageCount b - 1) b) (entryAt b at)
+nodeAt b (theFile at begins start size) = nodeOf b (rowAt (pageCount b - 1) (view b)) (entryAt b at)
+nodeAt b (theDirectory at begins start size) = nodeOf b (rowAt (pageCount b - 1) (view b)) (entryAt b at)
 
 module _ (b : Bytes) (at begins start k : ℕ) where
-  pub file-node : entryAt b at ≡ aFile (isLocked b at) (nameAt b at) (dateAt b at) start k → nodeAt b (theFile at begins start k) ≡ fileNode (isLocked b at) (dateAt b at) (contentOf b k (chain (link b) (pagesFor k) start))
+  pub file-node : entryAt b at ≡ aFile (isLocked b at) (nameAt b at) (dateAt b at) start k → nodeAt b (theFile at begins start k) ≡ fileNode (isLocked b at) (dateAt b at) (contentOf (view b) k (chain (link b) (pagesFor k) start))
   unfolding nodeOf pagesOf
-  file-node is = ap (nodeOf b (rowAt (pageCount b - 1) b)) is
+  file-node is = ap (nodeOf b (rowAt (pageCount b - 1) (view b))) is
 
-  pub directory-node : entryAt b at ≡ aDirectory (nameAt b at) (dateAt b at) start k → nodeAt b (theDirectory at begins start k) ≡ directoryNode (dateAt b at) (rowAt (pageCount b - 1) b start)
+  pub directory-node : entryAt b at ≡ aDirectory (nameAt b at) (dateAt b at) start k → nodeAt b (theDirectory at begins start k) ≡ directoryNode (dateAt b at) (rowAt (pageCount b - 1) (view b) start)
   unfolding nodeOf
-  directory-node is = ap (nodeOf b (rowAt (pageCount b - 1) b)) is
+  directory-node is = ap (nodeOf b (rowAt (pageCount b - 1) (view b))) is
 
 module _ (b : Bytes) (f : Facts b) where
   deep : pageCount b ≡ suc (pageCount b - 1)
   deep = omega (arith, valid-sized b (f .fits) .low)
 
-  spot-node : (n : Name) (p : ℕ) (o : Option ℕ) → entryNamed b p (n .bytes) ≡ o
-      → nodeNamed n (Option·map (λ at. nodeOf b (rowAt (pageCount b - 1) b) (entryAt b at)) o) ≡ mapWalked (nodeAt b) (spotNamed b n o)
+  spot-node : (n : Name) (p : ℕ) (o : Option ℕ) → entryNamed (view b) p (n .bytes) ≡ o
+      → nodeNamed n (Option·map (λ at. nodeOf b (rowAt (pageCount b - 1) (view b)) (entryAt b at)) o) ≡ mapWalked (nodeAt b) (spotNamed b n o)
   unfolding nodeNamed mapWalked spotNamed spotAt isNamed
   spot-node n p none e = refl
   spot-node n p (some at) e = go (entryAt b at) refl (named-found b p (n .bytes) at e .1)
     where
-      go : (x : Entry) → entryAt b at ≡ x → T (isNamed (n .bytes) x) → arrived (nodeOf b (rowAt (pageCount b - 1) b) (entryAt b at)) ≡ mapWalked (nodeAt b) (spotAt n at x)
+      go : (x : Entry) → entryAt b at ≡ x → T (isNamed (n .bytes) x) → arrived (nodeOf b (rowAt (pageCount b - 1) (view b)) (entryAt b at)) ≡ mapWalked (nodeAt b) (spotAt n at x)
       go vacant q h = absurd h
       go (aFile locked name date start size) q h = refl
       go (aDirectory name date start size) q h = refl
@@ -80,12 +81,12 @@ module _ (b : Bytes) (f : Facts b) where
   unfolding walkTo inWalked mapWalked located
   walk-located noPath = refl
   walk-located root = refl
-  walk-located (below ns n) = ap (λ (w : Walked Row). inWalked w (λ r. nodeNamed n (lookup (n .bytes) r))) (walk-bytes f ns) ∙ go (walkOn b ns 0)
+  walk-located (below ns n) = ap (λ (w : Walked Row). inWalked w (λ r. nodeNamed n (lookup (n .bytes) r))) (walk-bytes f ns) ∙ go (walkOn (view b) ns 0)
     where
-      go : (w : Walked ℕ) → inWalked (mapWalked (rowAt (pageCount b) b) w) (λ r. nodeNamed n (lookup (n .bytes) r))
-          ≡ mapWalked (nodeAt b) (inWalked w (λ p. spotNamed b n (entryNamed b p (n .bytes))))
+      go : (w : Walked ℕ) → inWalked (mapWalked (rowAt (pageCount b) (view b)) w) (λ r. nodeNamed n (lookup (n .bytes) r))
+          ≡ mapWalked (nodeAt b) (inWalked w (λ p. spotNamed b n (entryNamed (view b) p (n .bytes))))
       go (arrived p) =
-          ap (λ k. nodeNamed n (lookup (n .bytes) (rowAt k b p))) deep ∙ ap (nodeNamed n) (lookup-named b (pageCount b - 1) p (n .bytes)) ∙ spot-node n p (entryNamed b p (n .bytes)) refl
+          ap (λ k. nodeNamed n (lookup (n .bytes) (rowAt k (view b) p))) deep ∙ ap (nodeNamed n) (lookup-named b (pageCount b - 1) p (n .bytes)) ∙ spot-node n p (entryNamed (view b) p (n .bytes)) refl
       go (missing i) = refl
       go (blocked i) = refl
 
@@ -98,8 +99,8 @@ pub record EntryOf (b : Bytes) (p : Path) (at begins : ℕ) : Type 0 where
   pub is : p ≡ below ns n
   pub first : n .begins ≡ begins
   pub page : ℕ
-  pub reached : walkOn b ns 0 ≡ arrived page
-  pub found : entryNamed b page (n .bytes) ≡ some at
+  pub reached : walkOn (view b) ns 0 ≡ arrived page
+  pub found : entryNamed (view b) page (n .bytes) ≡ some at
 
 abbrev pub At : Bytes → Path → Spot → Type 0
 At b p theRoot = p ≡ root
@@ -115,19 +116,19 @@ at-end : (b : Bytes) (p : Path) → AtEnd b p (located b p)
 unfolding located inWalked spotNamed spotAt
 at-end b noPath = tt
 at-end b root = refl
-at-end b (below ns n) = by-page (walkOn b ns 0) refl
+at-end b (below ns n) = by-page (walkOn (view b) ns 0) refl
   where
-    by-entry : (t : ℕ) → walkOn b ns 0 ≡ arrived t → (at : ℕ) → entryNamed b t (n .bytes) ≡ some at → (x : Entry) → entryAt b at ≡ x → AtEnd b (below ns n) (spotAt n at x)
+    by-entry : (t : ℕ) → walkOn (view b) ns 0 ≡ arrived t → (at : ℕ) → entryNamed (view b) t (n .bytes) ≡ some at → (x : Entry) → entryAt b at ≡ x → AtEnd b (below ns n) (spotAt n at x)
     by-entry t w at o vacant q = tt
     by-entry t w at o (aFile locked name date start size) q = (record { ns = ns; n = n; is = refl; first = refl; page = t; reached = w; found = o }, file-read b at q)
     by-entry t w at o (aDirectory name date start size) q = (record { ns = ns; n = n; is = refl; first = refl; page = t; reached = w; found = o }, directory-read b at q)
 
-    by-name : (t : ℕ) → walkOn b ns 0 ≡ arrived t → (o : Option ℕ) → entryNamed b t (n .bytes) ≡ o → AtEnd b (below ns n) (spotNamed b n o)
+    by-name : (t : ℕ) → walkOn (view b) ns 0 ≡ arrived t → (o : Option ℕ) → entryNamed (view b) t (n .bytes) ≡ o → AtEnd b (below ns n) (spotNamed b n o)
     by-name t w none e = tt
     by-name t w (some at) e = by-entry t w at e (entryAt b at) refl
 
-    by-page : (w : Walked ℕ) → walkOn b ns 0 ≡ w → AtEnd b (below ns n) (inWalked w (λ p. spotNamed b n (entryNamed b p (n .bytes))))
-    by-page (arrived t) e = by-name t e (entryNamed b t (n .bytes)) refl
+    by-page : (w : Walked ℕ) → walkOn (view b) ns 0 ≡ w → AtEnd b (below ns n) (inWalked w (λ p. spotNamed b n (entryNamed (view b) p (n .bytes))))
+    by-page (arrived t) e = by-name t e (entryNamed (view b) t (n .bytes)) refl
     by-page (missing i) e = tt
     by-page (blocked i) e = tt
 

@@ -11,6 +11,7 @@ use borrow.Author.Tests.{not-true, not-false}
 use Rattle.volume.specs.Bytes.{Bytes, if_then_else_}
 use Rattle.model.specs.Layout.{pageSize, pageCount, validLength, validHeader}
 use Rattle.model.specs.Entry.{isLocked, nameAt, dateAt, entryAt}
+use Rattle.model.specs.Version1.{view}
 use Rattle.model.specs.Sound.{sound}
 use Rattle.model.specs.Path.{Name, Path, noPath, root, below, pathOf, isNoPath}
 use Rattle.model.specs.Walk.{Walked, arrived, missing, blocked, inWalked, entryNamed, walkOn}
@@ -47,7 +48,7 @@ use Rattle.places.specs.Places.{Spot, theRoot, theFile, theDirectory, sp
 -- ---- the last name
 
 -- the answer for the name's entry is s
-module _ (b : Bytes) (p begins : ℕ) (bytes m : Bytes) (is : m ≡ bytes) (s : Found) (spot : named-at s ≡ entryNamed b p m) where
+module _ (b : Bytes) (p begins : ℕ) (bytes m : Bytes) (is : m ≡ bytes) (s : Found) (spot : named-at s ≡ entryNamed (view b) p m) where
   abbrev name : Name
   name = record { begins = begins; bytes = bytes }
 
@@ -98,9 +99,9 @@ placeBy b (blocked i) = refused (refusalAt 6 i)
 
 place-below : (b : Bytes) (ns : List Name) (n : Name) → placeBy b (walkedParent b (below ns n) 0) ≡ walkedAnswer (located b (below ns n))
 unfolding inWalked located walkedAnswer
-place-below b ns n = go (walkOn b ns 0)
+place-below b ns n = go (walkOn (view b) ns 0)
   where
-    go : (w : Walked ℕ) → placeBy b (inWalked w (λ q. arrived (q, n))) ≡ walkedAnswer (inWalked w (λ q. spotNamed b n (entryNamed b q (n .bytes))))
+    go : (w : Walked ℕ) → placeBy b (inWalked w (λ q. arrived (q, n))) ≡ walkedAnswer (inWalked w (λ q. spotNamed b n (entryNamed (view b) q (n .bytes))))
     go (arrived q) = refl
     go (missing i) = refl
     go (blocked i) = refl

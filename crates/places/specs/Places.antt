@@ -4,6 +4,7 @@ use mathlib.Core.Option.{Option, none, some}
 use mathlib.Core.List.{List, [], _∷_, _++_}
 use Rattle.volume.specs.Bytes.{Bytes}
 use Rattle.model.specs.Entry.{Entry, vacant, aFile, aDirectory, entryAt}
+use Rattle.model.specs.Version1.{view}
 use Rattle.model.specs.Path.{Name, Path, noPath, root, below, pathOf}
 use Rattle.model.specs.Walk.{Walked, arrived, missing, blocked, inWalked, entryNamed, walkOn}
 use Rattle.model.specs.Call.{Refusal as Model, refusal, refusalAt, Answer, refused, granted}
@@ -36,7 +37,7 @@ spotNamed b n (some at) = spotAt n at (entryAt b at)
 unfoldable pub located : Bytes → Path → Walked Spot
 located b noPath = missing 0
 located b root = arrived theRoot
-located b (below ns n) = inWalked (walkOn b ns 0) (λ p. spotNamed b n (entryNamed b p (n .bytes)))
+located b (below ns n) = inWalked (walkOn (view b) ns 0) (λ p. spotNamed b n (entryNamed (view b) p (n .bytes)))
 
 -- ---- as an answer: where the walk stops, it is the refusal 5 or 6
 
@@ -47,7 +48,7 @@ walkedAnswer (blocked i) = refused (refusalAt 6 i)
 
 -- in the directory on page p
 abbrev pub placeNamed : Bytes → (page : ℕ) → Name → Answer Spot
-placeNamed b p n = walkedAnswer (spotNamed b n (entryNamed b p (n .bytes)))
+placeNamed b p n = walkedAnswer (spotNamed b n (entryNamed (view b) p (n .bytes)))
 
 -- line 4, and then the walk
 unfoldable pub placeWalked : Bytes → Bytes → Answer Spot

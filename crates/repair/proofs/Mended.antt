@@ -16,6 +16,7 @@ use Rattle.volume.proofs.Fields.{store-length, store-out, load-store}
 use Rattle.volume.proofs.Marks.{bit-low}
 use Rattle.volume.proofs.Pages.{bits-same, zeros-same}
 use Rattle.model.specs.Layout.{version1, pageCount, validLength, validHeader, freeCount, pageBit, zeroBits}
+use Rattle.model.specs.Version1.{view}
 use Rattle.model.specs.Sound.{ownedPages, sound}
 use Rattle.model.specs.Tree.{Row, Tree}
 use Rattle.model.specs.Image.{rowAt, treeOf}
@@ -113,7 +114,7 @@ module _ (b c : Bytes) (v : T (validLength (length b))) (m : Mended b c) where
 
   pub mended-tree : Walkable b → treeOf c ≡ treeOf b
   unfolding treeOf
-  mended-tree w = ap₂ {C = Tree} (λ (n : ℕ) (r : Row). record { pages = n; root = r }) pages (ap (λ (n : ℕ). rowAt n c 0) pages ∙ mended-directory w .row)
+  mended-tree w = ap₂ {C = Tree} (λ (n : ℕ) (r : Row). record { pages = n; root = r }) pages (ap (λ (n : ℕ). rowAt n (view c) 0) pages ∙ mended-directory w .row)
 
   pub mended-sound : Walkable b → T (validHeader b) → T (sound c)
   mended-sound w head =

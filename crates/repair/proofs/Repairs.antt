@@ -67,10 +67,10 @@ module _ {A : Type 0} (b : Bytes) (v : T (validLength (length b))) (h : T (valid
       ∙ settle-skip g (not (validHeader b)) (refusal 2) ((not (isClean (judgeWalk b)), firstFault (judgeWalk b)) ∷ []) x (not-not-of (validHeader b) h)
       ∙ settle-skip g (not (isClean (judgeWalk b))) (firstFault (judgeWalk b)) [] x (not-not-of (isClean (judgeWalk b)) (walkable-clean b w))
 
-data View (b : Bytes) : Type 0 where
+data Course (b : Bytes) : Type 0 where
   stopped : (r : Refusal) → repairAnswer b ≡ refused r → repairAfter b ≡ b
-      → answer verdict b ≡ refused r → T (member (r .number) unmendable) → View b
-  mendable : T (validLength (length b)) → T (validHeader b) → Walkable b → View b
+      → answer verdict b ≡ refused r → T (member (r .number) unmendable) → Course b
+  mendable : T (validLength (length b)) → T (validHeader b) → Walkable b → Course b
 
 fault-number : (f : Fault) → OfWalk (fault f) → T (member (faultTold f .number) unmendable)
 unfolding any
@@ -100,22 +100,22 @@ module _ {A : Type 0} (b : Bytes) (g : Refusal → A) (x : A) where
       ∙ settle-holds g (not (isClean (judgeWalk b))) (firstFault (judgeWalk b)) [] x (of-not (isClean (judgeWalk b)) (ap isClean e))
       ∙ ap (λ (j : Judged). g (firstFault j)) e
 
-view : (b : Bytes) → View b
+course : (b : Bytes) → Course b
 unfolding any repairAnswer repairAfter
-view b = for-length (validLength (length b)) refl
+course b = for-length (validLength (length b)) refl
   where
-    for-walk : T (validLength (length b)) → T (validHeader b) → (j : Judged) → judgeWalk b ≡ j → View b
+    for-walk : T (validLength (length b)) → T (validHeader b) → (j : Judged) → judgeWalk b ≡ j → Course b
     for-walk v h (clean marks) e = mendable v h (walk-clean b e .0)
     for-walk v h (fault f) e = stopped (faultTold f) (by-fault b refused (granted tt) v h f e) (by-fault b (λ m. b) (repaired b) v h f e)
         (verdict-fault b f v h (judge-fault b f e)) (fault-number f (subst OfWalk e (walk-kind b)))
 
-    for-header : T (validLength (length b)) → (c : Bool) → validHeader b ≡ c → View b
+    for-header : T (validLength (length b)) → (c : Bool) → validHeader b ≡ c → Course b
     for-header v true e = for-walk v (subst (λ (x : Bool). T x) (sym e) tt) (judgeWalk b) refl
     for-header v false e =
         let h = of-not (validHeader b) e in
         stopped (refusal 2) (by-header b refused (granted tt) v h) (by-header b (λ m. b) (repaired b) v h) (verdict-header b v h) tt
 
-    for-length : (c : Bool) → validLength (length b) ≡ c → View b
+    for-length : (c : Bool) → validLength (length b) ≡ c → Course b
     for-length true e = for-header (subst (λ (x : Bool). T x) (sym e) tt) (validHeader b) refl
     for-length false e =
         let h = of-not (validLength (length b)) e in
@@ -125,9 +125,9 @@ view b = for-length (validLength (length b)) refl
 
 refuses : (b : Bytes) (f : Refusal) → repairAnswer b ≡ refused f → Refuses b f
 unfolding repairAnswer
-refuses b f e = go (view b)
+refuses b f e = go (course b)
   where
-    go : View b → Refuses b f
+    go : Course b → Refuses b f
     go (stopped r s kept told n) =
         let same : r ≡ f = let q : _≡_ {A = Answer (Unit {0})} (refused r) (refused f) = sym s ∙ e in cc in
         record { image = kept; told = subst (λ (x : Refusal). answer verdict b ≡ refused x) same told; numbered = subst (λ (x : Refusal). T (member (x .number) unmendable)) same n }
@@ -135,9 +135,9 @@ refuses b f e = go (view b)
 
 mends : (b : Bytes) → repairAnswer b ≡ granted tt → Mends b
 unfolding repairAnswer repairAfter
-mends b e = go (view b)
+mends b e = go (course b)
   where
-    go : View b → Mends b
+    go : Course b → Mends b
     go (stopped r s kept told n) = absurd (not-granted (sym e ∙ s))
     go (mendable v h w) =
         let a : settle (repairLines b) (λ m. b) (repaired b) ≡ repaired b = repair-granted b v h w (λ m. b) (repaired b) in
@@ -166,9 +166,9 @@ not-both n h k =
 grants : (b : Bytes) → Mendable b → repairAnswer b ≡ granted tt
 unfolding repairAnswer any
 grants b (isSound h) = sound-open b h refused (granted tt)
-grants b (byNumber f e k) = go (view b)
+grants b (byNumber f e k) = go (course b)
   where
-    go : View b → _≡_ {A = Answer (Unit {0})} (settle (repairLines b) refused (granted tt)) (granted tt)
+    go : Course b → _≡_ {A = Answer (Unit {0})} (settle (repairLines b) refused (granted tt)) (granted tt)
     go (mendable v h w) = repair-granted b v h w refused (granted tt)
     go (stopped r s kept told n) =
         let same : r ≡ f = let q = sym told ∙ e in cc in
@@ -190,7 +190,7 @@ rest-number b m f e = go (first (λ p. eqb (getD m p 0) 0 && eqb (pageBit b p) 1
 
 refuses-alike : (b : Bytes) (f : Refusal) → answer verdict b ≡ refused f → T (member (f .number) unmendable) → repairAnswer b ≡ refused f
 unfolding repairAnswer judge thenJudge isClean any
-refuses-alike b f e k = go (view b)
+refuses-alike b f e k = go (course b)
   where
     -- an image whose walk is clean is sound, or has the number 19 or 3
     clean-number : T (validLength (length b)) → T (validHeader b) → Walkable b → T (member (f .number) (19 ∷ 3 ∷ []))
@@ -208,7 +208,7 @@ refuses-alike b f e k = go (view b)
         walked (fault g) q c = absurd c
         walked (clean m) q c = rest m (ap (λ (j : Judged). thenJudge j (judgeRest b)) q) (judgeRest b m) refl
 
-    go : View b → _≡_ {A = Answer (Unit {0})} (settle (repairLines b) refused (granted tt)) (refused f)
+    go : Course b → _≡_ {A = Answer (Unit {0})} (settle (repairLines b) refused (granted tt)) (refused f)
     go (stopped r s kept told n) = s ∙ (let same : r ≡ f = let q = sym told ∙ e in cc in ap {B = Answer (Unit {0})} (λ x. refused x) same)
     go (mendable v h w) = absurd (not-both (f .number) k (clean-number v h w))
 

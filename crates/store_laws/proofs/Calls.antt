@@ -16,6 +16,7 @@ use Rattle.volume.proofs.Occ.{occ, Mem, hit-refl}
 use Rattle.volume.proofs.Tests.{not-not}
 use Rattle.model.specs.Layout.{pageCount, pagesFor}
 use Rattle.model.specs.Entry.{Entry}
+use Rattle.model.specs.Version1.{view}
 use Rattle.model.specs.Sound.{owned, pagesAt, sound}
 use Rattle.model.specs.Tree.{freeNumber}
 use Rattle.model.specs.Path.{Name, Path, below, pathOf, parents}
@@ -162,7 +163,7 @@ module _ (path date v : Bytes) (k : ℕ) (buffer b : Bytes) (o : Opens path date
 -- ---- how many stores there are
 
 -- a directory below the root is on a page that is owned
-leads-below : (b : Bytes) (n : Name) (ns : List Name) (d p e t q : ℕ) → Leads b (suc d) p (n ∷ ns) e t → occ q (t ∷ owned e b t) ≤ occ q (owned (suc d) b p)
+leads-below : (b : Bytes) (n : Name) (ns : List Name) (d p e t q : ℕ) → Leads b (suc d) p (n ∷ ns) e t → occ q (t ∷ owned e (view b) t) ≤ occ q (owned (suc d) (view b) p)
 unfolding own
 leads-below b n ns d p e t q l =
     let found = named-found b p (n .bytes) (l .0) (l .2) in
@@ -190,15 +191,15 @@ module _ (b : Bytes) (f : Facts b) (ns : List Name) (n : Name) (date v : Bytes) 
       deep zero e z k = k
       deep (suc d) e z k =
           let o = leads-below b m ms d 0 (suc (p .e)) (p .t) (p .t) k in
-          let u : Mem (p .t) (owned (suc d) b 0) = omega (arith, o, hit-refl (p .t)) in
-          let w = f .inside (p .t) (subst (λ (x : ℕ). Mem (p .t) (owned x b 0)) (sym e) u) in
+          let u : Mem (p .t) (owned (suc d) (view b) 0) = omega (arith, o, hit-refl (p .t)) in
+          let w = f .inside (p .t) (subst (λ (x : ℕ). Mem (p .t) (owned x (view b) 0)) (sym e) u) in
           omega (arith, w .0, z)
 
   pub store-many : length (stores (below ns n) date v b) ≡ storeCount (below ns n) v
   unfolding stores storePages storeCount
   store-many =
       let d = stored (below ns n) date v b in
-      let qs : List ℕ = pagesAt (stored (below ns n) date v b) (lowestVacant b (parentPage b (below ns n))) in
+      let qs : List ℕ = pagesAt (view (stored (below ns n) date v b)) (lowestVacant b (parentPage b (below ns n))) in
       let on = stored-on b f ns n date v c in
       let r = root-or-below ns (p .leads) in
       let last : length (lastPages (parentPage b (below ns n))) ≡ (if isNone ns then 1 else 2) =

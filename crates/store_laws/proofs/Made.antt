@@ -20,6 +20,7 @@ use Rattle.volume.proofs.Writes.{Written}
 use Rattle.volume.specs.Field.{byte}
 use Rattle.model.specs.Layout.{version1, pageCount, pagesFor, pageBit, zeroBits, link}
 use Rattle.model.specs.Entry.{entries, startAt, sizeAt, Entry, aFile, entryAt, newEntry}
+use Rattle.model.specs.Version1.{view}
 use Rattle.model.specs.Sound.{pagesOf, pagesAt, isNamed, owned, ownedPages, sound}
 use Rattle.model.specs.Path.{Name, below}
 use Rattle.model.specs.Walk.{entryNamed}
@@ -134,7 +135,7 @@ module _ (b : Bytes) (f : Facts b) (ns : List Name) (n : Name) (date v : Bytes) 
         | inr h ↦ omega (arith, h .1, one)
       ]
 
-  frame : (q : ℕ) → Mem q (0 ∷ ownedPages b) → occ q (t ∷ owned (suc e) b t) ≡ 0 → SamePage b b₁ q
+  frame : (q : ℕ) → Mem q (0 ∷ ownedPages b) → occ q (t ∷ owned (suc e) (view b) t) ≡ 0 → SamePage b b₁ q
   frame q k z i d l =
       made-rest i l
       (ap (λ (x : ℕ). occ x qs) d ∙ not-mem q qs (λ h.
@@ -148,14 +149,14 @@ module _ (b : Bytes) (f : Facts b) (ns : List Name) (n : Name) (date v : Bytes) 
   pub above₁ : (p : Parent b₁ ns) × (p .t ≡ t)
   above₁ = parent-at b₁ f₁ ns t (leads-walk b₁ ns (pageCount b) 0 (suc e) t leads₁)
 
-  pub found₁ : entryNamed b₁ t (n .bytes) ≡ some at
+  pub found₁ : entryNamed (view b₁) t (n .bytes) ≡ some at
   unfolding entryNamed isNamed
   found₁ = first-only (λ x. isNamed (n .bytes) (entryAt b₁ x)) (entries t) at spot
       (subst (λ (x : Entry). T (isNamed (n .bytes) x)) (sym is₁) (same-refl (n .bytes)))
       (λ y k ne. subst (λ (x : Entry). T (not (isNamed (n .bytes) x))) (sym (others₁ y k ne)) (w .apart y k))
 
   abbrev pub tg : Target b₁ ns n
-  tg = target-at b₁ ns n (above₁ .0) at (ap (λ (p : ℕ). entryNamed b₁ p (n .bytes)) (above₁ .1) ∙ found₁)
+  tg = target-at b₁ ns n (above₁ .0) at (ap (λ (p : ℕ). entryNamed (view b₁) p (n .bytes)) (above₁ .1) ∙ found₁)
 
   -- ---- after the write
 
@@ -184,9 +185,9 @@ module _ (b : Bytes) (f : Facts b) (ns : List Name) (n : Name) (date v : Bytes) 
   abbrev pub more : List ℕ
   more = On.gained version1 (pageCount b₁) (pagesFor (max (sizeAt b₁ at) (0 + length v)) - pagesFor (sizeAt b₁ at)) b₁
 
-  pub old-pages : pagesAt b₁ at ≡ qs
+  pub old-pages : pagesAt (view b₁) at ≡ qs
   unfolding pagesOf
-  old-pages = ap (pagesOf b₁) is₁ ∙ m .pages
+  old-pages = ap (pagesOf (view b₁)) is₁ ∙ m .pages
 
   -- the image after a write of some bytes
   abbrev pub d : Bytes

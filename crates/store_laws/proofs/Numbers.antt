@@ -13,6 +13,7 @@ use borrow.Author.Tests.{eq-eqb, ne-eqb}
 use Rattle.volume.specs.Bytes.{Bytes, part, put, if_then_else_}
 use Rattle.volume.specs.Geometry as On
 use Rattle.model.specs.Layout.{version1, pageCount, pagesFor}
+use Rattle.model.specs.Version1.{view}
 use Rattle.model.specs.Sound.{pagesAt}
 use Rattle.model.specs.Path.{Name, below}
 use Rattle.model.specs.Walk.{parentPage}
@@ -40,7 +41,7 @@ module _ (b : Bytes) (f : Facts b) (ns : List Name) (n : Name) (date v : Bytes) 
   k = pagesFor (length v)
 
   abbrev qs : List ℕ
-  qs = pagesAt (stored (below ns n) date v b) (lowestVacant b (parentPage b (below ns n)))
+  qs = pagesAt (view (stored (below ns n) date v b)) (lowestVacant b (parentPage b (below ns n)))
 
   on : StoredOn b d (n .bytes) date v t at k qs
   on = stored-on b f ns n date v c

@@ -10,6 +10,7 @@ use lib.Dec.{T}
 use Rattle.volume.specs.Bytes.{Bytes, byteAt}
 use Rattle.volume.proofs.Occ.{occ, Mem, not-mem}
 use Rattle.model.specs.Layout.{pageCount, validLength, validHeader, pageBit}
+use Rattle.model.specs.Version1.{view}
 use Rattle.model.specs.Sound.{goodDirectory, owned, ownedPages, sound}
 use Rattle.model.specs.Tree.{Row, Tree}
 use Rattle.model.specs.Image.{rowAt, treeOf}
@@ -36,13 +37,13 @@ module _ (b c : Bytes) (f : Facts b) (qs : List ℕ) (free : Free b qs) (p : Pul
   pages = ap (λ (l : ℕ). l / 256) (p .long)
 
   pub owns : ownedPages c ≡ ownedPages b
-  owns = ap (λ (n : ℕ). owned n c 0) pages ∙ same .owns
+  owns = ap (λ (n : ℕ). owned n (view c) 0) pages ∙ same .owns
 
   pub pulled-walkable : Walkable c
   pulled-walkable =
       let w = sound-walkable b f in
       record {
-        formed = subst (λ (n : ℕ). T (goodDirectory n c 0)) (sym pages) (subst (λ (x : Bool). T x) (sym (same .good)) (w .formed));
+        formed = subst (λ (n : ℕ). T (goodDirectory n (view c) 0)) (sym pages) (subst (λ (x : Bool). T x) (sym (same .good)) (w .formed));
         inside = λ q m. let r = w .inside q (subst (Mem q) owns m) in (r .0, omega (arith, r .1, pages));
         marked = λ q m. let k = subst (Mem q) owns m in p .marks q (w .inside q k .1) (w .marked q k);
         once = λ q. subst (λ (l : List ℕ). occ q l ≤ 1) (sym owns) (w .once q);
@@ -50,7 +51,7 @@ module _ (b c : Bytes) (f : Facts b) (qs : List ℕ) (free : Free b qs) (p : Pul
 
   pub pulled-tree : treeOf c ≡ treeOf b
   unfolding treeOf
-  pulled-tree = ap₂ {C = Tree} (λ (n : ℕ) (r : Row). record { pages = n; root = r }) pages (ap (λ (n : ℕ). rowAt n c 0) pages ∙ same .row)
+  pulled-tree = ap₂ {C = Tree} (λ (n : ℕ) (r : Row). record { pages = n; root = r }) pages (ap (λ (n : ℕ). rowAt n (view c) 0) pages ∙ same .row)
 
   pub pulled-fits : T (validLength (length c))
   pulled-fits = subst (λ (l : ℕ). T (validLength l)) (sym (p .long)) (f .fits)

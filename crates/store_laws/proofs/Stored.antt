@@ -18,6 +18,7 @@ use Rattle.volume.proofs.Writes.{Written}
 use Rattle.volume.specs.Field.{byte}
 use Rattle.model.specs.Layout.{version1, pageCount, pagesFor, pageBit, zeroBits, link}
 use Rattle.model.specs.Entry.{entries, startAt, sizeAt, entryAt, newEntry}
+use Rattle.model.specs.Version1.{view}
 use Rattle.model.specs.Sound.{pagesOf, pagesAt}
 use Rattle.model.specs.Tree.{end}
 use Rattle.model.specs.Path.{Name, below}
@@ -48,7 +49,7 @@ pub record StoredOn (b d name date v : Bytes) (t at k : ℕ) (qs : List ℕ) : T
   pub spot : Mem at (entries t)
   pub free : Free b qs
   pub renewed : Renewed b d t qs
-  pub chained : pagesAt d at ≡ qs
+  pub chained : pagesAt (view d) at ≡ qs
   pub many : length qs ≡ k
   -- the lowest free pages of the old image, in their order; each leads to the next, and the last nowhere
   pub gains : qs ≡ On.gained version1 (pageCount b) k b
@@ -126,7 +127,7 @@ module _ (b : Bytes) (f : Facts b) (ns : List Name) (n : Name) (date v : Bytes) 
   abbrev more : List ℕ
   more = Made.more b f ns n date v c
 
-  abbrev old-pages : pagesAt b₁ at ≡ qs
+  abbrev old-pages : pagesAt (view b₁) at ≡ qs
   old-pages = Made.old-pages b f ns n date v c
 
   abbrev d : Bytes
@@ -202,7 +203,7 @@ module _ (b : Bytes) (f : Facts b) (ns : List Name) (n : Name) (date v : Bytes) 
           ∙ made-rest i l (omega (arith, occ-append (i / 256) ps more, ap (occ (i / 256)) same-pages)) ne;
       marks = λ q l o. omega (arith, o, m .bits q l, wb .bits q (omega (arith, l, pages₁)), bit-low version1 d q);
     };
-    chained = ap (pagesOf d) (is′ b₁ f₁ ns n tg isFile 0 v (omega arith) space₁) ∙ pages′ b₁ f₁ ns n tg isFile 0 v (omega arith) space₁;
+    chained = ap (pagesOf (view d)) (is′ b₁ f₁ ns n tg isFile 0 v (omega arith) space₁) ∙ pages′ b₁ f₁ ns n tg isFile 0 v (omega arith) space₁;
     many = all-many;
     gains = written-chain;
     linked = subst (λ (k : ℕ). chain (link d) k (startAt d at) ≡ ps ++ more) all-many (wb .pages);
@@ -247,7 +248,7 @@ module _ (b : Bytes) (f : Facts b) (ns : List Name) (n : Name) (date v : Bytes) 
 
   -- the new file's pages along its chain
   abbrev pub chainOf : Bytes → List ℕ
-  chainOf x = pagesAt x (lowestVacant b (parentPage b (below ns n)))
+  chainOf x = pagesAt (view x) (lowestVacant b (parentPage b (below ns n)))
 
   pub stored-on : StoredOn b (stored (below ns n) date v b) (n .bytes) date v (parentPage b (below ns n)) (lowestVacant b (parentPage b (below ns n))) (pagesFor (length v)) (chainOf (stored (below ns n) date v b))
   unfolding stored written
@@ -263,7 +264,7 @@ module _ (b : Bytes) (f : Facts b) (ns : List Name) (n : Name) (date v : Bytes) 
 
       says : (x : Bytes) (l : List ℕ) → StoredOn b x (n .bytes) date v t at (pagesFor (length v)) l → Says x
       says x l s =
-          let l-is : l ≡ chainOf x = sym (s .chained) ∙ ap (pagesAt x) (sym at-is) in
+          let l-is : l ≡ chainOf x = sym (s .chained) ∙ ap (pagesAt (view x)) (sym at-is) in
           subst (λ (p : ℕ). StoredOn b x (n .bytes) date v p (lowestVacant b (parentPage b (below ns n))) (pagesFor (length v)) (chainOf x)) (sym parent-is)
           (subst (λ (a : ℕ). StoredOn b x (n .bytes) date v t a (pagesFor (length v)) (chainOf x)) (sym at-is) (subst (StoredOn b x (n .bytes) date v t at (pagesFor (length v))) l-is s))
 

@@ -10,6 +10,7 @@ use lib.Dec.{T, eqb}
 use Rattle.volume.specs.Bytes.{Bytes, if_then_else_}
 use Rattle.volume.proofs.Tests.{not-not-of}
 use Rattle.model.specs.Layout.{pageCount, pagesFor, validLength, validHeader}
+use Rattle.model.specs.Version1.{view}
 use Rattle.model.specs.Sound.{pagesAt, sound}
 use Rattle.model.specs.Judge.{Judged, isClean}
 use Rattle.model.specs.Path.{Name, Path, below, pathOf}
@@ -61,7 +62,7 @@ module _ (b : Bytes) (f : Facts b) (ns : List Name) (n : Name) (date v : Bytes) 
   t = parentPage b (below ns n)
 
   abbrev qs : List ℕ
-  qs = pagesAt (stored (below ns n) date v b) (lowestVacant b (parentPage b (below ns n)))
+  qs = pagesAt (view (stored (below ns n) date v b)) (lowestVacant b (parentPage b (below ns n)))
 
   on : StoredOn b d (n .bytes) date v t (lowestVacant b (parentPage b (below ns n))) (pagesFor (length v)) qs
   on = stored-on b f ns n date v c

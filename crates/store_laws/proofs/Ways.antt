@@ -14,6 +14,7 @@ use Rattle.volume.specs.Lists.{first}
 use Rattle.volume.proofs.Occ.{occ, Mem, hit-refl}
 use Rattle.volume.proofs.Tests.{first-cong, first-found, first-none}
 use Rattle.model.specs.Entry.{entries, Entry, entryAt}
+use Rattle.model.specs.Version1.{view}
 use Rattle.model.specs.Sound.{isNamed, owned}
 use Rattle.model.specs.Path.{Name}
 use Rattle.model.specs.Walk.{Walked, arrived, entryNamed, enterOn, walkOn}
@@ -39,12 +40,12 @@ module _ (b b′ : Bytes) (len : length b′ ≡ length b) where
       let w = entry-within p x m in
       entry-same b b′ x len (λ i u v. same i (within-page p x w i u v) (omega (arith, w .far)))
 
-  named-kept : (p : ℕ) (n : Bytes) → SamePage b b′ p → entryNamed b′ p n ≡ entryNamed b p n
+  named-kept : (p : ℕ) (n : Bytes) → SamePage b b′ p → entryNamed (view b′) p n ≡ entryNamed (view b) p n
   unfolding entryNamed
   named-kept p n same = first-cong (λ x. isNamed n (entryAt b′ x)) (λ x. isNamed n (entryAt b x)) (entries p) (λ x m. ap (isNamed n) (entries-kept p same x m))
 
-  pub leads-kept : (names : List Name) (d p e t : ℕ) → ((q : ℕ) → occ q (p ∷ owned d b p) ≤ 1) → Leads b d p names e t
-      → ((q : ℕ) → Mem q (p ∷ owned d b p) → occ q (t ∷ owned e b t) ≡ 0 → SamePage b b′ q) → Leads b′ d p names e t
+  pub leads-kept : (names : List Name) (d p e t : ℕ) → ((q : ℕ) → occ q (p ∷ owned d (view b) p) ≤ 1) → Leads b d p names e t
+      → ((q : ℕ) → Mem q (p ∷ owned d (view b) p) → occ q (t ∷ owned e (view b) t) ≡ 0 → SamePage b b′ q) → Leads b′ d p names e t
   unfolding own
   leads-kept [] d p e t once l frame = l
   leads-kept (n ∷ ns) zero p e t once l frame = absurd l
@@ -52,8 +53,8 @@ module _ (b b′ : Bytes) (len : length b′ ≡ length b) where
       let at : ℕ = l .0 in
       let s : ℕ = l .1 in
       let found = named-found b p (n .bytes) at (l .2) in
-      let le : (q : ℕ) → occ q (s ∷ owned d b s) ≤ occ q (owned (suc d) b p) = λ q. omega (arith, own-le d b p at q (found .0), ap (λ (x : Entry). occ q (own d b x)) (l .3 .is)) in
-      let sub : (q : ℕ) → occ q (t ∷ owned e b t) ≤ occ q (s ∷ owned d b s) = λ q. leads-sub b ns d s e t q (l .4) in
+      let le : (q : ℕ) → occ q (s ∷ owned d (view b) s) ≤ occ q (owned (suc d) (view b) p) = λ q. omega (arith, own-le d b p at q (found .0), ap (λ (x : Entry). occ q (own d b x)) (l .3 .is)) in
+      let sub : (q : ℕ) → occ q (t ∷ owned e (view b) t) ≤ occ q (s ∷ owned d (view b) s) = λ q. leads-sub b ns d s e t q (l .4) in
       let here : SamePage b b′ p = frame p (omega (arith, hit-refl p)) (omega (arith, hit-refl p, once p, le p, sub p)) in (
         at,
         s,
@@ -62,11 +63,11 @@ module _ (b b′ : Bytes) (len : length b′ ≡ length b) where
         leads-kept ns d s e t (λ q. omega (arith, le q, once q)) (l .4) (λ q k z. frame q (omega (arith, le q, k)) z),
       )
 
-pub leads-walk : (b : Bytes) (names : List Name) (d p e t : ℕ) → Leads b d p names e t → walkOn b names p ≡ arrived t
+pub leads-walk : (b : Bytes) (names : List Name) (d p e t : ℕ) → Leads b d p names e t → walkOn (view b) names p ≡ arrived t
 unfolding walkOn enterOn
 leads-walk b [] d p e t l = ap {B = Walked ℕ} (λ x. arrived x) (l .1)
 leads-walk b (n ∷ ns) zero p e t l = absurd l
 leads-walk b (n ∷ ns) (suc d) p e t l =
-    ap (λ (o : Option ℕ). enterOn n (Option·map (entryAt b) o) (walkOn b ns)) (l .2)
-    ∙ ap (λ (x : Entry). enterOn n (some x) (walkOn b ns)) (l .3 .is)
+    ap (λ (o : Option ℕ). enterOn n (Option·map (entryAt b) o) (walkOn (view b) ns)) (l .2)
+    ∙ ap (λ (x : Entry). enterOn n (some x) (walkOn (view b) ns)) (l .3 .is)
     ∙ leads-walk b ns d (l .1) e t (l .4)

@@ -15,6 +15,7 @@ use Rattle.volume.specs.Lists.{all, member, countFrom, upTo}
 use Rattle.volume.proofs.Occ.{occ, Mem, Nodup, Under, mem-head, mem-tail, mem-cons, not-mem, nodup-cons, nodup-head, nodup-tail, under-cons, under-head, under-tail}
 use Rattle.volume.proofs.Tests.{no-conditions, cons-conditions, occ-member, occ-distinct, all-occ, occ-all, occ-countFrom, countFrom-occ, eq-eqb}
 use Rattle.model.specs.Layout.{pageCount, link}
+use Rattle.model.specs.Version1.{view}
 use Rattle.model.specs.Sound.{sound, pagesAt, reachedEntries}
 use Rattle.laws.proofs.Facts.{Facts, sound-facts}
 use Rattle.moves.specs.Tidy.{placeOf, neighbours, ownerEntry, accepted}
@@ -191,10 +192,10 @@ module _ {b : Bytes} (f : Facts b) (places : List ℕ) where
       go p true k = linked-leads b places p (k tt)
       go p false k = tt
 
-  near-all : all (leadsOn b places) (countFrom 1 (pageCount b - 1)) ≡ all (λ at. neighbours (map (placeOf places) (pagesAt b at))) (reachedEntries b)
+  near-all : all (leadsOn b places) (countFrom 1 (pageCount b - 1)) ≡ all (λ at. neighbours (map (placeOf places) (pagesAt (view b) at))) (reachedEntries b)
   near-all = both-ways
-      (λ t. occ-all (λ at. neighbours (map (placeOf places) (pagesAt b at))) (reachedEntries b) (links-near b f places .0 (leads-links t)))
-      (λ t. links-leads (links-near b f places .1 (all-occ (λ at. neighbours (map (placeOf places) (pagesAt b at))) (reachedEntries b) t)))
+      (λ t. occ-all (λ at. neighbours (map (placeOf places) (pagesAt (view b) at))) (reachedEntries b) (links-near b f places .0 (leads-links t)))
+      (λ t. links-leads (links-near b f places .1 (all-occ (λ at. neighbours (map (placeOf places) (pagesAt (view b) at))) (reachedEntries b) t)))
 
 -- ---- the check
 
@@ -227,4 +228,4 @@ module _ (b : Bytes) (places : List ℕ) where
       (cons-conditions _ _ (occ-distinct places (t .once))
       (cons-conditions _ _ (eq-eqb z)
       (cons-conditions _ [] n no-conditions)))))
-      (λ a. occ-all (λ at. neighbours (map (placeOf places) (pagesAt b at))) (reachedEntries b) (accepted-is b places a .near))
+      (λ a. occ-all (λ at. neighbours (map (placeOf places) (pagesAt (view b) at))) (reachedEntries b) (accepted-is b places a .near))

@@ -17,6 +17,7 @@ use Rattle.volume.proofs.Puts.{byte-part, part-length}
 use Rattle.volume.proofs.Tests.{eq-eqb}
 use Rattle.model.specs.Layout.{pageCount, link}
 use Rattle.model.specs.Entry.{startAt, entryCount, entriesStart, entries, Entry, vacant, aFile, aDirectory}
+use Rattle.model.specs.Version1.{view}
 use Rattle.model.specs.Image.{contentOn}
 use Rattle.audit.specs.Lent.{position, rest as from}
 use Rattle.moves.specs.Tidy.{placeOf, movedEntry, ownerEntry, movedAs, movedPage}
@@ -155,7 +156,7 @@ page-file places b y p x l n d t z q u e w =
     let k : 256 * p + 0 ≡ 256 * p = omega arith in
     let m : 1 + 255 ≡ 256 = refl in
     let first : byteAt y 0 ≡ link b p = ap (λ (v : Bytes). byteAt v 0) e ∙ byte-part (256 * p) 256 0 b (omega arith) ∙ ap (byteAt b) k in
-    let split : part (256 * p) 256 b ≡ link b p ∷ contentOn b p = ap (take 256) (drop-cons b (256 * p) 0 h) ∙ ap (λ (i : ℕ). link b p ∷ take 255 (drop i b)) (sym (add-one (256 * p))) in
+    let split : part (256 * p) 256 b ≡ link b p ∷ contentOn (view b) p = ap (take 256) (drop-cons b (256 * p) 0 h) ∙ ap (λ (i : ℕ). link b p ∷ take 255 (drop i b)) (sym (add-one (256 * p))) in
     ap₂ (λ (v : Bytes) (i : ℕ). set v 0 i) (e ∙ split) (w ∙ ap (placeOf places) first)
     ∙ page-as places b p q
 

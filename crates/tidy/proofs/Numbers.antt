@@ -18,6 +18,7 @@ use Rattle.volume.proofs.Flat.{occ-flatMap-le}
 use Rattle.volume.proofs.Chains.{chain-length}
 use Rattle.model.specs.Layout.{pageCount, pagesFor, link}
 use Rattle.model.specs.Entry.{Entry, vacant, aFile, aDirectory}
+use Rattle.model.specs.Version1.{view}
 use Rattle.model.specs.Sound.{pagesOf, sound}
 use Rattle.laws.proofs.Facts.{valid-sized, sound-facts}
 use Rattle.moves.specs.Tidy.{ownerEntry}
@@ -187,13 +188,13 @@ module _ (b : Bytes) (p next : ℕ) (row : List ℕ) where
   module _ {l : Bool} {n d : Bytes} {start size : ℕ} (q : ownerEntry b p ≡ aFile l n d start size) where
     pub file-elsewhere : start ≢ p → Numbered (fileFrom b p) next row
     file-elsewhere ne =
-        numbered-none (sym (file-of b p q) ∙ ap (λ (c : Bool). if c then pagesOf b (aFile l n d start size) else []) (false-of {c = eqb start p} (λ t. ne (eqb→eq start p t))))
+        numbered-none (sym (file-of b p q) ∙ ap (λ (c : Bool). if c then pagesOf (view b) (aFile l n d start size) else []) (false-of {c = eqb start p} (λ t. ne (eqb→eq start p t))))
 
     pub file-here : start ≡ p → (k : ℕ) → k ≡ pagesFor size → chain (link b) k start ≡ fileFrom b p
     unfolding pagesOf
     file-here e k w =
         ap (λ (i : ℕ). chain (link b) i start) w
-        ∙ sym (ap (λ (c : Bool). if c then pagesOf b (aFile l n d start size) else []) (true-of {c = eqb start p} (eq-eqb e))) ∙ file-of b p q
+        ∙ sym (ap (λ (c : Bool). if c then pagesOf (view b) (aFile l n d start size) else []) (true-of {c = eqb start p} (eq-eqb e))) ∙ file-of b p q
 
     pub file-done : start ≡ p → (k r : ℕ) (row′ : List ℕ) → k ≡ pagesFor size → r ≡ next + k → row′ ≡ numbered next (chain (link b) k start) row → Numbered (fileFrom b p) r row′
     file-done e k r row′ w x y =

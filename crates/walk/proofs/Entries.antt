@@ -10,6 +10,7 @@ use Rattle.volume.specs.Bytes.{Bytes}
 use Rattle.volume.specs.Lists.{first, countFrom}
 use Rattle.model.specs.Layout.{pageSize, pageCount}
 use Rattle.model.specs.Entry.{entryCount, entriesStart, entries, isLocked, nameAt, dateAt, entryAt}
+use Rattle.model.specs.Version1.{view}
 use Rattle.model.specs.Sound.{isNamed}
 use Rattle.model.specs.Path.{Name}
 use Rattle.model.specs.Walk.{arrived, missing, blocked, entryNamed, enterOn}
@@ -30,14 +31,14 @@ Looked b p n i = Sought (λ at. isNamed n (entryAt b at)) p i
 -- `end` entries are looked at, and entry i stands at `at`
 module _ (b n : Bytes) (p i end : ℕ) (count : end ≡ entryCount p) (l : Looked b p n i) where
   module _ (h : i < end) (at : ℕ) (here : at ≡ entriesStart p + 32 * i) (r : Bool) (asked : r ≡ isNamed n (entryAt b at)) where
-    pub looked-named : r ≡ true → some at ≡ entryNamed b p n
+    pub looked-named : r ≡ true → some at ≡ entryNamed (view b) p n
     unfolding entryNamed
     looked-named e = rw here (sought-here l (omega arith) (rw here at (sym asked ∙ e)))
 
     pub looked-on : r ≡ false → Looked b p n (i + 1)
     looked-on e = sought-next l (omega arith) (rw here at (sym asked ∙ e))
 
-  pub looked-last : end ≤ i → none ≡ entryNamed b p n
+  pub looked-last : end ≤ i → none ≡ entryNamed (view b) p n
   unfolding entryNamed
   looked-last h = sought-none l (omega arith)
 
@@ -53,13 +54,13 @@ unfolding first countFrom
 none-past b n p i zero h = refl
 none-past b n p i (suc k) h = rw (past-vacant b n (entriesStart p + 32 * i) (omega arith)) (none-past b n p (suc i) k h)
 
-pub page-past : (b n : Bytes) (p pages : ℕ) → pageSize * pageCount b ≡ length b → pages ≡ pageCount b → pages ≤ p → none ≡ entryNamed b p n
+pub page-past : (b n : Bytes) (p pages : ℕ) → pageSize * pageCount b ≡ length b → pages ≡ pageCount b → pages ≤ p → none ≡ entryNamed (view b) p n
 unfolding entryNamed entries
 page-past b n p pages w e h = sym (none-past b n p 0 (entryCount p) (omega arith))
 
 -- ---- one name on: the answer for its entry is s
 
-module _ (b : Bytes) (begins : ℕ) (bytes : Bytes) (p : ℕ) (s : Spot) (spot : spotOf s ≡ entryNamed b p bytes) where
+module _ (b : Bytes) (begins : ℕ) (bytes : Bytes) (p : ℕ) (s : Spot) (spot : spotOf s ≡ entryNamed (view b) p bytes) where
   abbrev name : Name
   name = record { begins = begins; bytes = bytes }
 

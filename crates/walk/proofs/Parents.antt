@@ -13,6 +13,7 @@ use Rattle.volume.specs.Lists.{all, lastOr}
 use Rattle.volume.proofs.Tests.{and-both}
 use Rattle.model.specs.Name.{legalText, padded}
 use Rattle.model.specs.Entry.{Entry, vacant, aFile, aDirectory, entryAt}
+use Rattle.model.specs.Version1.{view}
 use Rattle.model.specs.Path.{Name, Path, noPath, below, before, texts, namesFrom, pathTo, pathOf, isNoPath, parents}
 use Rattle.model.specs.Walk.{Walked, arrived, missing, blocked, inWalked, entryNamed, enterOn, walkOn}
 use Rattle.model.proofs.Bounds.{text-fits}
@@ -76,9 +77,9 @@ enter-then n (some vacant) on = refl
 enter-then n (some (aFile locked name date start size)) on = refl
 enter-then n (some (aDirectory name date start size)) on = refl
 
-walk-step : (b : Bytes) (n : Name) (ns : List Name) (p : ℕ) → walkOn b (n ∷ ns) p ≡ inWalked (entered b n p) (walkOn b ns)
+walk-step : (b : Bytes) (n : Name) (ns : List Name) (p : ℕ) → walkOn (view b) (n ∷ ns) p ≡ inWalked (entered b n p) (walkOn (view b) ns)
 unfolding walkOn
-walk-step b n ns p = enter-then n (Option·map (entryAt b) (entryNamed b p (n .bytes))) (walkOn b ns)
+walk-step b n ns p = enter-then n (Option·map (entryAt b) (entryNamed (view b) p (n .bytes))) (walkOn (view b) ns)
 
 -- ---- where the walk of a path stands: in the directory on page p, before the name that begins at `from`
 
@@ -135,19 +136,19 @@ module _ {b path : Bytes} {p from : ℕ} (s : Standing b path p from) (to : ℕ)
     pub standing-fits : length (take (to - from) (drop from path)) ≤ 16
     standing-fits = text-fits _ (legal .0)
 
-    stepped : inWalked (inWalked (entered b (nameIn path from to) p) (walkOn b (parents (rest path (to + 1)))))
+    stepped : inWalked (inWalked (entered b (nameIn path from to) p) (walkOn (view b) (parents (rest path (to + 1)))))
         (λ q. arrived (q, last (rest path (to + 1)))) ≡ walkedParent b (pathOf path) 0
     stepped =
         let r = rest-more path from to (s .low) is h in
         ap (λ (w : Walked ℕ). inWalked w (λ q. arrived (q, last (rest path (to + 1)))))
         (sym (walk-step b (nameIn path from to) (parents (rest path (to + 1))) p))
-        ∙ ap₂ (λ (ns : List Name) (n : Name). inWalked (walkOn b ns p) (λ q. arrived (q, n))) (sym (r .0)) (sym (r .1)) ∙ s .left
+        ∙ ap₂ (λ (ns : List Name) (n : Name). inWalked (walkOn (view b) ns p) (λ q. arrived (q, n))) (sym (r .0)) (sym (r .1)) ∙ s .left
 
     -- one turn: the name is v, and the answer for the step is r
     module _ (v : Bytes) (name : v ≡ padded (take (to - from) (drop from path))) (r : Reached)
         (step : walkedOf r ≡ entered b (record { begins = from; bytes = v }) p) where
       gone : (x : Reached) → r ≡ x
-          → inWalked (inWalked (walkedOf x) (walkOn b (parents (rest path (to + 1)))))
+          → inWalked (inWalked (walkedOf x) (walkOn (view b) (parents (rest path (to + 1)))))
           (λ q. arrived (q, last (rest path (to + 1)))) ≡ walkedParent b (pathOf path) 0
       gone x e =
           let stands : walkedOf x ≡ entered b (nameIn path from to) p = ap walkedOf (sym e) ∙ step

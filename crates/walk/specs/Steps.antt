@@ -6,6 +6,7 @@ use lib.ListN.{length, take, drop}
 use Rattle.volume.specs.Bytes.{Bytes}
 use Rattle.model.specs.Name.{padded}
 use Rattle.model.specs.Entry.{entryAt}
+use Rattle.model.specs.Version1.{view}
 use Rattle.model.specs.Path.{Name, Path, noPath, root, below, parents}
 use Rattle.model.specs.Walk.{Walked, arrived, missing, blocked, inWalked, entryNamed, enterOn, walkOn}
 use Rattle.walk.specs.declared.Spot.{Spot}
@@ -37,7 +38,7 @@ Small (Blocked byte) = Unit {0}
 
 -- one name on from the directory on page p
 abbrev pub entered : Bytes → Name → (page : ℕ) → Walked ℕ
-entered b n p = enterOn n (Option·map (entryAt b) (entryNamed b p (n .bytes))) arrived
+entered b n p = enterOn n (Option·map (entryAt b) (entryNamed (view b) p (n .bytes))) arrived
 
 -- ---- the parent of a path
 
@@ -52,7 +53,7 @@ last (below ns n) = n
 
 -- the page of the directory that all names but the last lead to from the one on page p, and the last name
 abbrev pub walkedParent : Bytes → Path → (page : ℕ) → Walked (ℕ × Name)
-walkedParent b path p = inWalked (walkOn b (parents path) p) (λ q. arrived (q, last path))
+walkedParent b path p = inWalked (walkOn (view b) (parents path) p) (λ q. arrived (q, last path))
 
 abbrev pub parentOf : Bytes → Parent → Walked (ℕ × Name)
 parentOf path (into.In walk from) = arrived (walk .0 .0, nameIn path from (length path))

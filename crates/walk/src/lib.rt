@@ -4,6 +4,7 @@ ghost use mathlib.Core.Bool.{true, not};
 ghost use Prim.Native.Nat.{_+_, _*_, _<_, _≤_};
 ghost use lib.ListN.{length};
 ghost use Rattle.model.specs.Layout.{pageSize, pageCount};
+ghost use Rattle.model.specs.Version1.{view};
 ghost use Rattle.model.specs.Path.{pathOf, isNoPath};
 ghost use Rattle.model.specs.Walk.{entryNamed};
 ghost use Rattle.walk.specs.Steps.{spotOf, Inside, walkedOf, Small, entered, walkedParent, parentOf, Fits};
@@ -29,7 +30,7 @@ pub enum Reached {
 // The entry of that name in a directory. A page past the image holds none: a start page may be any byte.
 pub fn entry_named(image: &[u8], directory: Page, name: &[u8]) -> Spot
     requires { ⌜ (directory .0 < 256) × (pageSize * pageCount (now image) ≡ length (now image)) ⌝ }
-    ensures { λ r. ⌜ Inside (now (image .entry)) r × (spotOf r ≡ entryNamed (now (image .entry)) (directory .0) (now (name .entry))) ⌝ }
+    ensures { λ r. ⌜ Inside (now (image .entry)) r × (spotOf r ≡ entryNamed (view (now (image .entry))) (directory .0) (now (name .entry))) ⌝ }
 {
     if fields::page_count(image.len()) <= directory.0 {
         return Spot::Nowhere;

@@ -13,6 +13,7 @@ use Rattle.volume.specs.Bytes.{Bytes}
 use Rattle.volume.specs.Chain.{chain}
 use Rattle.model.specs.Layout.{pagesFor, link}
 use Rattle.model.specs.Entry.{isLocked, dateAt}
+use Rattle.model.specs.Version1.{view}
 use Rattle.model.specs.Tree.{Node, fileNode}
 use Rattle.model.specs.Path.{pathOf}
 use Rattle.model.specs.Image.{contentOf, treeOf}
@@ -41,12 +42,12 @@ pastOr from space n = (ltb (length (contentIn n)) from, refusal 12) ∷ space n 
 
 -- a file in the tree, by its entry
 abbrev pub fileAt : Bytes → (entry start size : ℕ) → Node
-fileAt b entry start k = fileNode (isLocked b entry) (dateAt b entry) (contentOf b k (chain (link b) (pagesFor k) start))
+fileAt b entry start k = fileNode (isLocked b entry) (dateAt b entry) (contentOf (view b) k (chain (link b) (pagesFor k) start))
 
 -- what is left of a file's node: its content is as long as its size
 pub record Content (b path : Bytes) (entry begins start k : ℕ) : Type 0 where
   pub arrived : Arrived b path (theFile entry begins start k)
-  pub long : length (contentOf b k (chain (link b) (pagesFor k) start)) ≡ k
+  pub long : length (contentOf (view b) k (chain (link b) (pagesFor k) start)) ≡ k
 
 pub content-at : (b path : Bytes) {entry begins start k : ℕ} → granted (theFile entry begins start k) ≡ placed b path → Content b path entry begins start k
 content-at b path {entry} {begins} {start} {k} e =

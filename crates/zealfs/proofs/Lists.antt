@@ -12,6 +12,7 @@ use Rattle.volume.specs.Chain.{chain}
 use Rattle.volume.proofs.Occ.{Mem, mem-head, mem-tail}
 use Rattle.model.specs.Layout.{pageSize, pageCount, pagesFor, link}
 use Rattle.model.specs.Entry.{entryCount, entriesStart, entries, isLocked, nameAt, dateAt, Entry, vacant, aFile, aDirectory, entryAt}
+use Rattle.model.specs.Version1.{view}
 use Rattle.model.specs.Sound.{pagesOf}
 use Rattle.model.specs.Tree.{Row, end, width, freeNumber}
 use Rattle.model.specs.Path.{Name, pathOf, isNoPath, names}
@@ -42,32 +43,32 @@ listedOf b (at ∷ ats) (suc i) = listedOf b ats i
 
 -- the files at these positions are as long as their sizes say
 abbrev Told : Bytes → List ℕ → Type 0
-Told b ats = (at : ℕ) → Mem at ats → (locked : Bool) (name date : Bytes) (start k : ℕ) → entryAt b at ≡ aFile locked name date start k → length (contentOf b k (chain (link b) (pagesFor k) start)) ≡ k
+Told b ats = (at : ℕ) → Mem at ats → (locked : Bool) (name date : Bytes) (start k : ℕ) → entryAt b at ≡ aFile locked name date start k → length (contentOf (view b) k (chain (link b) (pagesFor k) start)) ≡ k
 
 abbrev rowAnswer : Row → ℕ → Answer Listed
 rowAnswer r i = if leb (width r) i then refused (refusal 12) else granted (listed r i)
 
-entry-first : (b : Bytes) (g : ℕ → Row) (at : ℕ) (rest : Row) → Told b (at ∷ []) → rowAnswer (entryRow b g (entryAt b at) rest) 0 ≡ granted (entryTold (entryAt b at))
+entry-first : (b : Bytes) (g : ℕ → Row) (at : ℕ) (rest : Row) → Told b (at ∷ []) → rowAnswer (entryRow (view b) g (entryAt b at) rest) 0 ≡ granted (entryTold (entryAt b at))
 unfolding entryRow width listed entryTold pagesOf
 entry-first b g at rest h = go (entryAt b at) (λ locked name date start k. h at (mem-head at []) locked name date start k)
   where
-    go : (x : Entry) → ((locked : Bool) (name date : Bytes) (start k : ℕ) → x ≡ aFile locked name date start k → length (contentOf b k (chain (link b) (pagesFor k) start)) ≡ k)
-        → rowAnswer (entryRow b g x rest) 0 ≡ granted (entryTold x)
+    go : (x : Entry) → ((locked : Bool) (name date : Bytes) (start k : ℕ) → x ≡ aFile locked name date start k → length (contentOf (view b) k (chain (link b) (pagesFor k) start)) ≡ k)
+        → rowAnswer (entryRow (view b) g x rest) 0 ≡ granted (entryTold x)
     go vacant h = rw (leb·suc-zero (width rest))
     go (aFile locked name date start k) h = rw (leb·suc-zero (width rest), h locked name date start k refl)
     go (aDirectory name date start k) h = rw (leb·suc-zero (width rest))
 
-entry-other : (b : Bytes) (g : ℕ → Row) (x : Entry) (rest : Row) (i : ℕ) → rowAnswer (entryRow b g x rest) (suc i) ≡ rowAnswer rest i
+entry-other : (b : Bytes) (g : ℕ → Row) (x : Entry) (rest : Row) (i : ℕ) → rowAnswer (entryRow (view b) g x rest) (suc i) ≡ rowAnswer rest i
 unfolding entryRow width listed
 entry-other b g vacant rest i = rw (leb·suc-suc (width rest) i)
 entry-other b g (aFile locked name date start k) rest i = rw (leb·suc-suc (width rest) i)
 entry-other b g (aDirectory name date start k) rest i = rw (leb·suc-suc (width rest) i)
 
-row-listed : (b : Bytes) (g : ℕ → Row) (ats : List ℕ) (i : ℕ) → Told b ats → rowAnswer (rowOf b g ats) i ≡ listedOf b ats i
+row-listed : (b : Bytes) (g : ℕ → Row) (ats : List ℕ) (i : ℕ) → Told b ats → rowAnswer (rowOf (view b) g ats) i ≡ listedOf b ats i
 unfolding rowOf listedOf width
 row-listed b g [] i h = rw (leb·zero i)
-row-listed b g (at ∷ ats) zero h = entry-first b g at (rowOf b g ats) (λ x m. h x (omega (arith, m)))
-row-listed b g (at ∷ ats) (suc i) h = entry-other b g (entryAt b at) (rowOf b g ats) i ∙ row-listed b g ats i (λ x m. h x (mem-tail x at ats m))
+row-listed b g (at ∷ ats) zero h = entry-first b g at (rowOf (view b) g ats) (λ x m. h x (omega (arith, m)))
+row-listed b g (at ∷ ats) (suc i) h = entry-other b g (entryAt b at) (rowOf (view b) g ats) i ∙ row-listed b g ats i (λ x m. h x (mem-tail x at ats m))
 
 -- ---- the entries of a page
 
@@ -81,12 +82,12 @@ page-listed : (b : Bytes) (p i : ℕ) → listedOf b (entries p) i ≡ entryList
 unfolding entries entryListed
 page-listed b p i = let e : 0 + i ≡ i = omega arith in entries-listed b (entriesStart p) 0 (entryCount p) i ∙ rw e
 
-directory-listed : (b : Bytes) → Facts b → (ns : List Name) (t : ℕ) → walkOn b ns 0 ≡ arrived t → (i : ℕ) → rowAnswer (rowAt (pageCount b) b t) i ≡ entryListed b t i
+directory-listed : (b : Bytes) → Facts b → (ns : List Name) (t : ℕ) → walkOn (view b) ns 0 ≡ arrived t → (i : ℕ) → rowAnswer (rowAt (pageCount b) (view b) t) i ≡ entryListed b t i
 unfolding rowAt
 directory-listed b f ns t come i =
     let deep : pageCount b ≡ suc (pageCount b - 1) = omega (arith, valid-sized b (f .fits) .low) in
-    ap (λ (k : ℕ). rowAnswer (rowAt k b t) i) deep
-    ∙ row-listed b (rowAt (pageCount b - 1) b) (entries t) i (λ at m locked name date start k is. size-told b f ns t come at m is)
+    ap (λ (k : ℕ). rowAnswer (rowAt k (view b) t) i) deep
+    ∙ row-listed b (rowAt (pageCount b - 1) (view b)) (entries t) i (λ at m locked name date start k is. size-told b f ns t come at m is)
     ∙ page-listed b t i
 
 -- ---- the call
@@ -100,14 +101,14 @@ module _ (b path : Bytes) (i : ℕ) where
   abbrev linesOf : Walked Row → Answer Listed
   linesOf w = settle (walkLines w ++ ((leb (width (arrivedOr end w)) i, refusal 12) ∷ spaceLine (list path i) (treeOf b) ∷ [])) refused (granted (listed (arrivedOr end w) i))
 
-  walk-listed : Facts b → T (not (isNoPath (pathOf path))) → linesOf (mapWalked (rowAt (pageCount b) b) (inWalked (located b (pathOf path)) entered)) ≡ opened refused (listAt b i) (walkedAnswer (located b (pathOf path)))
+  walk-listed : Facts b → T (not (isNoPath (pathOf path))) → linesOf (mapWalked (rowAt (pageCount b) (view b)) (inWalked (located b (pathOf path)) entered)) ≡ opened refused (listAt b i) (walkedAnswer (located b (pathOf path)))
   unfolding settle isMissing isBlocked stoppedAt arrivedOr mapWalked inWalked entered walkedAnswer wanted
   walk-listed f h = go (located b (pathOf path)) refl
     where
-      row : (t : ℕ) → walkOn b (names (pathOf path)) 0 ≡ arrived t → linesOf (arrived (rowAt (pageCount b) b t)) ≡ entryListed b t i
+      row : (t : ℕ) → walkOn (view b) (names (pathOf path)) 0 ≡ arrived t → linesOf (arrived (rowAt (pageCount b) (view b) t)) ≡ entryListed b t i
       row t come = rw (leb·suc-zero (freeNumber (treeOf b))) (directory-listed b f (names (pathOf path)) t come i)
 
-      go : (l : Walked Spot) → located b (pathOf path) ≡ l → linesOf (mapWalked (rowAt (pageCount b) b) (inWalked l entered)) ≡ opened refused (listAt b i) (walkedAnswer l)
+      go : (l : Walked Spot) → located b (pathOf path) ≡ l → linesOf (mapWalked (rowAt (pageCount b) (view b)) (inWalked l entered)) ≡ opened refused (listAt b i) (walkedAnswer l)
       go (arrived theRoot) e = row 0 (walk-entered b (pathOf path) h ∙ ap (λ (w : Walked Spot). inWalked w entered) e)
       go (arrived (theFile at begins start size)) e = refl
       go (arrived (theDirectory at begins start size)) e = row start (walk-entered b (pathOf path) h ∙ ap (λ (w : Walked Spot). inWalked w entered) e)
@@ -121,7 +122,7 @@ module _ (b path : Bytes) (i : ℕ) where
       go : Facts b → (c : Bool) → isNoPath (pathOf path) ≡ c → (if c then refused (refusal 4) else linesOf (walkedDirectory path (treeOf b))) ≡ (if c then refused (refusal 4) else opened refused (listAt b i) (walkedAnswer (located b (pathOf path))))
       go f true e = refl
       go f false e = let h = subst (λ (c : Bool). T (not c)) (sym e) tt in
-          ap linesOf (walk-bytes f (names (pathOf path)) ∙ ap (mapWalked (rowAt (pageCount b) b)) (walk-entered b (pathOf path) h)) ∙ walk-listed f h
+          ap linesOf (walk-bytes f (names (pathOf path)) ∙ ap (mapWalked (rowAt (pageCount b) (view b))) (walk-entered b (pathOf path) h)) ∙ walk-listed f h
 
   pub list-refused : {m : Refusal} → refused m ≡ placed b path → refused m ≡ answer (list path i) b
   list-refused e = ap (opened refused (listAt b i)) e ∙ sym list-placed

@@ -14,6 +14,7 @@ use Rattle.volume.specs.Chain.{chain}
 use Rattle.volume.proofs.Splice.{drop-take}
 use Rattle.volume.proofs.Stretches.{take-min}
 use Rattle.model.specs.Layout.{pagesFor, link}
+use Rattle.model.specs.Version1.{view}
 use Rattle.model.specs.Tree.{Node, freeNumber}
 use Rattle.model.specs.Image.{contentOn, contentOf, treeOf}
 use Rattle.model.specs.Call.{read, Refusal, refusal, Answer, refused, granted}
@@ -110,7 +111,7 @@ module _ (b path : Bytes) (at : ℕ) (room : Bytes) where
 
     module _ (h : at ≤ k) (count : ℕ) (least : count ≡ min (length room) (k - at)) where
       abbrev xs : Bytes
-      xs = flatMap (contentOn b) (chain (link b) (pagesFor k) start)
+      xs = flatMap (contentOn (view b)) (chain (link b) (pagesFor k) start)
 
       long : length (take k xs) ≡ k
       unfolding contentOf
@@ -120,7 +121,7 @@ module _ (b path : Bytes) (at : ℕ) (room : Bytes) where
       unfolding answer told contentIn contentOf
       read-answer = ap granted (copied-count xs room k at count long least) ∙ file-done refused counted h
 
-      pub read-buffer : (n : ℕ) → n ≡ pagesFor k → {room′ : Bytes} → room′ ≡ put 0 (take count (drop at (flatMap (contentOn b) (chain (link b) n start)))) room
+      pub read-buffer : (n : ℕ) → n ≡ pagesFor k → {room′ : Bytes} → room′ ≡ put 0 (take count (drop at (flatMap (contentOn (view b)) (chain (link b) n start)))) room
           → room′ ≡ bufferAfter (read path at room) b
       unfolding bufferAfter filled contentIn contentOf
       read-buffer n many copy = (rw many at copy) ∙ ap (λ (v : Bytes). put 0 v room) (copied-part xs room k at count long least) ∙ file-done (λ m. room) held h

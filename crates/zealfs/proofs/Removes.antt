@@ -13,6 +13,7 @@ use Rattle.volume.specs.Chain.{chain}
 use Rattle.volume.specs.Geometry as On
 use Rattle.model.specs.Layout.{version1, pageCount, pagesFor, link}
 use Rattle.model.specs.Entry.{isLocked, entries}
+use Rattle.model.specs.Version1.{view}
 use Rattle.model.specs.Tree.{Row, end, held, freeNumber, Node, directoryNode}
 use Rattle.model.specs.Path.{Name, Path, noPath, root, below, pathOf, isNoPath, isRoot, names}
 use Rattle.model.specs.Image.{rowAt, treeOf}
@@ -87,7 +88,7 @@ module _ {A : Type 0} (b path : Bytes) (f : Refusal → A) (x : A) where
   abbrev directoryLinesOf : Walked Row → A
   directoryLinesOf w = settle (walkLines w ++ (spaceLine (removeDirectory path) (treeOf b) ∷ (ltb 0 (held (arrivedOr end w)), refusal 13) ∷ [])) f x
 
-  walk-directory : (p : Path) → (p ≡ root → ⊥) → Facts b → directoryLinesOf (mapWalked (rowAt (pageCount b) b) (inWalked (located b p) entered)) ≡ opened f (removeDirectoryAt b f x) (walkedAnswer (located b p))
+  walk-directory : (p : Path) → (p ≡ root → ⊥) → Facts b → directoryLinesOf (mapWalked (rowAt (pageCount b) (view b)) (inWalked (located b p) entered)) ≡ opened f (removeDirectoryAt b f x) (walkedAnswer (located b p))
   unfolding settle isMissing isBlocked stoppedAt arrivedOr mapWalked inWalked entered walkedAnswer wanted
   walk-directory p low facts = go (located b p) refl
     where
@@ -95,12 +96,12 @@ module _ {A : Type 0} (b path : Bytes) (f : Refusal → A) (x : A) where
       flip true = refl
       flip false = refl
 
-      go : (l : Walked Spot) → located b p ≡ l → directoryLinesOf (mapWalked (rowAt (pageCount b) b) (inWalked l entered)) ≡ opened f (removeDirectoryAt b f x) (walkedAnswer l)
+      go : (l : Walked Spot) → located b p ≡ l → directoryLinesOf (mapWalked (rowAt (pageCount b) (view b)) (inWalked l entered)) ≡ opened f (removeDirectoryAt b f x) (walkedAnswer l)
       go (arrived theRoot) e = absurd (low (located-at b p theRoot e))
       go (arrived (theFile at begins start k)) e = refl
       go (arrived (theDirectory at begins start k)) e =
           let deep : pageCount b ≡ suc (pageCount b - 1) = omega (arith, size facts .low) in
-          rw (leb·suc-zero (freeNumber (treeOf b)), ap (λ (d : ℕ). held (rowAt d b start)) deep, directory-holds (pageCount b - 1) b start)
+          rw (leb·suc-zero (freeNumber (treeOf b)), ap (λ (d : ℕ). held (rowAt d (view b) start)) deep, directory-holds (pageCount b - 1) b start)
           (flip (all (vacancy b) (entries start)))
       go (missing i) e = refl
       go (blocked i) e = refl
@@ -114,7 +115,7 @@ module _ {A : Type 0} (b path : Bytes) (f : Refusal → A) (x : A) where
       go facts noPath = refl
       go facts root = refl
       go facts (below ns n) =
-          ap directoryLinesOf (walk-bytes facts (names (below ns n)) ∙ ap (mapWalked (rowAt (pageCount b) b)) (walk-entered b (below ns n) tt))
+          ap directoryLinesOf (walk-bytes facts (names (below ns n)) ∙ ap (mapWalked (rowAt (pageCount b) (view b))) (walk-entered b (below ns n) tt))
           ∙ walk-directory (below ns n) (not-root ns n) facts
 
 -- ---- the answer and the image

@@ -13,6 +13,7 @@ use Rattle.volume.specs.Lists.{all, lastOr}
 use Rattle.volume.proofs.Tests.{and-both}
 use Rattle.model.specs.Name.{legalText}
 use Rattle.model.specs.Entry.{entries, Entry, vacant, aFile, aDirectory, entryAt}
+use Rattle.model.specs.Version1.{view}
 use Rattle.model.specs.Tree.{Row, end, free, file, dir, Node, fileNode, directoryNode, lookup}
 use Rattle.model.specs.Path.{Name, Path, noPath, root, below, texts, namesFrom, pathTo, pathOf, names}
 use Rattle.model.specs.Image.{entryRow, rowOf, rowAt}
@@ -30,21 +31,21 @@ height (file locked n d v r) = height r
 height (dir n d s r) = max (suc (height s)) (height r)
 
 height-entry : (k : ℕ) (b : Bytes) (g : ℕ → Row) → ((p : ℕ) → height (g p) ≤ k) → (x : Entry) (rest : Row) → height rest ≤ suc k
-    → height (entryRow b g x rest) ≤ suc k
+    → height (entryRow (view b) g x rest) ≤ suc k
 unfolding height entryRow
 height-entry k b g h vacant rest r = r
 height-entry k b g h (aFile locked name date start size) rest r = r
 height-entry k b g h (aDirectory name date start size) rest r = omega (arith, h start)
 
-height-row : (k : ℕ) (b : Bytes) (g : ℕ → Row) → ((p : ℕ) → height (g p) ≤ k) → (ats : List ℕ) → height (rowOf b g ats) ≤ suc k
+height-row : (k : ℕ) (b : Bytes) (g : ℕ → Row) → ((p : ℕ) → height (g p) ≤ k) → (ats : List ℕ) → height (rowOf (view b) g ats) ≤ suc k
 unfolding height rowOf
 height-row k b g h [] = omega arith
-height-row k b g h (at ∷ ats) = height-entry k b g h (entryAt b at) (rowOf b g ats) (height-row k b g h ats)
+height-row k b g h (at ∷ ats) = height-entry k b g h (entryAt b at) (rowOf (view b) g ats) (height-row k b g h ats)
 
-pub height-at : (k : ℕ) (b : Bytes) (p : ℕ) → height (rowAt k b p) ≤ k
+pub height-at : (k : ℕ) (b : Bytes) (p : ℕ) → height (rowAt k (view b) p) ≤ k
 unfolding height rowAt
 height-at zero b p = omega arith
-height-at (suc k) b p = height-row k b (rowAt k b) (λ q. height-at k b q) (entries p)
+height-at (suc k) b p = height-row k b (rowAt k (view b)) (λ q. height-at k b q) (entries p)
 
 -- a directory that a row holds has a level less
 abbrev Lower : Option Node → ℕ → Type 0
