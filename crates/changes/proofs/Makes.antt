@@ -27,12 +27,9 @@ use Rattle.chains.specs.Asked.{Growing}
 use Rattle.changes.specs.Asked.{Making}
 use Rattle.changes.proofs.Vacancies.{vacancy, first-entry}
 
--- ---- as the code goes: n is the page count, w the new entry's bytes, and b₁ the image with them
+-- ---- as the code goes: n is the page count, and b₁ the image with the new entry's bytes
 
-module _ {at fl z k : ℕ} {name date b : Bytes} (m : Making at fl z k name date b) {n : ℕ} {w b₁ : Bytes} (en : n ≡ pageCount b) (ew : w ≡ newEntry fl name 0 z date) (e₁ : b₁ ≡ put at w b) where
-  as-put : b₁ ≡ put at (newEntry fl name 0 z date) b
-  as-put = e₁ ∙ ap (λ (v : Bytes). put at v b) ew
-
+module _ {at fl z k : ℕ} {name date b : Bytes} (m : Making at fl z k name date b) {n : ℕ} {b₁ : Bytes} (en : n ≡ pageCount b) (as-put : b₁ ≡ put at (newEntry fl name 0 z date) b) where
   pub put-growing : Growing n k (at + 17) b₁
   put-growing = subst (λ (i : ℕ). Growing i k (at + 17) b₁) (sym en) (subst (Growing (pageCount b) k (at + 17)) (sym as-put) (m .growing))
 

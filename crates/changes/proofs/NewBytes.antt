@@ -3,10 +3,11 @@ use mathlib.Core.Path.{_≡_, refl, sym, ap, _∙_}
 use Prim.Native.Nat.{ℕ, _+_, _-_, _≤_}
 use native.Mathlib.Nat.{add-zero, zero-add}
 use native.Mathlib.Omega.{arith}
-use mathlib.Core.List.{[], _∷_, _++_, append-assoc}
-use lib.ListN.{length, set, drop, replicate, length-append}
+use mathlib.Core.List.{[], _∷_, _++_, append-assoc, append-nil}
+use lib.ListN.{length, set, drop, replicate, length-append, length-drop, drop-of-length-le}
+use lib.Seq.{length-take-le}
 use borrow.Rule.Slice.PartMut.{midOf, putMid}
-use Rattle.volume.specs.Bytes.{Bytes, put, le16}
+use Rattle.volume.specs.Bytes.{Bytes, put, le16, zeros}
 use Rattle.volume.proofs.Splice.{splice-right}
 use Rattle.model.specs.Entry.{newEntry}
 use Rattle.volume.proofs.Lent.{lent-filled}
@@ -44,3 +45,21 @@ module _ (fl : ℕ) (name : Bytes) (size : ℕ) (date : Bytes) (ln : length name
   pub new-bytes : {a w b r : Bytes} → a ≡ put 1 name (set (replicate 32 0) 0 fl) → w ≡ le16 size → b ≡ put 18 w a → r ≡ put 20 date b → r ≡ newEntry fl name 0 size date
   new-bytes {a} ea ew eb er =
       er ∙ ap (λ (x : Bytes). put 20 date x) (eb ∙ ap (λ (x : Bytes). put 18 x a) ew ∙ ap (λ (x : Bytes). put 18 (le16 size) x) (ea ∙ named) ∙ sized) ∙ dated
+
+  -- the same into a part of 32 bytes that was zeroed: p it was, and p₀ it came back as
+  pub filled-bytes : (p : Bytes) {p₀ a w b r : Bytes} → length p ≡ 32 → p₀ ≡ zeros (length p) → a ≡ put 1 name (set p₀ 0 fl) → w ≡ le16 size → b ≡ put 18 w a → r ≡ put 20 date b
+      → r ≡ newEntry fl name 0 size date
+  unfolding zeros
+  filled-bytes p long e₀ ea ew eb er = new-bytes (ea ∙ ap (λ (x : Bytes). put 1 name (set x 0 fl)) (e₀ ∙ ap (λ (n : ℕ). replicate n 0) long)) ew eb er
+
+-- as long as what was there, so all of it goes
+put-all : (v m : Bytes) → length v ≡ length m → put 0 v m ≡ v
+put-all v m e = let h : length m ≤ 0 + length v = omega arith in rw (drop-of-length-le m h) (append-nil v)
+
+-- a place lent for an entry, and filled
+pub entry-put : (at : ℕ) (v b ys : Bytes) → length v ≡ 32 → at + 32 ≤ length b → ys ≡ v → putMid at (at + 32 - at) b ys ≡ put at v b
+entry-put at v b ys l h e =
+    let k : at + length v - at ≡ length v = omega arith in
+    let room : length v ≤ length (drop at b) = omega (arith, length-drop at b) in
+    let m : length v ≡ length (midOf at (at + length v - at) b) = sym (rw k (length-take-le (length v) (drop at b) room)) in
+    rw (← l) (lent-put at v b ys (omega arith) (e ∙ sym (put-all v _ m)))

@@ -109,18 +109,35 @@ fn size_bytes(size: usize) -> [u8; 2]
     [(size % 256) as u8, (size / 256) as u8]
 }
 
-// The bytes of an entry whose start page is yet to come. What is not written stays 0: the start page, and the reserved bytes at the end.
+// Fills the place of an entry whose start page is yet to come. What is not written stays 0: the start page, and the reserved bytes at the end.
+fn fill_entry(part: &mut [u8], flags: u8, name: &[u8], size: usize, date: &[u8])
+    requires { ⌜ (length (now part) ≡ 32) × (length (now name) ≡ 16) × (length (now date) ≡ 8) × (size < 65536) ⌝ }
+    ensures { λ _. ⌜ now (part .exit) ≡ newEntry flags (now (name .entry)) 0 size (now (date .entry)) ⌝ }
+{
+    pages::zero(part);
+    part[0] = flags;
+    pages::copy_in(part, 1, name);
+    let sized = size_bytes(size);
+    pages::copy_in(part, 18, &sized);
+    pages::copy_in(part, 20, date);
+}
+
 pub fn new_entry(flags: u8, name: &[u8], size: usize, date: &[u8]) -> [u8; 32]
     requires { ⌜ (length (now name) ≡ 16) × (length (now date) ≡ 8) × (size < 65536) ⌝ }
     ensures { λ r. ⌜ r ≡ newEntry flags (now (name .entry)) 0 size (now (date .entry)) ⌝ }
 {
     let mut entry = [0u8; 32];
-    entry[0] = flags;
-    pages::copy_in(&mut entry, 1, name);
-    let sized = size_bytes(size);
-    pages::copy_in(&mut entry, 18, &sized);
-    pages::copy_in(&mut entry, 20, date);
+    fill_entry(&mut entry, flags, name, size, date);
     entry
+}
+
+// The entry is filled where it stands: bytes that are written one by one and then read as a whole would have to be waited for.
+fn put_entry(image: &mut [u8], at: usize, flags: u8, name: &[u8], size: usize, date: &[u8])
+    requires { ⌜ (at + 32 ≤ length (now image)) × (length (now name) ≡ 16) × (length (now date) ≡ 8) × (size < 65536) ⌝ }
+    ensures { λ _. ⌜ now (image .exit) ≡ put at (newEntry flags (now (name .entry)) 0 size (now (date .entry))) (now (image .entry)) ⌝ }
+{
+    let end = at + 32;
+    fill_entry(&mut image[at..end], flags, name, size, date);
 }
 
 // ---- make
@@ -139,8 +156,7 @@ pub fn make_entry(
     ensures { λ _. ⌜ now (image .exit) ≡ On.grown version1 (pageCount (now (image .entry))) pages (byte (entry + 17)) (put entry (newEntry flags (now (name .entry)) 0 size (now (date .entry))) (now (image .entry))) ⌝ }
 {
     let n = fields::page_count(image.len());
-    let bytes = new_entry(flags, name, size, date);
-    put(image, entry, &bytes);
+    put_entry(image, entry, flags, name, size, date);
     chains::grow(image, n, entry + 17, pages);
 }
 

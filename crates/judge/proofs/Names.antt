@@ -3,7 +3,7 @@ use mathlib.Core.Path.{_≡_, sym, ap, _∙_}
 use Prim.Native.Nat.{ℕ, suc, _-_, _≤_, _<_}
 use native.Mathlib.Omega.{arith}
 use mathlib.Core.Bool.{Bool, true, false, not, _&&_}
-use Rattle.volume.specs.Bytes.{Bytes}
+use Rattle.volume.specs.Bytes.{Bytes, byteAt}
 use Rattle.volume.specs.Lists.{all}
 use Rattle.model.specs.Entry.{nameAt, entryAt}
 use Rattle.model.specs.Name.{legalName}
@@ -17,6 +17,9 @@ use Rattle.judge.proofs.Marks.{told, untold}
 -- none of the entries before entry j of the directory on page d has the name n
 abbrev pub apart : Bytes → Bytes → (d j : ℕ) → Bool
 apart b n d j = all (λ at. not (isNamed n (entryAt b at))) (earlier d j)
+
+pub flags-here : (b : Bytes) (d i at : ℕ) → at ≡ position d i → 1 ≤ byteAt b (position d i) → 1 ≤ byteAt b at
+flags-here b d i at here h = rw here h
 
 -- the name of entry i of the directory on page d, which stands at `at`; it is legal or not, and so far apart from those before entry j
 module _ (b : Bytes) (d i j at : ℕ) (legal : Bool) (here : at ≡ position d i) (tested : legal ≡ legalName (nameAt b at)) where

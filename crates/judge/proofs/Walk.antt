@@ -1,25 +1,28 @@
 -- A directory is judged entry by entry, each turn with fewer pages without an owner or as many, and an entry by its cases.
-use mathlib.Core.Path.{_≡_, sym, subst, _∙_}
+use mathlib.Core.Path.{_≡_, refl, sym, subst, _∙_}
 use mathlib.Core.Logic.{_≢_}
 use Prim.Native.Nat.{ℕ, zero, suc, _+_, _-_, _≤_, _<_}
 use native.Mathlib.Nat.{le-refl, le-trans, sub-zero}
 use native.Mathlib.Numerals.{add-one}
 use native.Mathlib.Omega.{arith}
-use mathlib.Core.Bool.{Bool, true, false, not}
+use native.Mathlib.Decide.{decLt}
+use mathlib.Core.Bool.{Bool, true, false, not, false≢true}
 use mathlib.Core.List.{List, map}
 use lib.ListN.{length}
 use lib.Dec.{eqb}
 use borrow.Author.Tests.{eq-eqb, ne-eqb}
-use Rattle.volume.specs.Bytes.{Bytes, if_then_else_}
+use Rattle.volume.specs.Bytes.{Bytes, byteAt, if_then_else_}
 use Rattle.volume.specs.Lists.{countFrom}
 use Rattle.model.specs.Layout.{pageCount, pagesFor}
 use Rattle.model.specs.Entry.{isLocked, entryCount, entries, nameAt, dateAt, entryAt}
+use Rattle.model.specs.Effect.{isVacant}
 use Rattle.model.specs.Judge.{Judged, fault, clean, badEntry, badChain}
 use Rattle.model.specs.Judge.{thenJudge, judgePage, judgeChain, freshName, judgeEntry, judgeEntries, judgeDirectory}
 use Rattle.fields.specs.declared.Page.{Page}
 use Rattle.fields.specs.declared.Entry.{Entry}
 use Rattle.fields.specs.declared.Entry.the-variants.{Vacant, File, Directory}
 use Rattle.fields.specs.Read.{entryOf}
+use Rattle.names.proofs.Steps.{and-false}
 use Rattle.judge.specs.declared.Check.{Check}
 use Rattle.judge.specs.declared.Check.the-variants.{Clean, Faulty}
 use Rattle.judge.specs.declared.Fault.{Fault}
@@ -96,6 +99,27 @@ module _ (b : Bytes) (d i at : ℕ) (r : Entry) (m : List ℕ) (here : at ≡ po
   unfolding judgeEntry
   vacant-entry below e = rw (← seen e)
 
+  -- an occupied entry has flags
+  flags-of : isVacant (entryAt b (position d i)) ≡ false → 1 ≤ byteAt b (position d i)
+  unfolding entryAt isVacant
+  flags-of o = elim (decLt 0 (byteAt b (position d i))) [
+    | yes h ↦ h
+    | no h ↦ let e : byteAt b (position d i) ≡ 0 = omega arith in absurd (false≢true (sym o ∙ rw e))
+  ]
+
+  pub file-flags : (start : Page) (size : ℕ) → r ≡ File start size → 1 ≤ byteAt b (position d i)
+  unfolding isVacant
+  file-flags start size e = flags-of (rw (← seen e))
+
+  pub directory-flags : (start : Page) (size : ℕ) → r ≡ Directory start size → 1 ≤ byteAt b (position d i)
+  unfolding isVacant
+  directory-flags start size e = flags-of (rw (← seen e))
+
+  pub sized-directory : (start : Page) (size : ℕ) (below : ℕ → List ℕ → Judged) → r ≡ Directory start size → size ≢ 0x0100
+      → fault (badEntry d i) ≡ judgeEntry below b d i (earlier d i) (entryAt b (position d i)) m
+  unfolding judgeEntry
+  sized-directory start size below e s = rw (← seen e, ne-eqb _ _ s, and-false _)
+
   module _ (start : Page) (size : ℕ) (fresh : Bool) (name : fresh ≡ freshName b (earlier d i) (nameAt b (position d i))) where
     module _ (below : ℕ → List ℕ → Judged) (file : r ≡ File start size) where
       pub stale-file : not fresh ≡ true → fault (badEntry d i) ≡ judgeEntry below b d i (earlier d i) (entryAt b (position d i)) m
@@ -113,11 +137,6 @@ module _ (b : Bytes) (d i at : ℕ) (r : Entry) (m : List ℕ) (here : at ≡ po
       unfolding judgeEntry
       stale-directory below t = rw (← seen directory, untold name t)
 
-      pub sized-directory : (below : ℕ → List ℕ → Judged) → not fresh ≡ false → size ≢ 0x0100
-          → fault (badEntry d i) ≡ judgeEntry below b d i (earlier d i) (entryAt b (position d i)) m
-      unfolding judgeEntry
-      sized-directory below t s = rw (← seen directory, told name t, ne-eqb _ _ s)
-
       -- its page: the answer for it is q, and it leaves the marks l
       module _ (t : not fresh ≡ false) (s : size ≡ 0x0100) (q : Check) (l : List ℕ) (page : outcome q l ≡ judgePage b (badChain d i 0) (start .0) m) where
         pub faulty-page : (below : ℕ → List ℕ → Judged) (x : Fault) → q ≡ Faulty x
@@ -133,3 +152,11 @@ module _ (b : Bytes) (d i at : ℕ) (r : Entry) (m : List ℕ) (here : at ≡ po
         directory-below e each j post (suc f) h =
             let k = page-made b (badChain d i 0) (start .0) m l each (clean-of page e) in
             rw (← seen directory, told name t, eq-eqb _ _ s, ← clean-of page e) (post f (omega arith))
+
+-- ---- a turn over a vacant entry
+
+pub stands-vacant : {b : Bytes} {p : ℕ} {m₀ : List ℕ} {n i : ℕ} {m : List ℕ} → n ≡ entryCount p → Stands b p m₀ i m → i < n
+    → (at : ℕ) (r : Entry) → at ≡ position p i → entryOf r (isLocked b at) (nameAt b at) (dateAt b at) ≡ entryAt b at → r ≡ Vacant
+    → Stands b p m₀ (i + 1) m
+stands-vacant {b} {p} {m₀} {n} {i} {m} count at₀ more at r here read e =
+    stands-next count at₀ Clean m more (λ f h. vacant-entry b p i at r m here read (judgeDirectory f b) e) refl

@@ -6,9 +6,11 @@ use fields::Page;
 ghost use mathlib.Core.Path.{_≡_};
 ghost use Prim.Native.Nat.{ℕ, suc, _+_, _-_, _≤_, _<_};
 ghost use lib.ListN.{length, replicate};
+ghost use Rattle.volume.specs.Bytes.{byteAt};
 ghost use Rattle.volume.specs.Lists.{first, countFrom};
 ghost use Rattle.model.specs.Layout.{pageCount};
 ghost use Rattle.model.specs.Entry.{entryCount, nameAt, entryAt};
+ghost use Rattle.model.specs.Sound.{isNamed};
 ghost use Rattle.model.specs.Judge.{clean, judgePage, judgeChain, freshName, judgeEntry, judgeDirectory, lostOr, judgeRest, judgeWalk, judge};
 ghost use Rattle.judge.specs.Answers.{faultOf, outcome, findingOf, judgedAs};
 ghost use Rattle.judge.specs.Walk.{Marked, unowned, isLost, position, earlier};
@@ -99,10 +101,26 @@ fn own_chain(
 
 // ---- names
 
-// The name of entry i is legal, and no earlier entry of the directory has it. The model has the earlier ones from the last
-// to the first, so the loop runs down.
+// The entry has the name that stands in the one at position `other`. A vacant one has none, whatever its bytes.
+fn has_name_of(image: &[u8], at: usize, other: usize) -> bool
+    requires { ⌜ (at + 32 ≤ length (now image)) × (other + 32 ≤ length (now image)) ⌝ }
+    ensures { λ r. ⌜ r ≡ isNamed (nameAt (now (image .entry)) other) (entryAt (now (image .entry)) at) ⌝ }
+{
+    let entry = fields::entry_at(image, at);
+    if let Entry::Vacant = entry {
+        return false;
+    }
+    let from = other + 1;
+    let to = other + 17;
+    let begin = at + 1;
+    let end = at + 17;
+    names::same_bytes(&image[begin..end], &image[from..to])
+}
+
+// The name of entry i, which is occupied, is legal, and no earlier entry of the directory has it. The model has the earlier ones
+// from the last to the first, so the loop runs down.
 fn name_is_fresh(image: &[u8], directory: Page, i: usize) -> bool
-    requires { ⌜ (directory .0 < pageCount (now image)) × (i < entryCount (directory .0)) ⌝ }
+    requires { ⌜ (directory .0 < pageCount (now image)) × (i < entryCount (directory .0)) × (1 ≤ byteAt (now image) (position (directory .0) i)) ⌝ }
     ensures { λ r. ⌜ r ≡ freshName (now (image .entry)) (earlier (directory .0) i) (nameAt (now (image .entry)) (position (directory .0) i)) ⌝ }
 {
     let at = fields::entry_position(directory, i);
@@ -112,7 +130,7 @@ fn name_is_fresh(image: &[u8], directory: Page, i: usize) -> bool
     let mut j = i;
     while 0 < j {
         j -= 1;
-        if names::has_name_of(image, fields::entry_position(directory, j), at) {
+        if has_name_of(image, fields::entry_position(directory, j), at) {
             return false;
         }
     }
@@ -139,10 +157,10 @@ fn judge_entry(image: &[u8], marks: &mut [u8], directory: Page, i: usize) -> Che
             own_chain(image, marks, directory, i, fields::pages_for(size), start)
         }
         Entry::Directory(start, size) => {
-            if !name_is_fresh(image, directory, i) {
+            if size != 0x0100 {
                 return Check::Faulty(Fault::BadEntry(directory, i));
             }
-            if size != 0x0100 {
+            if !name_is_fresh(image, directory, i) {
                 return Check::Faulty(Fault::BadEntry(directory, i));
             }
             let owned = own_page(image, marks, start, Fault::BadChain(directory, i, 0));
@@ -162,6 +180,10 @@ fn judge_directory(image: &[u8], marks: &mut [u8], directory: Page) -> Check
 {
     let count = fields::entry_count(directory);
     for i in 0..count {
+        let entry = fields::entry_at(image, fields::entry_position(directory, i));
+        if let Entry::Vacant = entry {
+            continue;
+        }
         let judged = judge_entry(image, marks, directory, i);
         if let Check::Faulty(fault) = judged {
             return Check::Faulty(fault);

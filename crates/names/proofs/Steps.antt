@@ -13,21 +13,11 @@ use borrow.Author.Tests.{eq-eqb, ne-eqb}
 use Rattle.volume.specs.Bytes.{Bytes, same}
 use Rattle.volume.specs.Lists.{all}
 use Rattle.volume.proofs.Tests.{all-next, all-end}
-use Rattle.model.specs.Name.{legalByte, legalRest}
+use Rattle.model.specs.Name.{legalByte}
 use Rattle.fields.proofs.Plain.{told, untold}
 use Rattle.names.specs.Texts.{textLength}
 
 -- x is what all the bytes are tested as, and so those of l from k on
-
-module _ {x : Bool} (l : Bytes) (k : ℕ) (so-far : x ≡ all (eqb 0) (drop k l)) where
-  pub zeros-not : k < length l → getD l k 0 ≢ 0 → false ≡ x
-  zeros-not h n = sym (so-far ∙ all-next l k h (eqb 0) ∙ rw (ne-eqb 0 _ (λ e. n (sym e))))
-
-  pub zeros-on : k < length l → getD l k 0 ≡ 0 → x ≡ all (eqb 0) (drop (k + 1) l)
-  zeros-on h e = so-far ∙ all-next l k h (eqb 0) ∙ rw (eq-eqb 0 _ (sym e))
-
-  pub zeros-all : length l ≤ k → true ≡ x
-  zeros-all h = sym (so-far ∙ all-end l k h (eqb 0))
 
 module _ {x : Bool} (l : Bytes) (k : ℕ) (so-far : x ≡ all legalByte (drop k l)) where
   -- r is the answer for byte k
@@ -41,30 +31,8 @@ module _ {x : Bool} (l : Bytes) (k : ℕ) (so-far : x ≡ all legalByte (drop k 
   pub text-all : length l ≤ k → true ≡ x
   text-all h = sym (so-far ∙ all-end l k h legalByte)
 
-byte-next : (l : Bytes) (k : ℕ) → k < length l → drop k l ≡ getD l k 0 ∷ drop (k + 1) l
+pub byte-next : (l : Bytes) (k : ℕ) → k < length l → drop k l ≡ getD l k 0 ∷ drop (k + 1) l
 byte-next l k h = rw (add-one, drop-cons l k 0)
-
-module _ {x : Bool} (l : Bytes) (k : ℕ) (so-far : x ≡ legalRest (drop k l)) where
-  module _ (h : k < length l) where
-    pub rest-zero : getD l k 0 ≡ 0 → (z : Bool) → z ≡ all (eqb 0) (drop (k + 1) l) → z ≡ x
-    unfolding legalRest
-    rest-zero e z zeros = zeros ∙ sym (so-far ∙ rw (byte-next l k h, eq-eqb _ _ e))
-
-    -- r is the answer for byte k
-    module _ (n : getD l k 0 ≢ 0) (r : Bool) (byte : r ≡ legalByte (getD l k 0)) where
-      next : x ≡ (legalByte (getD l k 0) && legalRest (drop (k + 1) l))
-      unfolding legalRest
-      next = so-far ∙ rw (byte-next l k h, ne-eqb _ _ n)
-
-      pub rest-not : not r ≡ true → false ≡ x
-      rest-not t = sym (next ∙ rw (untold byte t))
-
-      pub rest-on : not r ≡ false → x ≡ legalRest (drop (k + 1) l)
-      rest-on t = next ∙ rw (told byte t)
-
-  pub rest-all : length l ≤ k → true ≡ x
-  unfolding legalRest
-  rest-all h = sym (so-far ∙ rw (drop-of-length-le l h))
 
 -- the text that ends at x ends where the one does that begins at k
 module _ {x : ℕ} (l : Bytes) (k : ℕ) (so-far : x ≡ k + textLength (drop k l)) where
@@ -86,7 +54,7 @@ and-true : (t : Bool) → (t && true) ≡ t
 and-true true = refl
 and-true false = refl
 
-and-false : (t : Bool) → (t && false) ≡ false
+pub and-false : (t : Bool) → (t && false) ≡ false
 and-false true = refl
 and-false false = refl
 

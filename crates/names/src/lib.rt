@@ -5,14 +5,14 @@ ghost use mathlib.Core.Path.{_≡_};
 ghost use mathlib.Core.Bool.{not};
 ghost use Prim.Native.Nat.{_+_, _≤_};
 ghost use lib.ListN.{length, drop};
-ghost use lib.Dec.{eqb};
-ghost use Rattle.volume.specs.Bytes.{same};
+ghost use Rattle.volume.specs.Bytes.{same, byteAt};
 ghost use Rattle.volume.specs.Lists.{all};
 ghost use Rattle.model.specs.Entry.{nameAt, entryAt};
 ghost use Rattle.model.specs.Sound.{isNamed};
-ghost use Rattle.model.specs.Name.{legalByte, legalRest, legalName, legalText, padded};
+ghost use Rattle.model.specs.Name.{legalByte, legalName, legalText, padded};
 ghost use Rattle.model.specs.Path.{texts, pathOf, isNoPath};
 ghost use Rattle.names.specs.Texts.{textLength};
+ghost use Rattle.names.specs.Names.{mayFollow};
 
 pub fn legal_byte(c: u8) -> bool
     ensures { λ r. ⌜ r ≡ legalByte c ⌝ }
@@ -74,50 +74,29 @@ pub fn has_name_of(image: &[u8], at: usize, other: usize) -> bool
     }
     let from = other + 1;
     let to = other + 17;
-    has_name(image, at, &image[from..to])
+    let begin = at + 1;
+    let end = at + 17;
+    same_bytes(&image[begin..end], &image[from..to])
 }
 
-fn only_zeros(bytes: &[u8], from: usize) -> bool
-    ensures { λ r. ⌜ r ≡ all (eqb 0) (drop from (now (bytes .entry))) ⌝ }
+// What stands behind a byte in a legal name: a zero, or a legal byte behind one that is no zero.
+fn may_follow(before: u8, c: u8) -> bool
+    ensures { λ r. ⌜ r ≡ mayFollow before c ⌝ }
 {
-    let mut k = from;
-    while k < bytes.len() {
-        if bytes[k] != 0 {
-            return false;
-        }
-        k += 1;
-    }
-    true
+    (c == 0) | ((0x20 <= c) & (c <= 0x7E) & (c != b'/') & (before != 0))
 }
 
-// Legal bytes, and from the first zero on only zeros.
-fn legal_rest(name: &[u8], from: usize) -> bool
-    ensures { λ r. ⌜ r ≡ legalRest (drop from (now (name .entry))) ⌝ }
-{
-    let mut k = from;
-    while k < name.len() {
-        if name[k] == 0 {
-            return only_zeros(name, k + 1);
-        }
-        if !legal_byte(name[k]) {
-            return false;
-        }
-        k += 1;
-    }
-    true
-}
-
+// The name of an occupied entry. The flags stand before its first byte and are not 0, so every byte has one before it, and no byte ends the
+// loop: sixteen are tested at once.
 pub fn name_is_legal(image: &[u8], at: usize) -> bool
-    requires { ⌜ at + 32 ≤ length (now image) ⌝ }
+    requires { ⌜ (at + 32 ≤ length (now image)) × (1 ≤ byteAt (now image) at) ⌝ }
     ensures { λ r. ⌜ r ≡ legalName (nameAt (now (image .entry)) at) ⌝ }
 {
-    let from = at + 1;
-    let to = at + 17;
-    let name = &image[from..to];
-    if !legal_byte(name[0]) {
-        return false;
+    let mut legal = true;
+    for k in 0..16 {
+        legal = legal & may_follow(image[at + k], image[at + 1 + k]);
     }
-    legal_rest(name, 1)
+    legal & (image[at + 1] != 0)
 }
 
 // ---- names without padding, as they stand in a path

@@ -5,7 +5,7 @@ use Rattle.changes.proofs.make_entry as fn
 
 pub make-entry-spec : {M : Type 1} → fn.Statement.statement M
 make-entry-spec = fn.Tie.close (fn.Tie.spec
-    (λ c. search needs) (λ c. search needs) (λ c. search needs) (λ c. search needs) (λ c. search needs)
+    (λ c. search needs) (λ c. search needs) (λ c. search needs)
     (λ c κs. search put-growing)
     (λ c. search needs)
     (λ c. search put-grown))

@@ -5,8 +5,8 @@ use Rattle.fields.proofs as fields
 use Rattle.fields.proofs.Plain.{needs, arith, ℕ, _+_, _*_, _-_, _≤_, _<_}
 use Rattle.judge.specs.Walk.{unowned}
 use Rattle.judge.proofs.Marks.{clean-of, page-made}
-use Rattle.judge.proofs.Walk.{Stands, stands-first, stands-next, stands-faulty, stands-last}
-use Rattle.judge.proofs.Walk.{vacant-entry, stale-file, fresh-file, stale-directory, sized-directory, faulty-page, directory-below}
+use Rattle.judge.proofs.Walk.{Stands, stands-first, stands-next, stands-vacant, stands-faulty, stands-last}
+use Rattle.judge.proofs.Walk.{vacant-entry, file-flags, directory-flags, stale-file, fresh-file, stale-directory, sized-directory, faulty-page, directory-below}
 use Rattle.judge.proofs as judge
 use Rattle.judge.proofs.judge_directory.{Kinds.ps as dps, Reads.Pre as dpre, Reads.Post as dpost}
 use Rattle.judge.proofs.judge_entry.{Kinds.ps as eps, Reads.Pre as epre, Reads.Post as epost}
@@ -20,26 +20,37 @@ abbrev μ-entry : Measures 2 eps ℕ
 
 pub +judge-directory+judge-entry-spec : {M : Type 1} → statement M
 +judge-directory+judge-entry-spec = close μ-directory μ-entry
-    (λ t. directory
-    (fields.entry_count.Reads.Asked, fields.entry_count.Reads.Learnt, and 2 eps (falls 2 eps _<_ μ-entry t) epre, epost)
+    (λ t. directory (
+      fields.entry_count.Reads.Asked,
+      fields.entry_count.Reads.Learnt,
+      fields.entry_position.Reads.Asked,
+      fields.entry_position.Reads.Learnt,
+      fields.entry_at.Reads.Asked,
+      fields.entry_at.Reads.Learnt,
+      and 2 eps (falls 2 eps _<_ μ-entry t) epre,
+      epost,
+    )
     (and 2 dps (is 2 dps μ-directory t) dpre) dpost
     (λ image marks₀ page count i₀ marks i. (i ≤ count) × Stands image (page .0) marks₀ i marks)
     (λ image marks₀ page count i₀ marks i. count - i)
     (λ c κs. search needs)
     (λ c. (search needs, search stands-first))
+    (λ c κs. omega arith) (λ c κs. omega arith)
+    (λ c. search needs) (λ c. search needs) (λ c. search needs)
+    (λ c. (search needs, search stands-vacant))
     (λ c κs. omega arith)
     (λ c. search needs) (λ c. search needs)
     (λ c.
     let judged = c .before .before .before .before .before in
-    let test = judged .before .before in
+    let test = judged .before .before .before .before .before in
     stands-faulty (test .before .before .entry-count .ensures) (test .before .loop .inv .1) _ _ (test .loop-test .taken)
     (judged .judge-entry .ensures) (c .before .judged .given .1))
     (λ c. search needs) (λ c. search needs) (λ c. search needs)
     (λ c. let judged = c .before .before .before .before in
-    let test = judged .before .before in (
+    let test = judged .before .before .before .before .before in (
       search needs,
       stands-next (test .before .before .entry-count .ensures) (test .before .loop .inv .1) _ _ (test .loop-test .taken)
-          (judged .judge-entry .ensures) (c .enum-told .given .1),
+          (judged .judge-entry .ensures) (c .enum-told2 .given .1),
     ))
     (λ c. search needs)
     (λ c f h. search stands-last))
@@ -62,12 +73,12 @@ pub +judge-directory+judge-entry-spec : {M : Type 1} → statement M
     (and 2 eps (is 2 eps μ-entry t) epre) epost
     (λ c κs. omega arith) (λ c κs. omega arith)
     (λ c. search needs) (λ c. search needs)
-    (λ c κs. omega arith)
+    (λ c κs. (omega arith, omega arith, search file-flags))
     (λ c f h. search stale-file)
     (λ c. search needs) (λ c. search needs) (λ c. search needs)
-    (λ c κs. omega arith)
-    (λ c f h. search stale-directory)
     (λ c f h. search sized-directory)
+    (λ c κs. (omega arith, omega arith, search directory-flags))
+    (λ c f h. search stale-directory)
     (λ c. search needs) (λ c. search needs) (λ c. search needs)
     (λ c f h. search faulty-page)
     (λ c. search needs)

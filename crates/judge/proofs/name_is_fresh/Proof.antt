@@ -2,7 +2,7 @@
 use Rattle.fields.proofs.Plain.{needs, _≡_, refl, _≤_}
 use Rattle.model.specs.Entry.{nameAt}
 use Rattle.judge.specs.Walk.{position}
-use Rattle.judge.proofs.Names.{apart, illegal-name, name-taken, still-apart, name-fresh}
+use Rattle.judge.proofs.Names.{apart, flags-here, illegal-name, name-taken, still-apart, name-fresh}
 use Rattle.judge.proofs.name_is_fresh.{Statement.statement, Tie.close, Tie.spec}
 
 pub name-is-fresh-spec : {M : Type 1} → statement M
@@ -11,7 +11,8 @@ name-is-fresh-spec = close (spec
     let name = nameAt image (position (directory .0) i) in
     (j ≤ i) × (apart image name (directory .0) i ≡ apart image name (directory .0) j))
     (λ image directory i at j₀ j. j)
-    (λ c. search needs) (λ c. search needs)
+    (λ c. search needs)
+    (λ c κs. (search needs, search flags-here))
     (λ c. search illegal-name)
     (λ c. (search needs, refl))
     (λ c. search needs) (λ c. search needs) (λ c. search needs)

@@ -1,6 +1,6 @@
--- An occupied entry has its name, and a vacant one none; the part that is lent is the other entry's name.
+-- An occupied entry has its name, and a vacant one none; the parts that are lent are the names of the two entries.
 use Rattle.fields.proofs.Plain.{needs}
-use Rattle.names.proofs.Names.{same-name}
+use Rattle.names.proofs.Names.{names-same}
 use Rattle.names.proofs.Occupied.{vacant-unnamed, occupied-named}
 use Rattle.names.proofs.has_name_of.{Statement.statement, Tie.close, Tie.spec}
 
@@ -9,4 +9,5 @@ has-name-of-spec = close (spec
     (λ c. search needs) (λ c. search needs)
     (λ c. search vacant-unnamed)
     (λ c. search needs) (λ c. search needs) (λ c. search needs) (λ c. search needs) (λ c. search needs) (λ c. search needs)
-    (λ c. search (occupied-named, same-name)))
+    (λ c. search needs) (λ c. search needs) (λ c. search needs) (λ c. search needs) (λ c. search needs)
+    (λ c. search (occupied-named, names-same)))
