@@ -15,7 +15,7 @@ ghost use Rattle.judge.specs.Walk.{Marked};
 ghost use Rattle.repair.specs.Remark.{remarked, recounted};
 ghost use Rattle.repair.specs.Repair.{repairAnswer, repairAfter};
 ghost use Rattle.repair.specs.Taken.{isTaken};
-ghost use Rattle.zealfs.specs.Answers.{changeAnswer};
+ghost use Rattle.answers.specs.Answers.{changeAnswer};
 
 // The header, or a page that has its owner mark.
 fn is_taken(marks: &[u8], p: usize) -> bool

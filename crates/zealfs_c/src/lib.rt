@@ -22,7 +22,7 @@ ghost use Rattle.model.specs.Call.{format, verdict, find, list, read, makeFile,
 ghost use Rattle.model.specs.Meaning.{faultTold, answer, after, bufferAfter, copied};
 ghost use Rattle.judge.specs.Answers.{faultOf};
 ghost use Rattle.refusals.specs.Told.{told};
-ghost use Rattle.zealfs.specs.Answers.{changeAnswer, findDate, listName, listDate};
+ghost use Rattle.answers.specs.Answers.{changeAnswer, findDate, listName, listDate};
 ghost use Rattle.repair.specs.Repair.{repairAnswer, repairAfter};
 ghost use Rattle.audit.specs.Owner.{ownerNumbers};
 ghost use Rattle.moves.specs.Tidy.{tidyAnswer, tidyAfter};

@@ -1,5 +1,5 @@
 -- A page is an other one by the kind of its owner's entry.
-use Rattle.tidy.proofs.Owned.{kind, other-of}
+use Rattle.proposals.proofs.Owned.{kind, other-of}
 use borrow.Author.Needs.{needs}
 use Rattle.tidy.proofs.is_other.Statement.{statement}
 use Rattle.tidy.proofs.is_other.Tie as tie

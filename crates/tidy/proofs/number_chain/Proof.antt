@@ -1,6 +1,6 @@
 -- Each turn numbers one page of the chain, as `numbered` does.
 use Rattle.model.specs.Layout.{link}
-use Rattle.tidy.proofs.Numbers.{ChainLeft, chain-first, chain-low, chain-turn, chain-last}
+use Rattle.proposals.proofs.Numbers.{ChainLeft, chain-first, chain-low, chain-turn, chain-last}
 use native.Mathlib.Omega.{arith}
 use Rattle.tidy.proofs.number_chain.Statement.{statement}
 use Rattle.tidy.proofs.number_chain.Tie as tie

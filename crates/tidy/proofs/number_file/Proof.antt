@@ -2,8 +2,8 @@
 use Rattle.volume.proofs.Occ.{Under}
 use Rattle.volume.proofs.Chains.{chain-length}
 use Rattle.model.specs.Layout.{link}
-use Rattle.tidy.proofs.Owned.{kind}
-use Rattle.tidy.proofs.Numbers.{file-none, file-elsewhere, file-here, file-done, file-under}
+use Rattle.proposals.proofs.Owned.{kind}
+use Rattle.proposals.proofs.Numbers.{file-none, file-elsewhere, file-here, file-done, file-under}
 use mathlib.Core.Path.{refl, sym, ap, subst}
 use native.Mathlib.Omega.{arith}
 use mathlib.Core.List.{[]}

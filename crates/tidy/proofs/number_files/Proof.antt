@@ -1,7 +1,7 @@
 -- Each turn numbers what `fileFrom` gives for one page.
 use Rattle.model.specs.Layout.{pageCount}
 use Rattle.moves.specs.Propose.{fileFrom}
-use Rattle.tidy.proofs.Numbers.{Left, left-first, left-turn, left-last, files-next, files-none, files-bound}
+use Rattle.proposals.proofs.Numbers.{Left, left-first, left-turn, left-last, files-next, files-none, files-bound}
 use mathlib.Core.Path.{_≡_, _∙_}
 use Prim.Native.Nat.{_-_, _<_, _≤_}
 use native.Mathlib.Omega.{arith}

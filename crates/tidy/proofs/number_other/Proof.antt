@@ -1,6 +1,6 @@
 -- A page that no file owns gets one number, and any other none.
 use Rattle.audit.proofs.Claims.{told, untold}
-use Rattle.tidy.proofs.Numbers.{other-none, other-here, other-one}
+use Rattle.proposals.proofs.Numbers.{other-none, other-here, other-one}
 use native.Mathlib.Omega.{arith}
 use borrow.Author.Needs.{needs}
 use Rattle.tidy.proofs.number_other.Statement.{statement}

@@ -2,7 +2,7 @@
 use Rattle.volume.specs.Lists.{keep}
 use Rattle.model.specs.Layout.{pageCount}
 use Rattle.moves.specs.Propose.{isOther}
-use Rattle.tidy.proofs.Numbers.{Left, left-first, left-turn, left-last, others-next, others-none, others-bound}
+use Rattle.proposals.proofs.Numbers.{Left, left-first, left-turn, left-last, others-next, others-none, others-bound}
 use mathlib.Core.Path.{_≡_, _∙_}
 use Prim.Native.Nat.{_-_, _<_, _≤_}
 use native.Mathlib.Omega.{arith}

@@ -1,6 +1,6 @@
 -- The header, the files and the others are the order, one behind the other.
-use Rattle.tidy.proofs.Owned.{sized}
-use Rattle.tidy.proofs.Numbers.{order-long, order-numbered}
+use Rattle.proposals.proofs.Owned.{sized}
+use Rattle.proposals.proofs.Numbers.{order-long, order-numbered}
 use mathlib.Core.Path.{_∙_}
 use Prim.Native.Nat.{ℕ}
 use native.Mathlib.Omega.{arith}

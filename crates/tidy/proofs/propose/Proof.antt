@@ -1,5 +1,5 @@
 -- `propose` passes the verdict's refusal on; a granted verdict says that the image is sound.
-use Rattle.zealfs.specs.Answers.{verdictAnswer}
+use Rattle.answers.specs.Answers.{verdictAnswer}
 use Rattle.moves.proofs.Answers.{verdict-sound, propose-stops}
 use mathlib.Core.Path.{sym, ap, _∙_}
 use borrow.Author.Needs.{needs}

@@ -1,5 +1,5 @@
 -- `tidy` passes the verdict's refusal on; a granted verdict says that the image is sound.
-use Rattle.zealfs.specs.Answers.{verdictAnswer}
+use Rattle.answers.specs.Answers.{verdictAnswer}
 use Rattle.moves.proofs.Answers.{verdict-sound, tidy-stops}
 use mathlib.Core.Path.{sym, ap, _∙_}
 use borrow.Author.Needs.{needs}

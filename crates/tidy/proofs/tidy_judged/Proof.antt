@@ -4,8 +4,8 @@ use Rattle.judge.proofs.Image.{marks-length}
 use Rattle.audit.proofs.Claims.{told, untold}
 use Rattle.moves.proofs.Answers.{tidy-unaccepted, tidy-accepted}
 use Rattle.moves.proofs.Places.{accepted-is}
-use Rattle.tidy.proofs.Owned.{fits, sized}
-use Rattle.tidy.proofs.Check.{true-of, of-true}
+use Rattle.proposals.proofs.Owned.{fits, sized}
+use Rattle.proposals.proofs.Check.{true-of, of-true}
 use mathlib.Core.Path.{_≡_, sym, _∙_}
 use native.Mathlib.Omega.{arith}
 use lib.ListN.{length}

@@ -1,0 +1,4 @@
+pub mod Verdicts
+pub mod Finds
+pub mod Lists
+pub mod Readings

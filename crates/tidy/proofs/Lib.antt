@@ -1,5 +1,0 @@
-pub mod Owned
-pub mod Check
-pub mod Laid
-pub mod Target
-pub mod Numbers
