@@ -11,16 +11,21 @@ _zealfs() {
             *) words+=("${COMP_WORDS[i]}") ;;
         esac
     done
+    # links has a word of its own before the image
+    local image=1
+    [ "${words[0]:-}" = links ] && image=2
     if [ "$before" = --date ]; then
         mapfile -t COMPREPLY < <(compgen -W "$(date +%F)" -- "$word")
     elif [ ${#words[@]} -eq 0 ]; then
         mapfile -t COMPREPLY < <(compgen -W "$("$program" commands 2> /dev/null) help --json --version" -- "$word")
     elif [[ "$word" == -?* ]]; then
         mapfile -t COMPREPLY < <(compgen -W "$("$program" "${words[0]}" --help 2> /dev/null | sed -n 1p | grep -oE -- '-[a-z-]+') --json" -- "$word")
-    elif [[ "$word" == /* && ${#words[@]} -ge 2 ]]; then
+    elif [[ $image -eq 2 && ${#words[@]} -eq 1 ]]; then
+        mapfile -t COMPREPLY < <(compgen -W "show find check write" -- "$word")
+    elif [[ "$word" == /* && ${#words[@]} -gt $image ]]; then
         # below the directory that is written so far; names may have spaces
         local directory="${word%/*}"
-        mapfile -t COMPREPLY < <("$program" ls "${words[1]}" "${directory:-/}" 2> /dev/null | sed "s|^|$directory/|" | grep -F -- "$word")
+        mapfile -t COMPREPLY < <("$program" ls "${words[image]}" "${directory:-/}" 2> /dev/null | sed "s|^|$directory/|" | grep -F -- "$word")
         [[ ${#COMPREPLY[@]} -eq 1 && "${COMPREPLY[0]}" == */ ]] && compopt -o nospace 2> /dev/null
         [ ${#COMPREPLY[@]} -eq 0 ] && mapfile -t COMPREPLY < <(compgen -f -- "$word")
         # what is completed is quoted as the shell wants it

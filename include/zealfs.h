@@ -7,7 +7,7 @@
  *
  *     number + 256 * (a + 65536 * (b + 65536 * c))
  *
- * a, b, c being its place, 0 where nothing is said of them.
+ * a, b, c being its place, 0 where nothing is said of them. (The link list's 21, 22 and 23 have one number for a place: see there.)
  *
  * The numbers stand in the enum below, each with what it says and what its place is. An image that is given neither ZEALFS_WRONG_LENGTH nor
  * ZEALFS_WRONG_HEADER is judged from its root on, and its first fault is told. Entries go in order, what a directory holds before the entry after
@@ -47,19 +47,20 @@ enum zealfs_numbers {
     ZEALFS_NOT_A_PATH = 4,
         /* the path is no path */
     ZEALFS_NO_SUCH_NAME = 5,
-        /* a name of the path isn't in its directory: a is the byte of the path at which it begins */
+        /* a name of the path isn't in its directory: a is the byte of the path at which it begins; for a link list, of the path
+           DIRECTORY/LINKS */
     ZEALFS_NOT_A_DIRECTORY = 6,
         /* a file stands where a directory is needed: a is the byte of the path at which its name begins */
     ZEALFS_IS_A_DIRECTORY = 7,
-        /* read, write, remove file, lock or unlock: the path is a directory */
+        /* read, write, remove file, lock or unlock: the path is a directory; link list: its LINKS is one */
     ZEALFS_NAME_EXISTS = 8,
         /* make, store: the name is there already, or the path is "/" */
     ZEALFS_DIRECTORY_FULL = 9,
-        /* make, store: no empty entry */
+        /* make, store, links_write: no empty entry */
     ZEALFS_NO_FREE_PAGES = 10,
-        /* make, write, store: more pages wanted than are free */
+        /* make, write, store, links_write: more pages wanted than are free */
     ZEALFS_BAD_DATE = 11,
-        /* make, store: the date is not good */
+        /* make, store, links_write: the date is not good */
     ZEALFS_PAST_THE_END = 12,
         /* position past the size, entry past the directory's last, or store past the last */
     ZEALFS_NOT_EMPTY = 13,
@@ -78,8 +79,17 @@ enum zealfs_numbers {
         /* a page is marked as taken and belongs to nobody: a is the lowest such page */
     ZEALFS_MARKED_FREE = 20,
         /* a page belongs to a file or directory and is marked as free: a is the page */
+    ZEALFS_BROKEN_ROW = 21,
+        /* link list: a row is no row, or one to be written has a number out of range: the place is where it begins in the file, or the row's
+           number */
+    ZEALFS_ROW_NOT_ABOVE = 22,
+        /* link list: a row is not above the one before it: the place is the row, from 0 */
+    ZEALFS_ROW_WITHOUT_FILE = 23,
+        /* links_check: a row names no file of the directory: the place is the first such row, from 0 */
+    ZEALFS_LIST_TOO_SHORT = 24,
+        /* links_read: the lent list is too short for the rows */
     ZEALFS_LOCKED = 25,
-        /* write or remove file: the file is locked */
+        /* write, remove file or links_write: the file is locked */
     ZEALFS_BAD_PROPOSAL = 27,
         /* tidy: the proposal is not accepted, or has not N numbers; propose: the row has not N numbers */
     ZEALFS_WRONG_TARGET = 28,
@@ -162,6 +172,37 @@ uint64_t zealfs_propose(const uint8_t *image, size_t image_len, uint8_t *places,
 uint64_t zealfs_tidy(const uint8_t *image, size_t image_len, const uint8_t *places, size_t places_len, uint8_t *target, size_t target_len);
 
 /*
+ * The link list of a directory, which is its file LINKS: rows that rise by accession. A row is three numbers: how many digits the accession has (1 to
+ * 16), those digits as a whole number, and a figure's number below 2^32. They are lent one after the other, three to a row: numbers_len counts
+ * numbers, and one or two left over are not looked at. The directory's path names the list, "/" that of the root; the place of 5 and 6 is a byte of
+ * DIRECTORY/LINKS. The place of 21, 22 and 23 is one number, code / 256, and 2^56 - 1 stands for any that is larger: in a file that is read the byte at
+ * which the row of 21 begins, and else a row's number, from 0. All but zealfs_links_write judge the whole file first: 21, or 22, of the first bad row.
+ *
+ * In the file a number is written in groups of seven bits, the lowest first, the top bit set when more follow, and in as few groups as it needs.
+ *
+ * These functions hold the file, and in writing a copy of the image, on the stack: 190,000 bytes of stack are enough for any image (README.md has a
+ * table).
+ */
+
+/* out: how many rows there are; they are put to the front of the numbers, which stay behind them. 24 if the numbers have no room for all. */
+uint64_t zealfs_links_read(const uint8_t *image, size_t image_len, const uint8_t *directory, size_t directory_len, uint64_t *numbers,
+                           size_t numbers_len, uint64_t out[1]);
+
+/*
+ * Removes any old LINKS and makes it anew with the date and these rows, all of it or nothing. A directory of that name gives 7 and a locked file 25;
+ * then come 21, a row with a number out of range, and 22, and then 9 and 10, which are judged with the old file removed.
+ */
+uint64_t zealfs_links_write(uint8_t *image, size_t image_len, const uint8_t *directory, size_t directory_len, const uint8_t *date, size_t date_len,
+                            const uint64_t *numbers, size_t numbers_len);
+
+/* out: 1 if a row has the accession of so many digits and this value, else 0; its figure. */
+uint64_t zealfs_links_find(const uint8_t *image, size_t image_len, const uint8_t *directory, size_t directory_len, uint64_t count, uint64_t value,
+                           uint64_t out[2]);
+
+/* Whether every row names a file of the directory by its exact digits; 23 tells the first that does not. */
+uint64_t zealfs_links_check(const uint8_t *image, size_t image_len, const uint8_t *directory, size_t directory_len);
+
+/*
  * The listing as text, a window at a time: the bytes of it from byte `from` on, as many as there are and as the buffer has room for. It returns how
  * many; fewer than the room has are the last. An image that is not sound has a listing too, `refused` and the number, so this is never refused.
  */
@@ -177,6 +218,9 @@ const char *zealfs_advice(unsigned number);
 /* The parts of a code: the number, 0 when the call was granted, and number i of the place, i being 0, 1 or 2. */
 static inline unsigned zealfs_number(uint64_t code) { return (unsigned)(code & 0xff); }
 static inline unsigned zealfs_place(uint64_t code, int i) { return (unsigned)(code >> (8 + 16 * i) & 0xffff); }
+
+/* The place of a row of a link list: of 21, 22 and 23. */
+static inline uint64_t zealfs_row_place(uint64_t code) { return code >> 8; }
 
 #ifdef __cplusplus
 }

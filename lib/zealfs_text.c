@@ -24,6 +24,10 @@ const char *zealfs_text(unsigned number)
     case 18: return "damaged: two files or directories share a page, or one returns to a page of its own";
     case 19: return "a page is marked as taken and nobody owns it, as when a cartridge is pulled too early; all files and directories are in order";
     case 20: return "damaged: a page of a file or directory is marked as free";
+    case 21: return "a row of the link list is broken: its numbers are not written as they must be, or one is out of range";
+    case 22: return "a row of the link list is not above the one before it: it is out of order, or stands twice";
+    case 23: return "a row of the link list names an accession that has no file in its directory";
+    case 24: return "the list lent for the rows is too short";
     case 25: return "the file is locked: it is neither written nor removed";
     case 27: return "the proposed places are not one for every page, or part the pages of a file";
     case 28: return "the buffer for the tidied image is not as long as the image";
@@ -55,6 +59,10 @@ const char *zealfs_advice(unsigned number)
     case 18: return "keep a copy of the image; then format the cartridge and make its directories and files anew from a backup; neither of the two can be trusted";
     case 19: return "nothing is lost, but no call reads the image until it is mended: repair it (zealfs repair), and it is as good as before; the repair wins the page back";
     case 20: return "keep a copy of the image; then format the cartridge and make its directories and files anew from a backup; a write since then may have gone over that page";
+    case 21: return "write the list anew from the accession book; in a table that is to be written, correct that row";
+    case 22: return "sort the rows by the number of digits and then by value, each accession once";
+    case 23: return "make the file, or take the row out of the list";
+    case 24: return "lend a longer one";
     case 25: return "leave it as it is; if it is to be altered after all, let whoever answers for it unlock it first";
     case 27: return "take the proposal that the library makes";
     case 28: return "lend one of the same length";

@@ -17,10 +17,13 @@ import datetime
 import os
 import pathlib
 import re
-from typing import Iterator, NamedTuple, Optional, Union
+from typing import Iterable, Iterator, NamedTuple, Optional, Tuple, Union
 
 # The longest image, in bytes.
 LONGEST = 65536
+
+# A row has three bytes at least, and no file more than 65,025.
+_MOST_ROWS = 21675
 
 Path = Union[str, bytes]
 
@@ -84,6 +87,18 @@ WORDS = {
     20: ("MarkedFree",
          "damaged: a page of a file or directory is marked as free",
          "keep a copy of the image; then format the cartridge and make its directories and files anew from a backup; a write since then may have gone over that page"),
+    21: ("BrokenRow",
+         "a row of the link list is broken: its numbers are not written as they must be, or one is out of range",
+         "write the list anew from the accession book; in a table that is to be written, correct that row"),
+    22: ("RowNotAbove",
+         "a row of the link list is not above the one before it: it is out of order, or stands twice",
+         "sort the rows by the number of digits and then by value, each accession once"),
+    23: ("RowWithoutFile",
+         "a row of the link list names an accession that has no file in its directory",
+         "make the file, or take the row out of the list"),
+    24: ("ListTooShort",
+         "the list lent for the rows is too short",
+         "lend a longer one"),
     25: ("Locked",
          "the file is locked: it is neither written nor removed",
          "leave it as it is; if it is to be altered after all, let whoever answers for it unlock it first"),
@@ -110,6 +125,9 @@ _PLACES = {
     "MarkedFree": ["page"],
 }
 
+# The same where the place is one number of 56 bits.
+_ROW_PLACES = {"BrokenRow": "at", "RowNotAbove": "row", "RowWithoutFile": "row"}
+
 
 def text(number: int) -> str:
     """What is wrong, by the number; nothing for what is no number. As zealfs_text of C."""
@@ -125,7 +143,8 @@ class Refusal(Exception):
     """Why a call was refused: the paper's `number`, its `name`, and the `place` where the paper gives one, by name.
 
     A `directory` is the page of the directory that holds the entry, 0 for the root; an `entry` counts from 0 in it; a `byte` is that of the path at
-    which the name begins.
+    which the name begins; a `row` of a link list counts from 0, and a broken one is `at` the byte of the file where it begins, or in writing at that
+    row.
 
     >>> try: verdict(bytes(100))
     ... except Refusal as refusal: print(refusal, "-", refusal.advice)
@@ -138,6 +157,8 @@ class Refusal(Exception):
         # a number that this module does not know: the library is newer
         self.name = WORDS[self.number][0] if self.number in WORDS else "Unknown"
         self.place = {name: code >> 8 + 16 * i & 0xFFFF for i, name in enumerate(_PLACES.get(self.name, []))}
+        if self.name in _ROW_PLACES:
+            self.place = {_ROW_PLACES[self.name]: code >> 8}
         super().__init__(f"refused {self.number}: {self.text}")
 
     def __repr__(self) -> str:
@@ -264,6 +285,15 @@ class Store(NamedTuple):
     bytes: bytes
 
 
+class Row(NamedTuple):
+    """A row of a link list: an accession by its count of digits, leading zeros among them (1 to 16), and their value, below ten to the count; and the
+    number of its figure, below 2^32."""
+
+    count: int
+    value: int
+    figure: int
+
+
 def _load() -> ctypes.CDLL:
     here = pathlib.Path(__file__).resolve().parent
     named = os.environ.get("ZEALFS_LIBRARY")
@@ -301,6 +331,10 @@ _audit = _function("audit", *_bytes, _out)
 _propose = _function("propose", *_bytes, *_bytes)
 _tidy = _function("tidy", *_bytes, *_bytes, *_bytes)
 _listing = _function("listing", *_bytes, _number, *_bytes)
+_links_read = _function("links_read", *_bytes, *_bytes, *_bytes, _out)
+_links_write = _function("links_write", *_bytes, *_bytes, *_bytes, *_bytes)
+_links_find = _function("links_find", *_bytes, *_bytes, _number, _number, _out)
+_links_check = _function("links_check", *_bytes, *_bytes)
 
 
 def _lent(image):
@@ -527,3 +561,52 @@ def listing(image) -> str:
         told += window[:count]
         if count < len(window):
             return told.decode("ascii")
+
+
+def links_read(image, directory: Path, room: Optional[int] = None) -> Tuple[Row, ...]:
+    """The rows of a directory's link list, its file LINKS, in order; with `room` they have to be so many at most.
+
+    >>> image = bytearray(2048)
+    >>> format(image)
+    >>> links_write(image, "/", Date.parse("2026-11-15"), [(2, 42, 7), (4, 42, 12)])  # 42 and 0042
+    >>> links_read(image, "/")
+    (Row(count=2, value=42, figure=7), Row(count=4, value=42, figure=12))
+    """
+    room = 3 * (_MOST_ROWS if room is None else min(room, _MOST_ROWS))
+    numbers, out = (ctypes.c_uint64 * room)(), (ctypes.c_uint64 * 1)()
+    _granted(_links_read(*_lent(image), *_path(directory), numbers, room, out))
+    return tuple(Row(*numbers[3 * row:3 * row + 3]) for row in range(out[0]))
+
+
+def links_write(image: bytearray, directory: Path, date: bytes, rows: Iterable[Tuple[int, int, int]]) -> None:
+    """Writes the link list of a directory anew; the rows rise by count and then value."""
+    flat = [_position(number) for count, value, figure in rows for number in (count, value, figure)]
+    numbers = (ctypes.c_uint64 * len(flat))(*flat)
+    _granted(_links_write(*_lent_to_change(image), *_path(directory), bytes(date), len(date), numbers, len(flat)))
+
+
+def links_find(image, directory: Path, count: int, value: int) -> Optional[int]:
+    """The figure of an accession, by its count of digits and their value; None if it has no row.
+
+    >>> image = bytearray(2048)
+    >>> format(image)
+    >>> links_write(image, "/", Date.parse("2026-11-15"), [(4, 42, 12)])
+    >>> links_find(image, "/", 4, 42), links_find(image, "/", 2, 42)
+    (12, None)
+    """
+    out = (ctypes.c_uint64 * 2)()
+    _granted(_links_find(*_lent(image), *_path(directory), _position(count), _position(value), out))
+    return out[1] if out[0] else None
+
+
+def links_check(image, directory: Path) -> None:
+    """Checks that every row names a file of the directory by its exact digits.
+
+    >>> image = bytearray(2048)
+    >>> format(image)
+    >>> links_write(image, "/", Date.parse("2026-11-15"), [(4, 42, 12)])
+    >>> try: links_check(image, "/")
+    ... except Refusal as refusal: refusal
+    RowWithoutFile(row=0)
+    """
+    _granted(_links_check(*_lent(image), *_path(directory)))

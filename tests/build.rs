@@ -12,7 +12,7 @@ use std::process::Command;
 /// The environment variable that overrides the library's directory.
 const DIRECTORY: &str = "ZEALFS_LIBRARY_DIR";
 
-const CALLS: [&str; 18] = [
+const CALLS: [&str; 22] = [
     "zealfs_format",
     "zealfs_verdict",
     "zealfs_find",
@@ -31,6 +31,10 @@ const CALLS: [&str; 18] = [
     "zealfs_propose",
     "zealfs_tidy",
     "zealfs_listing",
+    "zealfs_links_read",
+    "zealfs_links_write",
+    "zealfs_links_find",
+    "zealfs_links_check",
 ];
 
 fn main() {

@@ -157,6 +157,45 @@ static void tidy(void)
         expect("  each page is in its place", again[page], page);
 }
 
+/* The link list of /A: written, read, asked, checked, and what is refused of it; then it is gone again. */
+static void links(void)
+{
+    const uint8_t made[8] = {0x20, 0x26, 0x11, 0x15, 0x07, 0x21, 0x05, 0x00};
+    static const uint64_t rows[] = {2, 42, 7, 4, 42, 300}, falling[] = {4, 42, 1, 2, 42, 1}, wide[] = {1, 10, 1};
+    static const uint8_t file[] = {2, 42, 7, 4, 42, 0xAC, 2};
+    uint8_t before[sizeof image], back[10];
+    uint64_t numbers[8], out[2] = {9, 9};
+
+    memcpy(before, image, sizeof image);
+    expect("links, none there", zealfs_links_read(IMAGE, PATH("/A"), numbers, 8, out), 5 + 256 * 3);
+    expect("write links of two rows", zealfs_links_write(IMAGE, PATH("/A"), made, 8, rows, 6), 0);
+    expect("  the file", zealfs_read(IMAGE, PATH("/A/LINKS"), 0, back, 10, out), 0);
+    expect("  its bytes", out[0] == sizeof file && memcmp(back, file, sizeof file) == 0, 1);
+    memset(numbers, 0xEE, sizeof numbers);
+    expect("read them into a short list", zealfs_links_read(IMAGE, PATH("/A"), numbers, 5, out), ZEALFS_LIST_TOO_SHORT);
+    expect("  the list stays", numbers[0], 0xEEEEEEEEEEEEEEEE);
+    expect("read them", zealfs_links_read(IMAGE, PATH("/A"), numbers, 8, out), 0);
+    expect("  rows", out[0], 2);
+    expect("  as written", memcmp(numbers, rows, sizeof rows) == 0, 1);
+    expect("  the list behind them stays", numbers[6], 0xEEEEEEEEEEEEEEEE);
+    expect("find 0042", zealfs_links_find(IMAGE, PATH("/A"), 4, 42, out), 0);
+    expect("  its figure", out[0] == 1 ? out[1] : 0, 300);
+    expect("find 042", zealfs_links_find(IMAGE, PATH("/A"), 3, 42, out), 0);
+    expect("  none", out[0] + out[1], 0);
+    uint64_t code = zealfs_links_check(IMAGE, PATH("/A"));
+    expect("check, 42 has no file", zealfs_number(code), ZEALFS_ROW_WITHOUT_FILE);
+    expect("  row", zealfs_row_place(code), 0);
+    expect("write the second row alone", zealfs_links_write(IMAGE, PATH("/A"), made, 8, rows + 3, 3), 0);
+    expect("check", zealfs_links_check(IMAGE, PATH("/A")), 0);
+    expect("rows that fall", zealfs_links_write(IMAGE, PATH("/A"), made, 8, falling, 6), 22 + 256 * 1);
+    expect("ten for one digit", zealfs_links_write(IMAGE, PATH("/A"), made, 8, wide, 3), 21);
+    expect("a group too many", zealfs_write(IMAGE, PATH("/A/LINKS"), 0, (const uint8_t[]){1, 7, 0x81, 0}, 4), 0);
+    expect("  read", zealfs_links_read(IMAGE, PATH("/A"), numbers, 8, out), 21);
+    expect("remove the list", zealfs_remove_file(IMAGE, PATH("/A/LINKS")), 0);
+    expect("  free again", image[3], before[3]);
+    memcpy(image, before, sizeof image);
+}
+
 int main(void)
 {
     const uint8_t made[8] = {0x20, 0x26, 0x11, 0x15, 0x07, 0x21, 0x05, 0x00};
@@ -216,6 +255,7 @@ int main(void)
     audit();
     list_all();
     tidy();
+    links();
     expect("remove file /A, refused", zealfs_remove_file(IMAGE, PATH("/A")), 7);
     expect("remove directory /A, refused", zealfs_remove_directory(IMAGE, PATH("/A")), 13);
     expect("remove directory 0042, refused", zealfs_remove_directory(IMAGE, PATH("/A/0042")), 6 + 256 * 3);

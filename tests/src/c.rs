@@ -60,6 +60,14 @@ declare! {
     zealfs_tidy(image: *const u8, image_len: usize, places: *const u8, places_len: usize,
         target: *mut u8, target_len: usize;);
     zealfs_listing(image: *const u8, image_len: usize, from: u64, text: *mut u8, text_len: usize;);
+    zealfs_links_read(image: *const u8, image_len: usize, directory: *const u8, directory_len: usize,
+        numbers: *mut u64, numbers_len: usize; out: u64);
+    zealfs_links_write(image: *mut u8, image_len: usize, directory: *const u8, directory_len: usize,
+        date: *const u8, date_len: usize, numbers: *const u64, numbers_len: usize;);
+    zealfs_links_find(image: *const u8, image_len: usize, directory: *const u8, directory_len: usize,
+        count: u64, value: u64; out: u64);
+    zealfs_links_check(image: *const u8, image_len: usize, directory: *const u8,
+        directory_len: usize;);
 }
 
 /// The C library.
@@ -92,15 +100,20 @@ fn first<const LENGTH: usize>(bytes: &[u8]) -> [u8; LENGTH] {
     bytes[..LENGTH].try_into().expect("an array and its rest")
 }
 
-/// An answer whose number and place are those that the library returned.
+/// An answer whose number and place are those that the library returned. The
+/// place of a row is one number.
 fn answer(returned: u64) -> Answer {
-    Answer {
-        number: returned as u8,
-        place: [
+    let place = match returned as u8 {
+        21..=23 => [returned >> 8, 0, 0],
+        _ => [
             returned >> 8 & 0xFFFF,
             returned >> 24 & 0xFFFF,
             returned >> 40,
         ],
+    };
+    Answer {
+        number: returned as u8,
+        place,
         ..Answer::default()
     }
 }
@@ -249,5 +262,46 @@ impl Calls for Library {
             image.as_ptr(), image.len(), places.as_ptr(), places.len(),
             target.as_mut_ptr(), target.len();
         )))
+    }
+
+    fn links_read(&self, image: &[u8], directory: &[u8], numbers: &mut [u64]) -> Answer {
+        let mut values = [UNSET; 2];
+        let returned = call!(zealfs_links_read(
+            image.as_ptr(), image.len(), directory.as_ptr(), directory.len(),
+            numbers.as_mut_ptr(), numbers.len(); values[..1]));
+        check_rest(&values[1..], UNSET);
+        Answer {
+            values: [values[0], 0, 0, 0],
+            ..answer(returned)
+        }
+    }
+
+    fn links_write(
+        &self,
+        image: &mut [u8],
+        directory: &[u8],
+        date: &[u8],
+        numbers: &[u64],
+    ) -> Answer {
+        answer(call!(zealfs_links_write(
+            image.as_mut_ptr(), image.len(), directory.as_ptr(), directory.len(),
+            date.as_ptr(), date.len(), numbers.as_ptr(), numbers.len();)))
+    }
+
+    fn links_find(&self, image: &[u8], directory: &[u8], count: u64, value: u64) -> Answer {
+        let mut values = [UNSET; 3];
+        let returned = call!(zealfs_links_find(
+            image.as_ptr(), image.len(), directory.as_ptr(), directory.len(), count, value;
+            values[..2]));
+        check_rest(&values[2..], UNSET);
+        Answer {
+            values: [values[0], values[1], 0, 0],
+            ..answer(returned)
+        }
+    }
+
+    fn links_check(&self, image: &[u8], directory: &[u8]) -> Answer {
+        answer(call!(zealfs_links_check(
+            image.as_ptr(), image.len(), directory.as_ptr(), directory.len();)))
     }
 }

@@ -1,6 +1,6 @@
 //! The calls on raw bytes, as a trait, and the form of their answers.
 
-use crate::tidy;
+use crate::{above, tidy};
 use std::fmt;
 
 /// Bytes of a stored date.
@@ -45,6 +45,12 @@ impl Refusal {
         Refusal::at(number, [page, 0, 0])
     }
 
+    /// 21, with the byte of the file at which the row begins, or in writing with
+    /// the row's number; 22 or 23, with the row's number.
+    pub fn at_row(number: u8, place: usize) -> Refusal {
+        Refusal::at(number, [place, 0, 0])
+    }
+
     fn at(number: u8, place: [usize; 3]) -> Refusal {
         Refusal {
             number,
@@ -83,7 +89,8 @@ pub struct Answer {
     pub number: u8,
     pub place: [u64; 3],
     /// verdict: pages, free; find: kind, size, locked; list: occupied, kind,
-    /// size, locked; read: count; store: the page.
+    /// size, locked; read: count; store: the page; links_read: rows; links_find:
+    /// found, figure.
     pub values: [u64; 4],
     pub name: [u8; NAME_BYTES],
     pub date: [u8; DATE_BYTES],
@@ -143,6 +150,14 @@ impl Answer {
     pub fn count(count: u64) -> Answer {
         Answer {
             values: [count, 0, 0, 0],
+            ..Answer::default()
+        }
+    }
+
+    /// The figure of an accession, or that the link list has none.
+    pub fn figure(figure: Option<u64>) -> Answer {
+        Answer {
+            values: [figure.is_some().into(), figure.unwrap_or(0), 0, 0],
             ..Answer::default()
         }
     }
@@ -251,10 +266,32 @@ pub trait Calls {
     fn tidy(&self, image: &[u8], places: &[u8], target: &mut [u8]) -> Answer {
         tidy::tidy(image, places, target)
     }
+
+    /// The link list (02 §4) is above the base and uses only its calls: so it is
+    /// for an implementation that has no other. Three numbers are a row.
+    fn links_read(&self, image: &[u8], directory: &[u8], numbers: &mut [u64]) -> Answer {
+        above::read(self, image, directory, numbers)
+    }
+    fn links_write(
+        &self,
+        image: &mut [u8],
+        directory: &[u8],
+        date: &[u8],
+        numbers: &[u64],
+    ) -> Answer {
+        above::write(self, image, directory, date, numbers)
+    }
+    fn links_find(&self, image: &[u8], directory: &[u8], count: u64, value: u64) -> Answer {
+        above::find(self, image, directory, count, value)
+    }
+    fn links_check(&self, image: &[u8], directory: &[u8]) -> Answer {
+        above::check(self, image, directory)
+    }
 }
 
 /// One call with its arguments. The last bytes of a read and of a store are
-/// what the lent buffer holds beforehand.
+/// what the lent buffer holds beforehand, and so are the numbers of a reading
+/// of links.
 #[derive(Clone, Debug, PartialEq, Eq)]
 pub enum Call {
     Format,
@@ -271,12 +308,19 @@ pub enum Call {
     Unlock(Vec<u8>),
     /// Path, date, content, the store's number, the lent page.
     Store(Vec<u8>, Vec<u8>, Vec<u8>, u64, Vec<u8>),
+    /// The directory, the lent numbers.
+    LinksRead(Vec<u8>, Vec<u64>),
+    /// The directory, the date, the numbers.
+    LinksWrite(Vec<u8>, Vec<u8>, Vec<u64>),
+    /// The directory, the accession's count of digits, and their value.
+    LinksFind(Vec<u8>, u64, u64),
+    LinksCheck(Vec<u8>),
     /// No call of the lists: they start afresh from its result.
     Repair,
 }
 
 /// How many calls there are that lists are made of; they come first.
-pub const CALL_COUNT: usize = 13;
+pub const CALL_COUNT: usize = 17;
 /// How many there are with those that stand outside the lists.
 pub const EVERY_CALL: usize = CALL_COUNT + 1;
 
@@ -295,6 +339,10 @@ pub const CALL_NAMES: [&str; EVERY_CALL] = [
     "lock",
     "unlock",
     "store",
+    "links_read",
+    "links_write",
+    "links_find",
+    "links_check",
     "repair",
 ];
 
@@ -315,7 +363,11 @@ impl Call {
             Call::Lock(..) => 10,
             Call::Unlock(..) => 11,
             Call::Store(..) => 12,
-            Call::Repair => 13,
+            Call::LinksRead(..) => 13,
+            Call::LinksWrite(..) => 14,
+            Call::LinksFind(..) => 15,
+            Call::LinksCheck(..) => 16,
+            Call::Repair => 17,
         }
     }
 
@@ -324,7 +376,7 @@ impl Call {
     }
 
     /// Performs the call with `calls`; a read and a store fill the buffer in
-    /// `self`.
+    /// `self`, and a reading of links the numbers.
     pub fn perform(&mut self, calls: &dyn Calls, image: &mut [u8]) -> Answer {
         match self {
             Call::Format => calls.format(image),
@@ -342,6 +394,14 @@ impl Call {
             Call::Store(path, date, content, number, page) => {
                 calls.store(image, path, date, content, *number, page)
             }
+            Call::LinksRead(directory, numbers) => calls.links_read(image, directory, numbers),
+            Call::LinksWrite(directory, date, numbers) => {
+                calls.links_write(image, directory, date, numbers)
+            }
+            Call::LinksFind(directory, count, value) => {
+                calls.links_find(image, directory, *count, *value)
+            }
+            Call::LinksCheck(directory) => calls.links_check(image, directory),
             Call::Repair => calls.repair(image),
         }
     }

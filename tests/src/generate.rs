@@ -4,13 +4,15 @@
 use crate::assemble::{assemble, nest, Order};
 use crate::calls::{Call, CALL_COUNT, DATE_BYTES};
 use crate::harness::Scenario;
+use crate::plain::links::{file_of, path_in, rows_of, Row};
 use crate::plain::path::days_in;
 use crate::plain::tree::{Entry, File, Node, Tree};
 use crate::plain::{pages_of_file, Replay, CONTENT, PAGE};
 use crate::random::Random;
+use crate::rows::{numbers_of, random_row, rows_filling, sorted, spoil_file, spoil_list};
 
 /// Names that are easily confused, and the limits of length and of bytes.
-const NAMES: [&[u8]; 20] = [
+const NAMES: [&[u8]; 23] = [
     b"0042",
     b"42",
     b"042",
@@ -31,6 +33,9 @@ const NAMES: [&[u8]; 20] = [
     b"AAAAAAAAAAAAAAAA",
     b"AAAAAAAAAAAAAAAB",
     b"read me.txt",
+    b"LINKS",
+    b"LINKS",
+    b"LINK",
 ];
 
 /// Lengths of content at which pages are gained.
@@ -40,17 +45,19 @@ const LENGTHS: [usize; 14] = [
 
 /// What a list is mostly about: how often each of the calls comes, in the
 /// order of [`Call::index`].
-const PROFILES: [[usize; CALL_COUNT]; 5] = [
+const PROFILES: [[usize; CALL_COUNT]; 6] = [
     // Everything.
-    [1, 3, 6, 8, 10, 14, 10, 22, 8, 7, 5, 4, 12],
+    [1, 3, 6, 8, 10, 14, 10, 22, 8, 7, 5, 4, 12, 4, 6, 4, 4],
     // Filling up and making room.
-    [0, 1, 1, 1, 3, 8, 3, 30, 7, 2, 1, 2, 12],
+    [0, 1, 1, 1, 3, 8, 3, 30, 7, 2, 1, 2, 12, 0, 6, 0, 0],
     // Nesting.
-    [0, 1, 3, 4, 1, 4, 24, 3, 2, 5, 1, 1, 5],
+    [0, 1, 3, 4, 1, 4, 24, 3, 2, 5, 1, 1, 5, 0, 2, 0, 0],
     // Making and removing.
-    [0, 1, 2, 3, 1, 14, 14, 3, 9, 9, 3, 2, 6],
+    [0, 1, 2, 3, 1, 14, 14, 3, 9, 9, 3, 2, 6, 0, 0, 0, 0],
     // Looking.
-    [0, 3, 10, 14, 16, 4, 2, 6, 1, 1, 3, 2, 8],
+    [0, 3, 10, 14, 16, 4, 2, 6, 1, 1, 3, 2, 8, 1, 1, 1, 1],
+    // Link lists.
+    [0, 1, 1, 1, 2, 12, 5, 12, 4, 1, 2, 2, 2, 12, 18, 12, 12],
 ];
 
 /// A random list of calls from a random sound image.
@@ -147,7 +154,7 @@ pub struct Generator<'r> {
 
 impl<'r> Generator<'r> {
     pub fn new(replay: Replay, random: &'r mut Random) -> Generator<'r> {
-        let weights = PROFILES[random.weighted(&[5, 3, 2, 2, 1])];
+        let weights = PROFILES[random.weighted(&[5, 3, 2, 2, 1, 2])];
         Generator {
             replay,
             random,
@@ -175,7 +182,11 @@ impl<'r> Generator<'r> {
             9 => Call::RemoveDirectory(self.removed_path(is_directory)),
             10 => Call::Lock(self.file_path()),
             11 => Call::Unlock(self.unlocked_path()),
-            _ => self.store_call(),
+            12 => self.store_call(),
+            13 => self.links_read_call(),
+            14 => self.links_write_call(),
+            15 => self.links_find_call(),
+            _ => Call::LinksCheck(self.links_directory()),
         };
         self.replay.step(&mut call.clone());
         call
@@ -227,8 +238,122 @@ impl<'r> Generator<'r> {
         Call::Store(path, date, content, number, self.random.bytes(room))
     }
 
+    /// The directory of a link list that is there, or any.
+    fn links_directory(&mut self) -> Vec<u8> {
+        let paths = self.replay.tree.paths().into_iter();
+        let lists = paths.filter_map(|(path, _)| Some(path.strip_suffix(b"/LINKS")?.to_vec()));
+        let directories: Vec<Vec<u8>> = lists.collect();
+        if directories.is_empty() || self.random.chance(1, 5) {
+            return self.directory_path();
+        }
+        match self.random.pick(&directories).as_slice() {
+            b"" => b"/".to_vec(),
+            directory => directory.to_vec(),
+        }
+    }
+
+    /// The rows of the directory's list; of one with a broken row those before.
+    fn rows_in(&self, directory: &[u8]) -> Vec<Row> {
+        let tree = &self.replay.tree;
+        tree.link_rows(directory).unwrap_or_else(|refusal| {
+            let mut before = vec![0; refusal.place[0] as usize];
+            let read = tree.read(&path_in(directory), 0, &mut before);
+            match refusal.number == 21 && read.is_ok() {
+                true => rows_of(&before).unwrap_or_default(),
+                false => Vec::new(),
+            }
+        })
+    }
+
+    fn links_read_call(&mut self) -> Call {
+        let directory = self.links_directory();
+        let needed = 3 * self.rows_in(&directory).len();
+        let length = match self.random.below(8) {
+            0 => needed.saturating_sub(1),
+            1 => needed,
+            2 => needed + self.random.between(1, 3),
+            3 => needed.saturating_sub(3),
+            4 => 0,
+            _ => needed + self.random.below(30),
+        };
+        let numbers = (0..length).map(|_| self.random.number());
+        Call::LinksRead(directory, numbers.collect())
+    }
+
+    fn links_write_call(&mut self) -> Call {
+        let directory = self.links_directory();
+        let date = self.date();
+        let rows = self.rows(&directory);
+        let mut numbers = numbers_of(&rows);
+        if self.random.chance(1, 5) {
+            spoil_list(&mut numbers, self.random);
+        }
+        Call::LinksWrite(directory, date, numbers)
+    }
+
+    /// Rows in order: of files that are there, random ones, or as many as fill
+    /// what is free.
+    fn rows(&mut self, directory: &[u8]) -> Vec<Row> {
+        let mut rows = Vec::new();
+        if self.random.chance(1, 6) {
+            let tree = &self.replay.tree;
+            let old = tree.find(&path_in(directory)).map_or(0, |found| {
+                pages_of_file(found.values[1] as usize)
+            });
+            let free = tree.free() + old;
+            // A long list takes its time.
+            let is_far = free > 16 && self.random.chance(7, 8);
+            let length = match self.random.below(3) {
+                0 if !is_far => free * CONTENT,
+                1 if !is_far => free * CONTENT + 1,
+                _ => *self.random.pick(&LENGTHS),
+            };
+            return rows_filling(length);
+        }
+        if self.random.chance(1, 2) {
+            let above = directory.strip_suffix(b"/").unwrap_or(directory).to_vec();
+            for (path, _) in self.replay.tree.paths() {
+                let name = path.strip_prefix(above.as_slice());
+                let name = name.and_then(|name| name.strip_prefix(b"/"));
+                let figure = self.random.number() % 1000;
+                rows.extend(name.and_then(|name| row_named(name, figure)));
+            }
+        }
+        for _ in 0..self.random.below(4) {
+            rows.push(random_row(self.random));
+        }
+        sorted(rows)
+    }
+
+    fn links_find_call(&mut self) -> Call {
+        let directory = self.links_directory();
+        let rows = self.rows_in(&directory);
+        let Row {
+            mut count,
+            mut value,
+            ..
+        } = match rows.is_empty() || self.random.chance(1, 8) {
+            true => random_row(self.random),
+            false => *self.random.pick(&rows),
+        };
+        match self.random.below(10) {
+            0 => count += 1,
+            1 => value += 1,
+            2 => count += 1 << 32,
+            3 => value = self.random.number(),
+            _ => {}
+        }
+        Call::LinksFind(directory, count, value)
+    }
+
     fn write_call(&mut self) -> Call {
         let path = self.written_path();
+        if path.ends_with(b"/LINKS") && self.random.chance(2, 3) {
+            let directory = path[..path.len() - 6].to_vec();
+            let mut file = file_of(&self.rows(&directory));
+            spoil_file(&mut file, self.random);
+            return Call::Write(path, 0, file);
+        }
         let size = self.size_at(&path);
         let position = self.position(size);
         let length = self.write_length(size, position);
@@ -497,6 +622,17 @@ fn is_locked(entry: &Entry) -> bool {
 /// Whether it is a file that may be written.
 fn is_open(entry: &Entry) -> bool {
     is_file(entry) && !is_locked(entry)
+}
+
+/// The row that names a file by its digits, if the name has no other byte.
+fn row_named(name: &[u8], figure: u64) -> Option<Row> {
+    let is_digits = !name.is_empty() && name.iter().all(u8::is_ascii_digit);
+    let digits = std::str::from_utf8(name).ok().filter(|_| is_digits)?;
+    Some(Row {
+        count: name.len() as u64,
+        value: digits.parse().ok()?,
+        figure,
+    })
 }
 
 /// The path of `name` in the directory `parent`.

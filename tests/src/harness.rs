@@ -32,10 +32,10 @@ pub struct Difference {
     pub what: String,
 }
 
-/// Bytes between two stretches that nobody may change. The first one lies at
-/// any place of a word.
-struct Guarded {
-    all: Vec<u8>,
+/// Bytes or numbers between two stretches that nobody may change. The first
+/// byte lies at any place of a word.
+struct Guarded<T = u8> {
+    all: Vec<T>,
     from: usize,
     length: usize,
 }
@@ -43,28 +43,28 @@ struct Guarded {
 const GUARD: usize = 64;
 const GUARD_BYTE: u8 = 0xC3;
 
-impl Guarded {
-    fn new(bytes: &[u8], shift: usize) -> Guarded {
+impl<T: Copy + PartialEq + From<u8>> Guarded<T> {
+    fn new(items: &[T], shift: usize) -> Guarded<T> {
         let from = GUARD + shift % 8;
-        let length = bytes.len();
-        let mut all = vec![GUARD_BYTE; from + length + GUARD];
-        all[from..from + length].copy_from_slice(bytes);
+        let length = items.len();
+        let mut all = vec![T::from(GUARD_BYTE); from + length + GUARD];
+        all[from..from + length].copy_from_slice(items);
         Guarded { all, from, length }
     }
 
-    fn bytes(&self) -> &[u8] {
+    fn bytes(&self) -> &[T] {
         &self.all[self.from..self.from + self.length]
     }
 
-    fn bytes_mut(&mut self) -> &mut [u8] {
+    fn bytes_mut(&mut self) -> &mut [T] {
         &mut self.all[self.from..self.from + self.length]
     }
 
     fn check(&self, what: &mut String) {
         let (before, rest) = self.all.split_at(self.from);
-        let after = &rest[self.length..];
-        if before.iter().chain(after).any(|&byte| byte != GUARD_BYTE) {
-            *what += "bytes outside the image or the buffer were written\n";
+        let mut around = before.iter().chain(&rest[self.length..]);
+        if around.any(|&item| item != T::from(GUARD_BYTE)) {
+            *what += "what lies outside the image, the buffer or the list was written\n";
         }
     }
 }
@@ -90,6 +90,13 @@ fn perform_guarded(
             let answer = calls.store(image.bytes(), path, date, content, *number, lent);
             guarded.check(what);
             page.copy_from_slice(guarded.bytes());
+            answer
+        }
+        Call::LinksRead(directory, numbers) => {
+            let mut guarded = Guarded::new(numbers, directory.len());
+            let answer = calls.links_read(image.bytes(), directory, guarded.bytes_mut());
+            guarded.check(what);
+            numbers.copy_from_slice(guarded.bytes());
             answer
         }
         _ => call.perform(calls, image.bytes_mut()),
@@ -256,13 +263,30 @@ fn describe_lent(what: &mut String, wanted: &Call, got: &Call) {
         (Call::Store(.., wanted), Call::Store(.., got)) if wanted != got => {
             describe_bytes(what, "page", wanted, got);
         }
-        _ => *what += "the path, date or bytes of the call were changed\n",
+        (Call::LinksRead(_, wanted), Call::LinksRead(_, got)) if wanted != got => {
+            describe_numbers(what, wanted, got);
+        }
+        _ => *what += "the path, date, bytes or numbers of the call were changed\n",
     }
 }
 
 fn describe_images(what: &mut String, wanted: &[u8], got: &[u8]) {
     if wanted != got {
         describe_bytes(what, "image", wanted, got);
+    }
+}
+
+/// The first numbers of a list that differ.
+fn describe_numbers(what: &mut String, wanted: &[u64], got: &[u64]) {
+    let pairs = wanted.iter().zip(got).enumerate();
+    let different = pairs.filter(|(_, (wanted, got))| wanted != got);
+    *what += "list:\n";
+    for (at, (wanted, got)) in different.take(12) {
+        let (row, part) = (at / 3, at % 3);
+        let _ = writeln!(
+            what,
+            "  {at} (row {row}, number {part}): expected {wanted}, got {got}"
+        );
     }
 }
 

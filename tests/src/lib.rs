@@ -5,10 +5,12 @@
 //!   written from the paper alone and is what the others are measured by.
 //! * [`direct`] works on the image bytes without a tree, as one would write it
 //!   for speed; the benchmark compares the library with it.
+//! * [`above`] is the link list over the base's calls, whosever they are.
 //! * `c` (feature `library`) is the boundary to the C library.
 //! * [`harness`] runs a list of calls on two implementations and shrinks a
 //!   list that shows a difference.
 
+pub mod above;
 pub mod assemble;
 #[cfg(feature = "library")]
 pub mod c;
@@ -22,9 +24,11 @@ pub mod listing;
 pub mod misjudge;
 pub mod plain;
 pub mod random;
+pub mod rows;
 pub mod settings;
 pub mod shrink;
 pub mod subjects;
 pub mod tidy;
 pub mod workloads;
 pub mod wrong;
+pub mod wrong_links;

@@ -159,7 +159,41 @@ fn simpler(call: &Call) -> Vec<Call> {
             let others = simpler_transfer(path, *number, content).map(with);
             others.chain(lent).collect()
         }
+        Call::LinksRead(path, numbers) => {
+            let paths = shorter(path).map(|path| Call::LinksRead(path, numbers.clone()));
+            let lists = simpler_list(numbers).map(|list| Call::LinksRead(path.clone(), list));
+            lists.chain(paths).collect()
+        }
+        Call::LinksWrite(path, date, numbers) => {
+            let with = |path: &[u8], list| Call::LinksWrite(path.to_vec(), date.clone(), list);
+            let paths = shorter(path).map(|path| with(&path, numbers.clone()));
+            let lists = simpler_list(numbers).map(|list| with(path, list));
+            lists.chain(paths).collect()
+        }
+        Call::LinksFind(path, count, value) => {
+            let paths = shorter(path).map(|path| Call::LinksFind(path, *count, *value));
+            let counts = smaller(*count).map(|count| Call::LinksFind(path.clone(), count, *value));
+            let values = smaller(*value).map(|value| Call::LinksFind(path.clone(), *count, value));
+            counts.chain(values).chain(paths).collect()
+        }
+        Call::LinksCheck(path) => shorter(path).map(Call::LinksCheck).collect(),
     }
+}
+
+/// Lists without some of their rows, and lists of which a number is smaller.
+fn simpler_list(numbers: &[u64]) -> impl Iterator<Item = Vec<u64>> + '_ {
+    let rows: Vec<&[u64]> = numbers.chunks(3).collect();
+    let fewer: Vec<Vec<u64>> = shorter(&rows).map(|rows| rows.concat()).collect();
+    // In a long list rows go first.
+    let few = numbers.len().min(12);
+    let plainer = (0..few).flat_map(move |at| {
+        smaller(numbers[at]).map(move |number| {
+            let mut list = numbers.to_vec();
+            list[at] = number;
+            list
+        })
+    });
+    fewer.into_iter().chain(plainer)
 }
 
 type Transfer = (Vec<u8>, u64, Vec<u8>);
@@ -178,16 +212,16 @@ fn simpler_transfer<'a>(
     contents.chain(positions).chain(paths)
 }
 
-/// The bytes without a stretch at their beginning, middle or end.
-fn shorter(bytes: &[u8]) -> impl Iterator<Item = Vec<u8>> + '_ {
-    let halvings = std::iter::successors(Some(bytes.len().div_ceil(2)), |cut| {
+/// The bytes or rows without a stretch at their beginning, middle or end.
+fn shorter<T: Clone>(items: &[T]) -> impl Iterator<Item = Vec<T>> + '_ {
+    let halvings = std::iter::successors(Some(items.len().div_ceil(2)), |cut| {
         (*cut > 1).then_some(cut / 2)
     });
     let cuts = halvings.filter(|&cut| cut > 0);
     cuts.flat_map(move |cut| {
-        let kept = bytes.len() - cut;
-        let middle = [&bytes[..kept / 2], &bytes[kept / 2 + cut..]].concat();
-        [bytes[..kept].to_vec(), middle, bytes[cut..].to_vec()]
+        let kept = items.len() - cut;
+        let middle = [&items[..kept / 2], &items[kept / 2 + cut..]].concat();
+        [items[..kept].to_vec(), middle, items[cut..].to_vec()]
     })
 }
 
@@ -252,9 +286,15 @@ fn call_text(call: &Call) -> String {
         | Call::RemoveFile(path)
         | Call::RemoveDirectory(path)
         | Call::Lock(path)
-        | Call::Unlock(path) => {
+        | Call::Unlock(path)
+        | Call::LinksCheck(path) => {
             format!("{name} {}", text(path))
         }
+        Call::LinksRead(path, numbers) => format!("{name} {} into {numbers:?}", text(path)),
+        Call::LinksWrite(path, date, numbers) => {
+            format!("{name} {} date {} {numbers:?}", text(path), hex(date))
+        }
+        Call::LinksFind(path, count, value) => format!("{name} {} {count} {value}", text(path)),
         Call::List(path, entry) => format!("{name} {} entry {entry}", text(path)),
         Call::MakeFile(path, date) | Call::MakeDirectory(path, date) => {
             format!("{name} {} date {}", text(path), hex(date))

@@ -5,6 +5,7 @@ use crate::calls::{Answer, Audit, Call, Calls, Refusal};
 use crate::misjudge::misjudged;
 use crate::plain::reader::is_allocated;
 use crate::plain::writer::entry_at;
+use crate::wrong_links::Links;
 use crate::plain::{pages_of_file, pages_of_image, Plain, BITMAP_AT, CONTENT, ENTRY, PAGE, ROOT_ENTRIES_AT};
 
 /// What is broken.
@@ -94,6 +95,66 @@ pub enum Fault {
     TidyLeavesBits,
     /// A tidy moves the start pages of the root's vacant entries too.
     TidyMovesVacant,
+    /// The numbers of a link list are in groups of six bits.
+    LinksGroupsOf64,
+    /// A number with a group too many is taken.
+    LinksNotShortest,
+    /// A row may be equal to the one before it.
+    LinksEqualRows,
+    /// Rows rise by value, then by count.
+    LinksValueFirst,
+    /// A row not above another is told before a broken one.
+    LinksOrderFirst,
+    /// An accession may have 17 digits.
+    LinksSeventeenDigits,
+    /// An accession may have no digit.
+    LinksNoDigits,
+    /// A value may be ten to the count.
+    LinksTenToTheCount,
+    /// A figure may have 33 bits.
+    LinksLongFigure,
+    /// A figure may have 31 bits only.
+    LinksShortFigure,
+    /// A broken row of a file is told by its number.
+    LinksRowForByte,
+    /// Two numbers past the last row are a row.
+    LinksRemainder,
+    /// The empty path is taken for the root.
+    LinksEmptyPath,
+    /// A directory without LINKS has a list of no rows.
+    LinksMissingIsEmpty,
+    /// A missing LINKS is told at the path's first name.
+    LinksPlaceOfDirectory,
+    /// A list too short is told before a bad row.
+    LinksRoomFirst,
+    /// A list has to have room for one row more.
+    LinksRoomForOneMore,
+    /// The list past the rows is overwritten.
+    LinksRestOverwritten,
+    /// Leading zeros of an accession do not count.
+    LinksLeadingZeros,
+    /// What follows the row that is found is not judged.
+    LinksFoundFirst,
+    /// A directory will do for a row's file.
+    LinksDirectoryNamed,
+    /// A bad date is told after a missing name.
+    LinksDateAfterName,
+    /// A directory of that name is told after the rows.
+    LinksDirectoryLast,
+    /// Want of an entry or of pages is told before the rows.
+    LinksRoomBeforeRows,
+    /// A locked list is written anew.
+    LinksLockOverlooked,
+    /// Pages are counted with the old list still there.
+    LinksOldPagesCount,
+    /// Entries are counted with the old list still there.
+    LinksOldEntryCounts,
+    /// The new list has the old one's date.
+    LinksDateKept,
+    /// Only the first page of a list is written.
+    LinksFirstPageOnly,
+    /// A writing that is refused for want of pages has removed the old list.
+    LinksRefusedRemoves,
     // From here on the fault that is told of an image is not its first one, or
     // its place is another.
     /// The page that fails is counted among those that passed.
@@ -113,7 +174,7 @@ pub enum Fault {
 }
 
 /// All faults.
-pub const FAULTS: [Fault; 49] = [
+pub const FAULTS: [Fault; 79] = [
     Fault::LeadingZeros,
     Fault::TrustedFreeCount,
     Fault::WholeBitmap,
@@ -156,6 +217,36 @@ pub const FAULTS: [Fault; 49] = [
     Fault::AuditTrustsCount,
     Fault::TidyLeavesBits,
     Fault::TidyMovesVacant,
+    Fault::LinksGroupsOf64,
+    Fault::LinksNotShortest,
+    Fault::LinksEqualRows,
+    Fault::LinksValueFirst,
+    Fault::LinksOrderFirst,
+    Fault::LinksSeventeenDigits,
+    Fault::LinksNoDigits,
+    Fault::LinksTenToTheCount,
+    Fault::LinksLongFigure,
+    Fault::LinksShortFigure,
+    Fault::LinksRowForByte,
+    Fault::LinksRemainder,
+    Fault::LinksEmptyPath,
+    Fault::LinksMissingIsEmpty,
+    Fault::LinksPlaceOfDirectory,
+    Fault::LinksRoomFirst,
+    Fault::LinksRoomForOneMore,
+    Fault::LinksRestOverwritten,
+    Fault::LinksLeadingZeros,
+    Fault::LinksFoundFirst,
+    Fault::LinksDirectoryNamed,
+    Fault::LinksDateAfterName,
+    Fault::LinksDirectoryLast,
+    Fault::LinksRoomBeforeRows,
+    Fault::LinksLockOverlooked,
+    Fault::LinksOldPagesCount,
+    Fault::LinksOldEntryCounts,
+    Fault::LinksDateKept,
+    Fault::LinksFirstPageOnly,
+    Fault::LinksRefusedRemoves,
     Fault::FailedPageCounted,
     Fault::EarlierOfEqualNames,
     Fault::HighestLostPage,
@@ -169,6 +260,11 @@ impl Fault {
     /// Whether it shows only in which fault of an image is told.
     pub fn is_of_the_judge(self) -> bool {
         self >= Fault::FailedPageCounted
+    }
+
+    /// Whether it is one of the link list.
+    pub fn is_of_links(self) -> bool {
+        self >= Fault::LinksGroupsOf64 && !self.is_of_the_judge()
     }
 }
 
@@ -562,5 +658,39 @@ impl Calls for Wrong {
             }
         }
         answer
+    }
+
+    fn links_read(&self, image: &[u8], directory: &[u8], numbers: &mut [u64]) -> Answer {
+        match self.0.is_of_links() {
+            true => Links(self.0).read(image, directory, numbers),
+            false => Plain.links_read(image, directory, numbers),
+        }
+    }
+
+    fn links_write(
+        &self,
+        image: &mut [u8],
+        directory: &[u8],
+        date: &[u8],
+        numbers: &[u64],
+    ) -> Answer {
+        match self.0.is_of_links() {
+            true => Links(self.0).write(image, directory, date, numbers),
+            false => Plain.links_write(image, directory, date, numbers),
+        }
+    }
+
+    fn links_find(&self, image: &[u8], directory: &[u8], count: u64, value: u64) -> Answer {
+        match self.0.is_of_links() {
+            true => Links(self.0).find(image, directory, count, value),
+            false => Plain.links_find(image, directory, count, value),
+        }
+    }
+
+    fn links_check(&self, image: &[u8], directory: &[u8]) -> Answer {
+        match self.0.is_of_links() {
+            true => Links(self.0).check(image, directory),
+            false => Plain.links_check(image, directory),
+        }
     }
 }

@@ -215,6 +215,9 @@ fn in_family(call: &Call, family: &[u8], changes: bool) -> Option<Call> {
         Call::Lock(at) => path(&at).map(Call::Lock),
         Call::Unlock(at) => path(&at).map(Call::Unlock),
         Call::Format | Call::Verdict | Call::Store(..) | Call::Repair => None,
+        // None of the link list's calls is named there.
+        Call::LinksRead(..) | Call::LinksWrite(..) => None,
+        Call::LinksFind(..) | Call::LinksCheck(..) => None,
     }
 }
 

@@ -28,6 +28,10 @@ const POSSIBLE: [&[usize]; CALL_COUNT] = [
     &[0, 4, 5, 6, 7],
     &[0, 4, 5, 6, 7],
     &[0, 4, 5, 6, 8, 9, 10, 11, 12, 29],
+    &[0, 4, 5, 6, 7, 21, 22, 24],
+    &[0, 4, 5, 6, 7, 9, 10, 11, 21, 22, 25],
+    &[0, 4, 5, 6, 7, 21, 22],
+    &[0, 4, 5, 6, 7, 21, 22, 23],
 ];
 
 fn check(origin: &Origin, scenario: &Scenario, subject: &Subject, tally: &mut Tally) {
@@ -116,12 +120,16 @@ fn check_coverage(tally: &Tally) {
 /// writes and removals a locked file, and locks a directory: each number comes
 /// in one of 100 of their calls.
 fn check_often(tally: &Tally) {
-    let often: [(&str, &[usize]); 5] = [
+    let often: [(&str, &[usize]); 9] = [
         ("write", &[25]),
         ("remove_file", &[7, 6, 14, 25]),
         ("remove_directory", &[13, 6, 14]),
         ("lock", &[7]),
         ("unlock", &[7]),
+        ("links_read", &[0, 5, 21, 24]),
+        ("links_write", &[0, 7, 10, 21, 22]),
+        ("links_find", &[0, 21]),
+        ("links_check", &[0, 21, 23]),
     ];
     for (name, expected) in often {
         let call = CALL_NAMES.iter().position(|other| *other == name);

@@ -8,8 +8,8 @@ use zealfs_tests::subjects::all;
 
 /// The numbers in the order of the table. Of the faults that the judge's walk
 /// tells, [`WALK`], no image here has two; tests/first_fault.rs has their order.
-const TABLE: [u8; 20] = [
-    1, 2, 16, 17, 18, 20, 19, 3, 4, 11, 14, 5, 6, 8, 7, 25, 12, 9, 10, 13,
+const TABLE: [u8; 22] = [
+    1, 2, 16, 17, 18, 20, 19, 3, 4, 11, 14, 5, 6, 8, 7, 25, 21, 22, 12, 9, 10, 13,
 ];
 
 const WALK: [u8; 4] = [16, 17, 18, 20];
@@ -278,8 +278,78 @@ fn lock_cases(lock: fn(Vec<u8>) -> Call) -> Vec<Case> {
     ]
 }
 
+/// The three calls that read a link list, of which the images have none;
+/// tests/links.rs has their other numbers.
+fn links_cases() -> Vec<Case> {
+    let places: [(&str, Lines, u64); 9] = [
+        ("", &[4], 0),
+        ("D", &[4], 0),
+        ("/D/", &[4], 0),
+        ("/X", &[5], 1),
+        ("/D/X", &[5], 3),
+        ("/F", &[6], 1),
+        ("/D/G/X", &[6], 3),
+        ("/", &[5], 1),
+        ("/D", &[5], 3),
+    ];
+    let calls = |directory: &str| {
+        [
+            Call::LinksRead(path(directory), vec![0xB7; 4]),
+            Call::LinksRead(path(directory), Vec::new()),
+            Call::LinksFind(path(directory), 17, 0),
+            Call::LinksCheck(path(directory)),
+        ]
+    };
+    let of_place =
+        |(directory, holds, place)| calls(directory).map(|call| (On::Roomy, call, holds, place));
+    places.into_iter().flat_map(of_place).collect()
+}
+
+fn links_write_cases() -> Vec<Case> {
+    let case = |on, text, date: &[u8], numbers: &[u64], holds: Lines, place| {
+        let call = Call::LinksWrite(path(text), date.to_vec(), numbers.to_vec());
+        (on, call, holds, place)
+    };
+    let (roomy, full) = (On::Roomy, On::Full);
+    let good = [1, 7, 1];
+    let (broken, equal) = ([1, 7, 1, 1, 10, 1], [1, 7, 1, 1, 7, 2]);
+    // Rows of 7 bytes, on three pages.
+    let long: Vec<u64> = (0..100)
+        .flat_map(|value| [3, value + 200, 1 << 21])
+        .collect();
+    vec![
+        case(roomy, "", &DATE, &good, &[4], 0),
+        case(roomy, "/D/", &BAD_DATE, &broken, &[4, 11, 21], 0),
+        case(roomy, "/D", &BAD_DATE, &good, &[11], 0),
+        case(roomy, "/D", &DATE[..7], &broken, &[11, 21], 0),
+        case(roomy, "/X", &BAD_DATE, &equal, &[11, 5, 22], 0),
+        case(roomy, "/F", &BAD_DATE, &good, &[11, 6], 0),
+        case(roomy, "/X", &DATE, &broken, &[5, 21], 1),
+        case(roomy, "/D/X/Y", &DATE, &good, &[5], 3),
+        case(roomy, "/F", &DATE, &equal, &[6, 22], 1),
+        case(roomy, "/F/LINKS", &DATE, &good, &[6], 1),
+        case(roomy, "/D", &DATE, &broken, &[21], 1),
+        case(roomy, "/D", &DATE, &equal, &[22], 1),
+        case(roomy, "/D", &DATE, &long, &[10], 0),
+        case(roomy, "/full", &DATE, &broken, &[21, 9], 1),
+        case(roomy, "/full", &DATE, &equal, &[22, 9], 1),
+        case(roomy, "/full", &DATE, &good, &[9], 0),
+        case(roomy, "/full", &DATE, &long, &[9, 10], 0),
+        case(full, "/full", &DATE, &good, &[9, 10], 0),
+        case(full, "/", &DATE, &good, &[9, 10], 0),
+        case(full, "/", &DATE, &broken, &[21, 9, 10], 1),
+        case(full, "/D", &DATE, &good, &[10], 0),
+        case(full, "/D", &DATE, &[], &[10], 0),
+        case(full, "/D", &DATE, &broken, &[21, 10], 1),
+        case(full, "/D", &DATE, &equal, &[22, 10], 1),
+        case(full, "/D", &BAD_DATE, &good, &[11, 10], 0),
+    ]
+}
+
 fn cases() -> Vec<Case> {
     [
+        links_cases(),
+        links_write_cases(),
         find_cases(),
         list_cases(),
         read_cases(),
@@ -433,6 +503,8 @@ fn granted() -> Vec<Call> {
         Call::Lock(path("/full/5")),
         Call::Unlock(path("/F")),
         Call::Unlock(path("/full/5")),
+        Call::LinksWrite(path("/D"), DATE.to_vec(), vec![1, 7, 1]),
+        Call::LinksWrite(path("/"), DATE.to_vec(), vec![16, 0, (1 << 32) - 1]),
     ]
 }
 

@@ -1,4 +1,2 @@
-pub mod Stops
 pub mod Fits
 pub mod Rows
-pub mod Codes

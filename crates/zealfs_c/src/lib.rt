@@ -2,8 +2,7 @@
 // returns the code of the model's `answer`, puts what the answer tells into the out arrays, zeros beside a refusal, and leaves the image and
 // the reader's buffer as `after` and `bufferAfter` say. To C a slice is a pointer and then a length, and a reference to an array a pointer.
 use fields::Position;
-use judge::Fault;
-use refusals::Refusal;
+use links::FindLinkAnswer;
 use store::StoreAnswer;
 use tidy::TidyAnswer;
 use zealfs::ChangeAnswer;
@@ -19,61 +18,19 @@ ghost use Rattle.volume.specs.Bytes.{put};
 ghost use Rattle.model.specs.Listing.{listing};
 ghost use Rattle.model.specs.Sound.{sound};
 ghost use Rattle.model.specs.Call.{format, verdict, find, list, read, makeFile, makeDirectory, write, removeFile, removeDirectory, setLock, store, isFile};
-ghost use Rattle.model.specs.Meaning.{faultTold, answer, after, bufferAfter, copied};
-ghost use Rattle.judge.specs.Answers.{faultOf};
-ghost use Rattle.refusals.specs.Told.{told};
+ghost use Rattle.model.specs.Meaning.{answer, after, bufferAfter, copied};
 ghost use Rattle.answers.specs.Answers.{changeAnswer, findDate, listName, listDate};
 ghost use Rattle.repair.specs.Repair.{repairAnswer, repairAfter};
 ghost use Rattle.audit.specs.Owner.{ownerNumbers};
 ghost use Rattle.moves.specs.Tidy.{tidyAnswer, tidyAfter};
 ghost use Rattle.moves.specs.Propose.{proposeAnswer, proposeAfter};
 ghost use Rattle.tidy.specs.Answer.{answerOf};
-ghost use Rattle.zealfs_c.specs.Codes.{packed, refusalCode, codeOf, Fits, placeOf, lockNumber, soundNumber, verdictOut, findOut, listOut, readOut, storeOut};
-
-// The three numbers of a place as one.
-fn pack(a: usize, b: usize, c: usize) -> u64
-    requires { ⌜ Fits (a, b, c) ⌝ }
-    ensures { λ n. ⌜ n ≡ packed (a, b, c) ⌝ }
-{
-    a as u64 + 65536 * (b as u64 + 65536 * c as u64)
-}
-
-// Where the image is unsound.
-fn fault_place(fault: Fault) -> u64
-    requires { ⌜ Fits (faultTold (faultOf fault) .place) ⌝ }
-    ensures { λ n. ⌜ n ≡ packed (faultTold (faultOf fault) .place) ⌝ }
-{
-    match fault {
-        Fault::BadEntry(directory, entry) => pack(directory.0, entry, 0),
-        Fault::BadChain(directory, entry, passed) => pack(directory.0, entry, passed),
-        Fault::OwnedTwice(page) => pack(page.0, 0, 0),
-        Fault::MarkedFree(page) => pack(page.0, 0, 0),
-        Fault::LostPage(page) => pack(page.0, 0, 0),
-        Fault::BadCount => pack(0, 0, 0),
-    }
-}
-
-// Where a refusal points: the byte of the path, or the fault's place; 0 where there is none.
-fn place(r: Refusal) -> u64
-    requires { ⌜ Fits (told r .place) ⌝ }
-    ensures { λ n. ⌜ n ≡ packed (told r .place) ⌝ }
-{
-    match r {
-        Refusal::Unsound(fault) => fault_place(fault),
-        Refusal::NoSuchName(byte) => pack(byte, 0, 0),
-        Refusal::NotADirectory(byte) => pack(byte, 0, 0),
-        _ => 0,
-    }
-}
-
-// A refusal as C gets it. A walk stops within the first 65,536 bytes of a path of any length, and pages, entries and what passed are
-// few, so the place has room: law `place-fits`.
-fn code(r: Refusal) -> u64
-    requires { ⌜ Fits (told r .place) ⌝ }
-    ensures { λ n. ⌜ n ≡ refusalCode (told r) ⌝ }
-{
-    refusals::number(r) as u64 + 256 * place(r)
-}
+ghost use Rattle.link_list.specs.Links.{readLinks, writeLinks, findLink, checkLinks, linkAnswer, linkAfter};
+ghost use Rattle.link_rows.specs.Judged.{rowsOf};
+ghost use Rattle.links.specs.Answers.{numbersAfter};
+ghost use Rattle.codes.specs.Codes.{codeOf, Fits, placeOf};
+ghost use Rattle.link_codes.specs.Codes.{linkCodeOf};
+ghost use Rattle.zealfs_c.specs.Outs.{lockNumber, soundNumber, verdictOut, findOut, listOut, numberOut, figureOut};
 
 // The code of a call that tells nothing else.
 fn change_code(a: ChangeAnswer) -> u64
@@ -82,7 +39,7 @@ fn change_code(a: ChangeAnswer) -> u64
 {
     match a {
         ChangeAnswer::Done => 0,
-        ChangeAnswer::Refused(r) => code(r),
+        ChangeAnswer::Refused(r) => codes::code(r),
     }
 }
 
@@ -116,7 +73,7 @@ pub extern "C" fn zealfs_verdict(image: &[u8], out: &mut [u64; 2]) -> u64
         }
         VerdictAnswer::Refused(r) => {
             *out = [0; 2];
-            code(r)
+            codes::code(r)
         }
     }
 }
@@ -148,7 +105,7 @@ pub extern "C" fn zealfs_find(
         }
         FindAnswer::Refused(r) => {
             *out = [0; 3];
-            code(r)
+            codes::code(r)
         }
     }
 }
@@ -189,7 +146,7 @@ pub extern "C" fn zealfs_list(
         }
         ListAnswer::Refused(r) => {
             *out = [0; 4];
-            code(r)
+            codes::code(r)
         }
     }
 }
@@ -204,7 +161,7 @@ pub extern "C" fn zealfs_read(
     out: &mut [u64; 1],
 ) -> u64
     ensures { λ r. ⌜ r ≡ codeOf (answer (read (now (path .entry)) position (now (buffer .entry))) (now (image .entry))) ⌝ }
-    ensures { λ _. ⌜ now (out .exit) ≡ readOut (answer (read (now (path .entry)) position (now (buffer .entry))) (now (image .entry))) ⌝ }
+    ensures { λ _. ⌜ now (out .exit) ≡ numberOut (answer (read (now (path .entry)) position (now (buffer .entry))) (now (image .entry))) ⌝ }
     ensures { λ _. ⌜ now (buffer .exit) ≡ bufferAfter (read (now (path .entry)) position (now (buffer .entry))) (now (image .entry)) ⌝ }
 {
     match zealfs::read(image, path, Position(position as usize), buffer) {
@@ -214,7 +171,7 @@ pub extern "C" fn zealfs_read(
         }
         ReadAnswer::Refused(r) => {
             *out = [0; 1];
-            code(r)
+            codes::code(r)
         }
     }
 }
@@ -322,7 +279,7 @@ pub extern "C" fn zealfs_store(
     out: &mut [u64; 1],
 ) -> u64
     ensures { λ r. ⌜ r ≡ codeOf (answer (store (now (path .entry)) (now (date .entry)) (now (bytes .entry)) number (now (page .entry))) (now (image .entry))) ⌝ }
-    ensures { λ _. ⌜ now (out .exit) ≡ storeOut (answer (store (now (path .entry)) (now (date .entry)) (now (bytes .entry)) number (now (page .entry))) (now (image .entry))) ⌝ }
+    ensures { λ _. ⌜ now (out .exit) ≡ numberOut (answer (store (now (path .entry)) (now (date .entry)) (now (bytes .entry)) number (now (page .entry))) (now (image .entry))) ⌝ }
     ensures { λ _. ⌜ now (page .exit) ≡ bufferAfter (store (now (path .entry)) (now (date .entry)) (now (bytes .entry)) number (now (page .entry))) (now (image .entry)) ⌝ }
 {
     match store::store(image, path, date, bytes, number as usize, page) {
@@ -332,7 +289,7 @@ pub extern "C" fn zealfs_store(
         }
         StoreAnswer::Refused(r) => {
             *out = [0];
-            code(r)
+            codes::code(r)
         }
     }
 }
@@ -354,7 +311,7 @@ fn tidy_code(a: TidyAnswer) -> u64
 {
     match a {
         TidyAnswer::Done => 0,
-        TidyAnswer::Refused(r) => code(r),
+        TidyAnswer::Refused(r) => codes::code(r),
         TidyAnswer::OtherLength => 28,
         TidyAnswer::NotAccepted => 27,
     }
@@ -376,4 +333,80 @@ pub extern "C" fn zealfs_tidy(image: &[u8], places: &[u8], target: &mut [u8]) ->
     ensures { λ _. ⌜ now (target .exit) ≡ tidyAfter (now (image .entry)) (now (places .entry)) (now (target .entry)) ⌝ }
 {
     tidy_code(tidy::tidy(image, places, target))
+}
+
+// ---- the link list of a directory (02 §4), numbers for rows, three each: the accession's count of digits, its value, the figure
+
+// Reads the rows to the front of the numbers. out: how many rows.
+#[no_mangle]
+pub extern "C" fn zealfs_links_read(
+    image: &[u8],
+    directory: &[u8],
+    numbers: &mut [u64],
+    out: &mut [u64; 1],
+) -> u64
+    ensures { λ r. ⌜ r ≡ linkCodeOf (linkAnswer (readLinks (now (directory .entry)) (rowsOf (now (numbers .entry)))) (now (image .entry))) ⌝ }
+    ensures { λ _. ⌜ now (out .exit) ≡ numberOut (linkAnswer (readLinks (now (directory .entry)) (rowsOf (now (numbers .entry)))) (now (image .entry))) ⌝ }
+    ensures { λ _. ⌜ now (numbers .exit) ≡ numbersAfter (now (directory .entry)) (now (image .entry)) (now (numbers .entry)) ⌝ }
+{
+    match links::read(image, directory, numbers) {
+        links::ReadAnswer::Rows(rows) => {
+            *out = [rows as u64];
+            0
+        }
+        links::ReadAnswer::Refused(r) => {
+            *out = [0];
+            link_codes::code(r)
+        }
+    }
+}
+
+// Writes the rows in the place of any that were there, with a new date.
+#[no_mangle]
+pub extern "C" fn zealfs_links_write(
+    image: &mut [u8],
+    directory: &[u8],
+    date: &[u8],
+    numbers: &[u64],
+) -> u64
+    ensures { λ r. ⌜ r ≡ linkCodeOf (linkAnswer (writeLinks (now (directory .entry)) (now (date .entry)) (rowsOf (now (numbers .entry)))) (now (image .entry))) ⌝ }
+    ensures { λ _. ⌜ now (image .exit) ≡ linkAfter (writeLinks (now (directory .entry)) (now (date .entry)) (rowsOf (now (numbers .entry)))) (now (image .entry)) ⌝ }
+{
+    link_codes::done_code(links::write(image, directory, date, numbers))
+}
+
+// out: 1 if the accession has a row, its figure.
+#[no_mangle]
+pub extern "C" fn zealfs_links_find(
+    image: &[u8],
+    directory: &[u8],
+    count: u64,
+    value: u64,
+    out: &mut [u64; 2],
+) -> u64
+    ensures { λ r. ⌜ r ≡ linkCodeOf (linkAnswer (findLink (now (directory .entry)) count value) (now (image .entry))) ⌝ }
+    ensures { λ _. ⌜ now (out .exit) ≡ figureOut (linkAnswer (findLink (now (directory .entry)) count value) (now (image .entry))) ⌝ }
+{
+    match links::find(image, directory, count, value) {
+        FindLinkAnswer::Figure(figure) => {
+            *out = [1, figure];
+            0
+        }
+        FindLinkAnswer::Absent => {
+            *out = [0, 0];
+            0
+        }
+        FindLinkAnswer::Refused(r) => {
+            *out = [0; 2];
+            link_codes::code(r)
+        }
+    }
+}
+
+// Checks that every row names a file of the directory.
+#[no_mangle]
+pub extern "C" fn zealfs_links_check(image: &[u8], directory: &[u8]) -> u64
+    ensures { λ r. ⌜ r ≡ linkCodeOf (linkAnswer (checkLinks (now (directory .entry))) (now (image .entry))) ⌝ }
+{
+    link_codes::done_code(links::check(image, directory))
 }

@@ -53,7 +53,9 @@ fn what_is_refused() {
         folder.status(&["links", "write", "loan.img", "/A", "wrong"], 16);
     }
     // there is no list yet
-    assert!(folder.status(&["links", "show", "loan.img", "/A"], 2).err.contains("refused 5:"));
+    let missing = folder.status(&["links", "show", "loan.img", "/A"], 2).err;
+    assert!(missing.starts_with("zealfs: loan.img: /A/LINKS: refused 5:"), "{missing}");
+    assert!(folder.status(&["links", "check", "loan.img", "/"], 2).err.starts_with("zealfs: loan.img: /LINKS: refused 5:"));
     folder.status(&["links", "find", "loan.img", "/A", "42"], 2);
     folder.status(&["links", "check", "loan.img", "/"], 2);
     folder.status(&["links", "find", "loan.img", "/A", "4x"], 16);
@@ -63,4 +65,37 @@ fn what_is_refused() {
     folder.write("empty.img", b"");
     folder.status(&["links", "show", "empty.img", "/A"], 4);
     assert_eq!(folder.read("loan.img"), before);
+}
+
+/// A directory named LINKS, a locked list, one that is broken, a full image, and a date that does not exist.
+#[test]
+fn lists_that_cannot_be_written_or_read() {
+    let folder = folder();
+    folder.write("table", b"42 1\n");
+    folder.done(&["mkdir", "loan.img", "/A/LINKS"]);
+    let told = folder.status(&["links", "write", "loan.img", "/A", "table"], 2).err;
+    assert!(told.starts_with("zealfs: loan.img: /A/LINKS: refused 7:"), "{told}");
+    folder.done(&["rmdir", "loan.img", "/A/LINKS"]);
+    assert!(folder.status(&["links", "write", "--date", "2026-02-31", "loan.img", "/A", "table"], 2).err.contains("refused 11:"));
+    folder.done(&["links", "write", "loan.img", "/A", "table"]);
+    folder.done(&["lock", "loan.img", "/A/LINKS"]);
+    assert!(folder.status(&["links", "write", "loan.img", "/A", "table"], 2).err.contains("refused 25:"));
+    folder.expect(&["links", "find", "loan.img", "/A", "42"], 0, "1\n", "");
+    folder.done(&["unlock", "loan.img", "/A/LINKS"]);
+    let rows: String = (0..2000).map(|number| format!("{number:04} {number}\n")).collect();
+    folder.write("many", rows.as_bytes());
+    assert!(folder.status(&["links", "write", "loan.img", "/A", "many"], 2).err.contains("refused 10:"));
+    folder.write("broken", b"\x01\x07\x01\x02\x81\x00\x01");
+    folder.done(&["put", "-o", "loan.img", "broken", "/A/LINKS"]);
+    for words in
+        [&["links", "show", "loan.img", "/A"][..], &["links", "check", "loan.img", "/A"], &["links", "find", "loan.img", "/A", "7"]]
+    {
+        let told = folder.status(words, 2).err;
+        assert!(told.starts_with("zealfs: loan.img: /A/LINKS: refused 21:"), "{told}");
+    }
+    // a table of no rows makes an empty list
+    folder.write("none", b"# nothing yet\n");
+    folder.done(&["links", "write", "loan.img", "/A", "none"]);
+    folder.expect(&["links", "show", "loan.img", "/A"], 0, "", "");
+    folder.expect(&["links", "check", "loan.img", "/A"], 0, "loan.img: every row of the link list has its file\n", "");
 }

@@ -120,6 +120,30 @@ pub const WORDS: &[Words] = &[
         "keep a copy of the image; then format the cartridge and make its directories and files anew from a backup; a write since then may have gone over that page",
     ),
     (
+        21,
+        "BrokenRow",
+        "a row of the link list is broken: its numbers are not written as they must be, or one is out of range",
+        "write the list anew from the accession book; in a table that is to be written, correct that row",
+    ),
+    (
+        22,
+        "RowNotAbove",
+        "a row of the link list is not above the one before it: it is out of order, or stands twice",
+        "sort the rows by the number of digits and then by value, each accession once",
+    ),
+    (
+        23,
+        "RowWithoutFile",
+        "a row of the link list names an accession that has no file in its directory",
+        "make the file, or take the row out of the list",
+    ),
+    (
+        24,
+        "ListTooShort",
+        "the list lent for the rows is too short",
+        "lend a longer one",
+    ),
+    (
         25,
         "Locked",
         "the file is locked: it is neither written nor removed",

@@ -44,6 +44,8 @@ fn names_are_those_of_the_source() {
     for name in ["/3", "/4", "/5"] {
         zealfs::make_file(&mut full, name, date).unwrap();
     }
+    let mut listed = image.clone();
+    zealfs::links::write(&mut listed, "/", date, &[1, 2, 7, 2, 2, 7]).unwrap();
     let mut other = image.clone();
     let met = [
         zealfs::verdict(&[]).unwrap_err(),
@@ -65,6 +67,10 @@ fn names_are_those_of_the_source() {
         damaged(64 + 32 + 17, 1),
         damaged(4, 0x8F),
         damaged(4, 0x07),
+        zealfs::links::write(&mut other, "/", date, &[1, 10, 1]).unwrap_err(),
+        zealfs::links::write(&mut other, "/", date, &[1, 2, 1, 1, 2, 1]).unwrap_err(),
+        zealfs::links::check(&listed, "/").unwrap_err(),
+        zealfs::links::read(&listed, "/", &mut [0; 5]).unwrap_err(),
         zealfs::remove_file(&mut other, "/2").unwrap_err(),
     ];
     assert_eq!(other, image, "a refused call changes nothing");
@@ -76,8 +82,13 @@ fn names_are_those_of_the_source() {
         assert_eq!(format!("{refusal}"), format!("refused {}: {}", told.0, told.2));
     }
     let numbers: Vec<u8> = met.iter().map(|refusal| refusal.number()).collect();
-    assert_eq!(numbers, [1, 2, 3, 4, 5, 6, 7, 8, 9, 10, 11, 12, 13, 14, 16, 17, 18, 19, 20, 25]);
+    assert_eq!(numbers, [1, 2, 3, 4, 5, 6, 7, 8, 9, 10, 11, 12, 13, 14, 16, 17, 18, 19, 20, 21, 22, 23, 24, 25]);
     assert_eq!(damaged(64 + 17, 0), Refusal::BadChain { directory: 0, entry: 0, passed: 0 });
+    assert_eq!(zealfs::links::check(&listed, "/"), Err(Refusal::RowWithoutFile { row: 1 }));
+    // the place of a row has 56 bits
+    let mut rows: Vec<u64> = (0..70_000).flat_map(|value| [6, value, 1]).collect();
+    rows[3 * 69_999] = 0;
+    assert_eq!(zealfs::links::write(&mut other, "/", date, &rows), Err(Refusal::BrokenRow { at: 69_999 }));
 }
 
 #[test]

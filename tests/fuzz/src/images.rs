@@ -20,6 +20,7 @@ use zealfs_tests::calls::Call;
 use zealfs_tests::damage::{mend_bitmap, Survey};
 use zealfs_tests::desk::{pattern, DATE};
 use zealfs_tests::harness::Scenario;
+use zealfs_tests::plain::links::path_in;
 use zealfs_tests::plain::reader::{judge, tree_and_owned};
 use zealfs_tests::plain::tree::{Node, Tree};
 use zealfs_tests::plain::{
@@ -143,6 +144,10 @@ fn calls_on_unsound(image: &[u8], turn: usize) -> Vec<Call> {
         Call::Unlock(path()),
         Call::Store(path(), DATE.to_vec(), pattern(300), 0, vec![0x55; PAGE]),
         Call::Store(path(), Vec::new(), pattern(300), 0, vec![0x55; PAGE - 1]),
+        Call::LinksRead(b"/".to_vec(), vec![0x55; 9]),
+        Call::LinksWrite(b"/".to_vec(), Vec::new(), vec![0; 3]),
+        Call::LinksFind(b"/".to_vec(), 1, 7),
+        Call::LinksCheck(Vec::new()),
         // What a call takes for no path it takes so only on a sound image.
         Call::Find(b"A".to_vec()),
         Call::Repair,
@@ -175,6 +180,7 @@ fn calls_on_sound(tree: &Tree, turn: usize) -> Vec<Call> {
     for (path, node) in &chosen {
         look_at(&mut calls, path, node);
     }
+    links(&mut calls, b"/");
     for (path, node) in &chosen {
         change(&mut calls, path, node);
     }
@@ -196,7 +202,10 @@ fn look_into(calls: &mut Vec<Call>, path: &[u8]) {
 fn look_at(calls: &mut Vec<Call>, path: &[u8], node: &Node) {
     calls.push(Call::Find(path.to_vec()));
     match node {
-        Node::Directory(_) => look_into(calls, path),
+        Node::Directory(_) => {
+            look_into(calls, path);
+            links(calls, path);
+        }
         Node::File(file) => {
             let size = file.content.len();
             let last_page = size / CONTENT * CONTENT;
@@ -206,6 +215,26 @@ fn look_at(calls: &mut Vec<Call>, path: &[u8], node: &Node) {
             }
         }
     }
+}
+
+/// Looks at a directory's list as it is, which an edit may have broken, writes
+/// another, looks again, and removes it.
+fn links(calls: &mut Vec<Call>, path: &[u8]) {
+    let look = [
+        Call::LinksRead(path.to_vec(), vec![0x55; 8]),
+        Call::LinksRead(path.to_vec(), vec![0x55; 9]),
+        Call::LinksFind(path.to_vec(), 4, 42),
+        Call::LinksCheck(path.to_vec()),
+    ];
+    let (date, rows) = (DATE.to_vec(), vec![2, 42, 300, 4, 42, 1 << 31, 16, 7, 0]);
+    calls.extend(look.clone());
+    calls.push(Call::LinksWrite(path.to_vec(), date.clone(), rows));
+    calls.extend(look);
+    let (equal, broken) = (vec![1, 7, 0, 1, 7, 0], vec![1, 10, 0]);
+    calls.push(Call::LinksWrite(path.to_vec(), date.clone(), equal));
+    calls.push(Call::LinksWrite(path.to_vec(), date, broken));
+    // So that the directory can be emptied.
+    calls.push(Call::RemoveFile(path_in(path)));
 }
 
 /// Makes something below it, writes to it, also while it is locked, and removes

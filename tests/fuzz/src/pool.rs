@@ -3,7 +3,8 @@
 
 use std::sync::OnceLock;
 use zealfs_tests::assemble::{assemble, nest, Order};
-use zealfs_tests::desk::Desk;
+use zealfs_tests::calls::Calls;
+use zealfs_tests::desk::{Desk, DATE};
 use zealfs_tests::generate::random_tree;
 use zealfs_tests::plain::{Plain, PAGE};
 use zealfs_tests::random::Random;
@@ -48,10 +49,11 @@ pub fn image(number: usize) -> Vec<u8> {
     images()[number % COUNT].clone()
 }
 
-/// An image of 8 pages with a chain of two pages, one of one, empty files, one
-/// of them locked, a directory in a directory and a removed file.
+/// An image of 16 pages with a chain of two pages, one of one, empty files, one
+/// of them locked, a directory in a directory, a removed file and link lists, of
+/// which one has a broken row and one rows that fall.
 fn rich() -> Vec<u8> {
-    let mut desk = Desk::fresh(&Plain, 2048);
+    let mut desk = Desk::fresh(&Plain, 4096);
     let directories = ["/D", "/D/E"].map(|path| desk.make_directory(path));
     let files = ["/gone", "/F", "/0042", "/D/42", "/D/E/H"].map(|path| desk.make_file(path));
     let gone = [desk.write("/gone", 0, 100), desk.remove_file("/gone")];
@@ -59,5 +61,16 @@ fn rich() -> Vec<u8> {
     let locked = [desk.lock("/0042")];
     let numbers = [&directories[..], &files, &gone, &writes, &locked].concat();
     assert!(numbers.iter().all(|&number| number == 0));
+    let rows = [2, 42, 7, 4, 42, 300];
+    for directory in [b"/D".as_slice(), b"/D/E"] {
+        let answer = Plain.links_write(&mut desk.image, directory, &DATE, &rows);
+        assert!(answer.is_granted());
+    }
+    let broken = Plain.write(&mut desk.image, b"/D/E/LINKS", 3, &[4, 0xAA, 0, 1]);
+    let made = Plain.make_file(&mut desk.image, b"/LINKS", &DATE);
+    let falling = Plain.write(&mut desk.image, b"/LINKS", 0, &[4, 42, 7, 2, 42, 7]);
+    assert!([broken, made, falling]
+        .iter()
+        .all(|answer| answer.is_granted()));
     desk.image
 }

@@ -23,10 +23,10 @@ pub fn of_images() -> Vec<Vec<u8>> {
 }
 
 /// On every starting image a list that makes, writes, reads, locks, lists and
-/// removes.
+/// removes, and then has a link list.
 pub fn of_lists() -> Vec<Vec<u8>> {
-    let name = NAMES.len() as u8 - 6;
-    let calls: [&[u8]; 18] = [
+    let name = NAMES.len() as u8 - 8;
+    let calls: [&[u8]; 25] = [
         // Make a directory, a file in it, a file in the root.
         &[1, 0, 0, name, 0],
         &[0, 0, 1, name + 1, 0],
@@ -52,6 +52,15 @@ pub fn of_lists() -> Vec<Vec<u8>> {
         &[3, 2, 2],
         &[12, 2, 2],
         &[12, 2, 1],
+        // A link list of the root: write three rows, read and ask, check, write
+        // bytes that are no rows, read again, write as many as there is room for.
+        &[20, 2, 0, 0, 8 + 3, 1, 42, 3, 42, 0x8F],
+        &[21, 2, 0, 4],
+        &[22, 3, 42, 2, 0],
+        &[23, 2, 0],
+        &[24, 2, 0, 0xC2, 1, 42, 0, 0],
+        &[21, 2, 0, 4],
+        &[20, 2, 0, 0, 255, 4],
     ];
     let list = calls.concat();
     let numbers = 0..pool::COUNT as u8;

@@ -1,6 +1,7 @@
 //! The plain implementation: an image is judged and read into a tree, the call
 //! is performed on the tree, and what it grants is then written to the bytes.
 
+pub mod links;
 pub mod path;
 pub mod reader;
 pub mod tree;
@@ -67,6 +68,25 @@ impl Plain {
         let mut tree = reader::judge(image)?;
         tree.set_lock(path, locked)?;
         writer::set_lock(image, path, locked);
+        Ok(Answer::granted())
+    }
+
+    /// A granted writing is a removal, a make and a write in turn.
+    fn write_links(
+        image: &mut [u8],
+        directory: &[u8],
+        date: &[u8],
+        numbers: &[u64],
+    ) -> Result<Answer, Refusal> {
+        let mut tree = reader::judge(image)?;
+        let path = links::path_in(directory);
+        let is_there = tree.find(&path).is_ok();
+        tree.links_write(directory, date, numbers)?;
+        if is_there {
+            writer::remove(image, &path);
+        }
+        writer::make(image, &path, date, Kind::File);
+        writer::write(image, &path, 0, &links::file_of(&links::rows_to_write(numbers)?));
         Ok(Answer::granted())
     }
 }
@@ -166,6 +186,34 @@ impl Calls for Plain {
     fn audit(&self, image: &[u8]) -> Audit {
         reader::owner_row(image).map_or_else(|_| Audit::no(), Audit::sound)
     }
+
+    fn links_read(&self, image: &[u8], directory: &[u8], numbers: &mut [u64]) -> Answer {
+        reader::judge(image)
+            .and_then(|tree| tree.links_read(directory, numbers))
+            .into()
+    }
+
+    fn links_write(
+        &self,
+        image: &mut [u8],
+        directory: &[u8],
+        date: &[u8],
+        numbers: &[u64],
+    ) -> Answer {
+        Plain::write_links(image, directory, date, numbers).into()
+    }
+
+    fn links_find(&self, image: &[u8], directory: &[u8], count: u64, value: u64) -> Answer {
+        reader::judge(image)
+            .and_then(|tree| tree.links_find(directory, count, value))
+            .into()
+    }
+
+    fn links_check(&self, image: &[u8], directory: &[u8]) -> Answer {
+        reader::judge(image)
+            .and_then(|tree| tree.links_check(directory))
+            .into()
+    }
 }
 
 /// The replay of a list of calls on the tree alone: it sees the tree of the
@@ -218,6 +266,12 @@ impl Replay {
             Call::Store(path, date, content, number, page) => {
                 check_page(page).and_then(|()| tree.store(path, date, content, *number))
             }
+            Call::LinksRead(directory, numbers) => tree.links_read(directory, numbers),
+            Call::LinksWrite(directory, date, numbers) => {
+                tree.links_write(directory, date, numbers)
+            }
+            Call::LinksFind(directory, count, value) => tree.links_find(directory, *count, *value),
+            Call::LinksCheck(directory) => tree.links_check(directory),
             // On a sound image there is nothing to mend.
             Call::Repair => Ok(Answer::granted()),
         };

@@ -41,7 +41,7 @@ pub struct File {
 
 impl File {
     /// Refuses what would alter a locked file.
-    fn check_unlocked(&self) -> Result<(), Refusal> {
+    pub(super) fn check_unlocked(&self) -> Result<(), Refusal> {
         if self.locked {
             return Err(Refusal::number(25));
         }
@@ -62,12 +62,12 @@ impl Directory {
     }
 
     /// The number of the entry of that name.
-    fn position(&self, name: &[u8]) -> Option<usize> {
+    pub(super) fn position(&self, name: &[u8]) -> Option<usize> {
         let named = |entry: &Option<Entry>| entry.as_ref().is_some_and(|entry| entry.name == name);
         self.entries.iter().position(named)
     }
 
-    fn entry(&self, name: Name) -> Result<&Entry, Refusal> {
+    pub(super) fn entry(&self, name: Name) -> Result<&Entry, Refusal> {
         let missing = Refusal::at_name(5, name.begins);
         let position = self.position(name.bytes).ok_or(missing)?;
         self.entries[position].as_ref().ok_or(missing)
@@ -115,7 +115,7 @@ impl Node {
     }
 
     /// The pages that the node and all below it need.
-    fn pages(&self) -> usize {
+    pub(super) fn pages(&self) -> usize {
         match self {
             Node::File(file) => pages_of_file(file.content.len()),
             Node::Directory(directory) => 1 + directory.pages_below(),
@@ -137,7 +137,7 @@ impl Tree {
     }
 
     /// The directory at the end of the walk over all `names`.
-    fn directory(&self, names: &[Name]) -> Result<&Directory, Refusal> {
+    pub(super) fn directory(&self, names: &[Name]) -> Result<&Directory, Refusal> {
         let mut directory = &self.root;
         for &name in names {
             directory = match &directory.entry(name)?.node {
@@ -148,7 +148,7 @@ impl Tree {
         Ok(directory)
     }
 
-    fn directory_mut(&mut self, names: &[Name]) -> Result<&mut Directory, Refusal> {
+    pub(super) fn directory_mut(&mut self, names: &[Name]) -> Result<&mut Directory, Refusal> {
         let mut directory = &mut self.root;
         for &name in names {
             directory = match &mut directory.entry_mut(name)?.node {

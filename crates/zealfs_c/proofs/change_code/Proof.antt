@@ -1,6 +1,6 @@
 -- Each arm is the code of its case.
 use Rattle.fields.proofs.Plain.{needs}
-use Rattle.zealfs_c.specs.Codes.{codeOf}
+use Rattle.codes.specs.Codes.{codeOf}
 use Rattle.zealfs_c.proofs.change_code as fn
 
 pub change-code-spec : {M : Type 1} → fn.Statement.statement M

@@ -1,5 +1,5 @@
 -- `lock_number` tells the mark as the model's number does.
-use Rattle.zealfs_c.specs.Codes.{lockNumber}
+use Rattle.zealfs_c.specs.Outs.{lockNumber}
 use Rattle.zealfs_c.proofs.lock_number as fn
 
 pub lock-number-spec : {M : Type 1} → fn.Statement.statement M

@@ -1,5 +1,5 @@
 -- Each arm is the code of its case; the two numbers of §13 point nowhere.
-use Rattle.zealfs_c.specs.Codes.{codeOf, packed}
+use Rattle.codes.specs.Codes.{codeOf, packed}
 use borrow.Author.Needs.{needs}
 use Rattle.zealfs_c.proofs.tidy_code.Statement.{statement}
 use Rattle.zealfs_c.proofs.tidy_code.Tie as tie

@@ -1,5 +1,5 @@
 -- The row is copied whole, and the answer is the second judge's.
-use Rattle.zealfs_c.specs.Codes.{soundNumber}
+use Rattle.zealfs_c.specs.Outs.{soundNumber}
 use mathlib.Core.Path.{_∙_}
 use borrow.Author.Needs.{needs}
 use Rattle.zealfs_c.proofs.zealfs_audit as fn

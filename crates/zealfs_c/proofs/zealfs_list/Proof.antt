@@ -1,8 +1,9 @@
 -- Each arm knows its case, so what the call ensures is the model's answer in that case, and code and out array are read off it.
 use Rattle.fields.proofs.Plain.{ap, _∙_, needs}
 use Rattle.model.specs.Call.{list}
-use Rattle.zealfs_c.specs.Codes.{codeOf, kindNumber, lockNumber, listOut}
-use Rattle.zealfs_c.proofs.Fits.{refused-fits}
+use Rattle.codes.specs.Codes.{codeOf}
+use Rattle.zealfs_c.specs.Outs.{kindNumber, lockNumber, listOut}
+use Rattle.codes.proofs.Fits.{refused-fits}
 use Rattle.zealfs_c.proofs.zealfs_list as fn
 
 pub zealfs-list-spec : {M : Type 1} → fn.Statement.statement M

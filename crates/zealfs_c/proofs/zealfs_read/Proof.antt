@@ -1,12 +1,13 @@
 -- Each arm knows its case, so what the call ensures is the model's answer in that case, and code and out array are read off it.
 use Rattle.fields.proofs.Plain.{ap, _∙_, needs}
 use Rattle.model.specs.Call.{read}
-use Rattle.zealfs_c.specs.Codes.{codeOf, readOut}
-use Rattle.zealfs_c.proofs.Fits.{refused-fits}
+use Rattle.codes.specs.Codes.{codeOf}
+use Rattle.zealfs_c.specs.Outs.{numberOut}
+use Rattle.codes.proofs.Fits.{refused-fits}
 use Rattle.zealfs_c.proofs.zealfs_read as fn
 
 pub zealfs-read-spec : {M : Type 1} → fn.Statement.statement M
-unfolding codeOf readOut
+unfolding codeOf numberOut
 zealfs-read-spec = fn.Tie.close (fn.Tie.spec
     (λ c. search needs) (λ c. search needs) (λ c. search needs)
     (λ c κs. refused-fits (read _ _ _) _ (rw (c .before .before .r .given .1) at (c .before .before .before .before .before .before .read .ensures .0)))
@@ -14,9 +15,9 @@ zealfs-read-spec = fn.Tie.close (fn.Tie.spec
     (λ c.
     let read = c .before .before .before .before .before .before in
     let e = rw (c .before .before .count .given .1) at (read .read .ensures .0) in
-    (ap codeOf e, (ap readOut e, read .read .ensures .1)))
+    (ap codeOf e, (ap numberOut e, read .read .ensures .1)))
     (λ c. search needs)
     (λ c.
     let r = c .before .before .before in
     let e = rw (r .r .given .1) at (r .before .before .before .before .read .ensures .0) in
-    (c .code .ensures ∙ ap codeOf e, (ap readOut e, r .before .before .before .before .read .ensures .1))))
+    (c .code .ensures ∙ ap codeOf e, (ap numberOut e, r .before .before .before .before .read .ensures .1))))

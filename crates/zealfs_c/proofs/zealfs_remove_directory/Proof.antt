@@ -1,7 +1,7 @@
 -- The code of what the call answers, which is what the model answers; a refusal of the model fits its code.
 use Rattle.fields.proofs.Plain.{needs}
 use Rattle.model.specs.Call.{removeDirectory}
-use Rattle.zealfs_c.proofs.Fits.{change-fits, coded}
+use Rattle.codes.proofs.Fits.{change-fits, coded}
 use Rattle.zealfs_c.proofs.zealfs_remove_directory as fn
 
 pub zealfs-remove-directory-spec : {M : Type 1} → fn.Statement.statement M

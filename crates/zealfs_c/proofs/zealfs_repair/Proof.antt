@@ -1,5 +1,6 @@
 -- The code of what repair answers; a refusal of it is the verdict's, which fits its code.
-use Rattle.zealfs_c.proofs.Fits.{repair-fits, coded}
+use Rattle.codes.proofs.Fits.{coded}
+use Rattle.zealfs_c.proofs.Fits.{repair-fits}
 use borrow.Author.Needs.{needs}
 use Rattle.zealfs_c.proofs.zealfs_repair as fn
 

@@ -1,7 +1,8 @@
 -- Each arm knows its case, so what the call ensures is the model's answer in that case, and code and out array are read off it.
 use Rattle.model.specs.Call.{store}
-use Rattle.zealfs_c.specs.Codes.{codeOf, storeOut}
-use Rattle.zealfs_c.proofs.Fits.{refused-fits}
+use Rattle.codes.specs.Codes.{codeOf}
+use Rattle.zealfs_c.specs.Outs.{numberOut}
+use Rattle.codes.proofs.Fits.{refused-fits}
 use native.Mathlib.Omega.{arith}
 use mathlib.Core.Path.{_≡_, refl, sym, ap, subst, _∙_}
 use mathlib.Core.Bool.{Bool, true, false, not}
@@ -16,7 +17,7 @@ use Rattle.zealfs_c.proofs.zealfs_store.Tie as tie
 use Rattle.zealfs_c.proofs.zealfs_store.Reads as reads
 use Rattle.zealfs_c.proofs.zealfs_store.Lts as lts
 use Rattle.store.proofs.store.Reads as store-reads
-use Rattle.zealfs_c.proofs.code.Reads as code-reads
+use Rattle.codes.proofs.code.Reads as code-reads
 
 -- src/lib.rt:322:11
 store-requires : tie.Need-store-requires
@@ -44,11 +45,11 @@ same-length c = search needs
 
 -- src/lib.rt:308:1
 returns : tie.Need-returns
-unfolding codeOf storeOut
+unfolding codeOf numberOut
 returns c =
     let stored = c .before .before .before .before .before .before .store in
     let told-at = c .before .before .at in
-    let e = rw (told-at .given .1) at (stored .ensures .0) in (ap codeOf e, (ap storeOut e, stored .ensures .1))
+    let e = rw (told-at .given .1) at (stored .ensures .0) in (ap codeOf e, (ap numberOut e, stored .ensures .1))
 
 -- src/lib.rt:308:1
 same-length-2 : tie.Need-same-length-2
@@ -56,12 +57,12 @@ same-length-2 c = search needs
 
 -- src/lib.rt:308:1
 returns-2 : tie.Need-returns-2
-unfolding codeOf storeOut
+unfolding codeOf numberOut
 returns-2 c =
     let stored = c .before .before .before .before .before .before .before .store in
     let told-r = c .before .before .before .r in
     let code = c .code in
-    let e = rw (told-r .given .1) at (stored .ensures .0) in (code .ensures ∙ ap codeOf e, (ap storeOut e, stored .ensures .1))
+    let e = rw (told-r .given .1) at (stored .ensures .0) in (code .ensures ∙ ap codeOf e, (ap numberOut e, stored .ensures .1))
 
 pub zealfs-store-spec : {M : Type 1} → statement M
 zealfs-store-spec =

@@ -13,8 +13,8 @@ use zealfs::Refusal;
 
 pub const COMMANDS: &[Command] = &[Command {
     name: "links",
-    usage: "show|check IMAGE DIRECTORY, find IMAGE DIRECTORY ACCESSION, write [--date DATE] IMAGE DIRECTORY TABLE|-",
-    help: "the link list of a directory: as a table, whether every row has its file, one figure, and anew from a table",
+    usage: "show|check|find|write [--date DATE] IMAGE DIRECTORY [ACCESSION|TABLE|-]",
+    help: "the link list of a directory: show it, check that every row has its file, find an accession's figure, write it from a table",
     options: &["--date"],
     count: (3, MANY),
     run,
@@ -30,7 +30,10 @@ fn run(given: &Given, out: &mut Output) -> Outcome<u8> {
         (Some("check"), 3) => inner.check(out),
         (Some("find"), 4) => inner.find(&named(&given.words[3]), out),
         (Some("write"), 4) => write(given),
-        _ => words(format!("links: wrong words\nusage: zealfs links {}", COMMANDS[0].usage)),
+        _ => words(format!(
+            "links: show and check take an image and a directory, find an accession too, write a table\nusage: zealfs links {}",
+            COMMANDS[0].usage
+        )),
     }
 }
 
@@ -38,6 +41,15 @@ struct Inner<'a> {
     name: String,
     image: OsString,
     directory: &'a [u8],
+}
+
+/// The path of a directory's list, which is what a refusal is about.
+fn list_path(directory: &[u8]) -> Vec<u8> {
+    match directory {
+        b"" => Vec::new(),
+        b"/" => b"/LINKS".to_vec(),
+        _ => [directory, b"/LINKS"].concat(),
+    }
 }
 
 /// The accession as it is written: with its leading zeros.
@@ -52,7 +64,7 @@ impl Inner<'_> {
 
     fn rows(&self) -> Outcome<Vec<Row>> {
         let mut numbers = vec![0; 3 * MOST_ROWS];
-        let count = asked(&self.name, self.directory, links::read(&self.bytes()?, self.directory, &mut numbers))?;
+        let count = asked(&self.name, &list_path(self.directory), links::read(&self.bytes()?, self.directory, &mut numbers))?;
         Ok(numbers.chunks(3).take(count).map(|row| Row::of([row[0], row[1], row[2]])).collect())
     }
 
@@ -77,7 +89,7 @@ impl Inner<'_> {
                 Ok(REFUSED)
             }
             answer => {
-                asked(&self.name, self.directory, answer)?;
+                asked(&self.name, &list_path(self.directory), answer)?;
                 let told = || Object::default().text("image", &self.name).flag("in_order", true);
                 out.tell(told, || format!("{}: every row of the link list has its file", self.name))?;
                 Ok(DONE)
@@ -89,7 +101,7 @@ impl Inner<'_> {
         let Some((count, value)) = read_accession(digits) else {
             return words(format!("links: {digits} is no accession: 1 to 16 digits"));
         };
-        let figure = asked(&self.name, self.directory, links::find(&self.bytes()?, self.directory, count, value))?;
+        let figure = asked(&self.name, &list_path(self.directory), links::find(&self.bytes()?, self.directory, count, value))?;
         // that there is none is an answer and no refusal
         let told = || {
             let told = Object::default().text("accession", digits).flag("found", figure.is_some());
@@ -141,6 +153,6 @@ fn write(given: &Given) -> Outcome<u8> {
             _ => None,
         };
         let place = line.map(|(_, line)| format!("{}, line {line}", named(source)).into_bytes());
-        asked(name, place.as_deref().unwrap_or(given.path(2)), answer)
+        asked(name, &place.unwrap_or_else(|| list_path(given.path(2))), answer)
     })
 }

@@ -33,7 +33,8 @@ fn named(name: &str) -> Option<Box<dyn Calls + Send + Sync>> {
     Some(Box::new(Rarely(rare?)))
 }
 
-/// The number and the place of an answer, as the header says.
+/// The number and the place of an answer, as the header says; the place of a row
+/// is its first number alone.
 fn code(answer: &Answer) -> u64 {
     let [a, b, c] = answer.place;
     u64::from(answer.number) + 256 * (a + 65_536 * (b + 65_536 * c))
@@ -331,4 +332,75 @@ pub unsafe extern "C" fn zealfs_tidy(
     let places = lent(places, places_len);
     let target = lent_mut(target, target_len);
     code(&calls().tidy(lent(image, image_len), places, target))
+}
+
+/// # Safety
+///
+/// As include/zealfs.h says.
+#[no_mangle]
+pub unsafe extern "C" fn zealfs_links_read(
+    image: *const u8,
+    image_len: usize,
+    directory: *const u8,
+    directory_len: usize,
+    numbers: *mut u64,
+    numbers_len: usize,
+    out: *mut u64,
+) -> u64 {
+    let numbers = slice::from_raw_parts_mut(numbers, numbers_len);
+    let directory = lent(directory, directory_len);
+    let answer = calls().links_read(lent(image, image_len), directory, numbers);
+    tell::<_, 1>(out, &answer.values);
+    code(&answer)
+}
+
+/// # Safety
+///
+/// As include/zealfs.h says.
+#[no_mangle]
+pub unsafe extern "C" fn zealfs_links_write(
+    image: *mut u8,
+    image_len: usize,
+    directory: *const u8,
+    directory_len: usize,
+    date: *const u8,
+    date_len: usize,
+    numbers: *const u64,
+    numbers_len: usize,
+) -> u64 {
+    let numbers = slice::from_raw_parts(numbers, numbers_len);
+    let (image, directory) = (lent_mut(image, image_len), lent(directory, directory_len));
+    code(&calls().links_write(image, directory, lent(date, date_len), numbers))
+}
+
+/// # Safety
+///
+/// As include/zealfs.h says.
+#[no_mangle]
+pub unsafe extern "C" fn zealfs_links_find(
+    image: *const u8,
+    image_len: usize,
+    directory: *const u8,
+    directory_len: usize,
+    count: u64,
+    value: u64,
+    out: *mut u64,
+) -> u64 {
+    let (image, directory) = (lent(image, image_len), lent(directory, directory_len));
+    let answer = calls().links_find(image, directory, count, value);
+    tell::<_, 2>(out, &answer.values);
+    code(&answer)
+}
+
+/// # Safety
+///
+/// As include/zealfs.h says.
+#[no_mangle]
+pub unsafe extern "C" fn zealfs_links_check(
+    image: *const u8,
+    image_len: usize,
+    directory: *const u8,
+    directory_len: usize,
+) -> u64 {
+    code(&calls().links_check(lent(image, image_len), lent(directory, directory_len)))
 }

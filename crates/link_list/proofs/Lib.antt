@@ -1,0 +1,11 @@
+pub mod Numbers
+pub mod Rows
+pub mod Files
+pub mod Steps
+pub mod Vacated
+pub mod Writing
+pub mod Refusals
+pub mod ReadBack
+pub mod Headline
+pub mod Table
+pub mod Desk

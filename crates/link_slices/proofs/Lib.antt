@@ -1,0 +1,4 @@
+pub mod Locals
+pub mod Again
+pub mod Readings
+pub mod Packs

@@ -1,0 +1,12 @@
+pub mod Depth
+pub mod InFile
+pub mod Paths
+pub mod Loading
+pub mod Calls
+pub mod Found
+pub mod Checked
+pub mod Before
+pub mod InTurn
+pub mod Written
+pub mod Packing
+pub mod Lent
