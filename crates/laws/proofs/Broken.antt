@@ -108,7 +108,7 @@ module _ (b : Bytes) (f : Facts b) where
     name : Bytes
     named : T (isNamed name (entryAt b at))
     rows : ℕ → Row
-    node : nodeOf b rows (entryAt b at) ≡ x
+    node : nodeOf (view b) rows (entryAt b at) ≡ x
 
   led : (path : Path) {x : Node} → walkTo path (treeOf b .root) ≡ arrived x → T (not (isRoot path)) → Led x (entryPosition b path)
   unfolding walkTo treeOf isMissing isBlocked isRoot arrivedOr
@@ -137,7 +137,7 @@ module _ (b : Bytes) (f : Facts b) where
       whole : Led (fileNode locked date content) (entryPosition b path) → WholeFile b (entryPosition b path) locked date content
       whole l = go (entryAt b (entryPosition b path)) refl (l .named) (l .node)
         where
-          go : (y : Entry) → entryAt b (entryPosition b path) ≡ y → T (isNamed (l .name) y) → nodeOf b (l .rows) y ≡ fileNode locked date content
+          go : (y : Entry) → entryAt b (entryPosition b path) ≡ y → T (isNamed (l .name) y) → nodeOf (view b) (l .rows) y ≡ fileNode locked date content
               → WholeFile b (entryPosition b path) locked date content
           go vacant q h k = absurd h
           go (aFile mark name d start size) q h k = record {
@@ -158,7 +158,7 @@ module _ (b : Bytes) (f : Facts b) where
       whole : Led (directoryNode date r) (entryPosition b path) → WholeDirectory b (entryPosition b path) date
       whole l = go (entryAt b (entryPosition b path)) refl (l .named) (l .node)
         where
-          go : (y : Entry) → entryAt b (entryPosition b path) ≡ y → T (isNamed (l .name) y) → nodeOf b (l .rows) y ≡ directoryNode date r
+          go : (y : Entry) → entryAt b (entryPosition b path) ≡ y → T (isNamed (l .name) y) → nodeOf (view b) (l .rows) y ≡ directoryNode date r
               → WholeDirectory b (entryPosition b path) date
           go vacant q h k = absurd h
           go (aFile mark name d start size) q h k = absurd (subst (λ (x : Node). T (not (isDirectoryNode x))) k tt)

@@ -1,21 +1,21 @@
 -- The tests of a sound image as facts. Range, "none is owned twice" and "marked exactly if owned" come to one equation for each page:
 -- it is owned as often as its bit says.
-use mathlib.Core.Path.{_≡_}
-use mathlib.Core.Logic.{_≢_, inl, inr}
+use mathlib.Core.Path.{_≡_, refl, ap, _∙_}
 use Prim.Native.Nat.{ℕ, _-_, _*_, _%_, _≤_, _<_}
 use native.Mathlib.Omega.{arith}
-use mathlib.Core.Bool.{Bool, true, false, Bool·beq}
+use mathlib.Core.Bool.{Bool}
 use mathlib.Core.List.{List, [], _∷_}
 use lib.ListN.{length}
 use lib.Dec.{T, eqb, leb, ltb, eqb→eq, leb→le, le→leb, ltb→lt, lt→ltb}
 use Rattle.volume.specs.Bytes.{Bytes}
-use Rattle.volume.specs.Lists.{all, member, distinct, countFrom}
-use Rattle.volume.proofs.Occ.{hit-cases, occ, Mem, Nodup, mem-or-not, not-mem}
-use Rattle.volume.proofs.Tests.{and-both, both-and, no-conditions, conditions-cons, cons-conditions, member-occ, occ-member, distinct-occ, occ-distinct, all-occ, occ-all, occ-countFrom, countFrom-occ, eq-eqb}
-use Rattle.volume.proofs.Marks.{bit-low}
-use Rattle.model.specs.Layout.{version1, pageCount, validLength, validHeader, freeCount, pageBit, zeroBits}
+use Rattle.volume.specs.Lists.{all, distinct, countFrom}
+use Rattle.volume.proofs.Occ.{occ, Mem}
+use Rattle.volume.proofs.Tests.{and-both, both-and, no-conditions, conditions-cons, cons-conditions, distinct-occ, occ-distinct, all-occ, occ-all, occ-countFrom, countFrom-occ, eq-eqb}
+use Rattle.model.specs.Layout.{pageCount, validLength, validHeader, freeCount, pageBit, zeroBits}
 use Rattle.model.specs.Version1.{view}
 use Rattle.model.specs.Sound.{goodDirectory, owned, inRange, soundTo, sound}
+use Rattle.view_laws.proofs.Facts as Any
+use Rattle.view_laws.proofs.Facts.{Rooted}
 
 -- ---- lengths
 
@@ -54,52 +54,40 @@ Facts b = FactsTo (pageCount b) b
 
 -- the test "marked exactly if owned"
 abbrev agrees : Bytes → List ℕ → ℕ → Bool
-agrees b pages p = Bool·beq (eqb (pageBit b p) 1) (member p pages)
+agrees b pages p = Any.agrees (view b) pages p
 
-beq-left : (c d : Bool) → T (Bool·beq c d) → T c → T d
-beq-left true true h k = tt
-beq-left true false h k = h
-beq-left false d h k = absurd k
+-- the same as facts of the view, and back
+pub viewed : {d : ℕ} {b : Bytes} → FactsTo d b → Any.FactsTo d (view b)
+viewed {d} {b} f = record {
+  aside = λ q l. let e : q ≡ 0 = omega arith in ap (pageBit b) e ∙ f .bit-zero;
+  counted = f .counted;
+  ended = tt;
+  formed = f .formed;
+  inside = f .inside;
+  exact = f .exact;
+}
 
-beq-right : (c d : Bool) → T (Bool·beq c d) → T d → T c
-beq-right true d h k = tt
-beq-right false true h k = h
-beq-right false false h k = k
+pub of-view : {d : ℕ} {b : Bytes} → T (validLength (length b)) → T (validHeader b) → Any.FactsTo d (view b) → FactsTo d b
+of-view fits headed f = record {
+  fits = fits;
+  headed = headed;
+  bit-zero = f .aside 0 (omega arith);
+  counted = f .counted;
+  formed = f .formed;
+  inside = f .inside;
+  exact = f .exact;
+}
 
-beq-both : (c d : Bool) → (T c → T d) → (T d → T c) → T (Bool·beq c d)
-beq-both true true f g = tt
-beq-both true false f g = f tt
-beq-both false true f g = g tt
-beq-both false false f g = tt
-
-agrees-exact : (b : Bytes) (pages : List ℕ) (q : ℕ) → Nodup pages → T (agrees b pages q) → occ q pages ≡ pageBit b q
-agrees-exact b pages q once h = elim (mem-or-not q pages) [
-  | inl m ↦
-      let e = eqb→eq (pageBit b q) 1 (beq-right (eqb (pageBit b q) 1) (member q pages) h (occ-member q pages m)) in
-      omega (arith, once q)
-  | inr z ↦
-      let ne : pageBit b q ≢ 1 = λ e. let m = member-occ q pages (beq-left (eqb (pageBit b q) 1) (member q pages) h (eq-eqb e)) in omega arith in
-      omega (arith, bit-low version1 b q)
-]
-
-exact-agrees : (b : Bytes) (pages : List ℕ) (q : ℕ) → occ q pages ≡ pageBit b q → T (agrees b pages q)
-exact-agrees b pages q e = beq-both (eqb (pageBit b q) 1) (member q pages)
-    (λ h. let u = eqb→eq (pageBit b q) 1 h in occ-member q pages (omega arith))
-    (λ m. let one : pageBit b q ≡ 1 = omega (arith, member-occ q pages m, bit-low version1 b q) in eq-eqb one)
+pub rooted : (b : Bytes) → Rooted (view b)
+rooted b = ([], refl)
 
 -- each page is owned at most once
 pub once : {d : ℕ} {b : Bytes} → FactsTo d b → (q : ℕ) → occ q (owned d (view b) 0) ≤ 1
-once {d} {b} f q = elim (mem-or-not q (owned d (view b) 0)) [
-  | inl m ↦ let r = f .inside q m in omega (arith, f .exact q (r .0) (r .1), bit-low version1 b q)
-  | inr z ↦ omega arith
-]
+once f = Any.once (viewed f)
 
 -- the root's page and the owned ones
 pub root-once : {b : Bytes} → Facts b → (q : ℕ) → occ q (0 ∷ owned (pageCount b) (view b) 0) ≤ 1
-root-once {b} f q = elim (hit-cases q 0) [
-  | inl w ↦ omega (arith, w .1, not-mem q (owned (pageCount b) (view b) 0) (λ k. omega (arith, w .0, f .inside q k .0)))
-  | inr w ↦ omega (arith, w .1, once f q)
-]
+root-once {b} f = Any.root-once (viewed f) (omega arith) (rooted b)
 
 module _ {depth : ℕ} {b : Bytes} where
   to-facts : T (soundTo depth b) → FactsTo depth b
@@ -122,7 +110,7 @@ module _ {depth : ℕ} {b : Bytes} where
         inside = λ q m.
             let r = and-both (leb 1 q) (ltb q (pageCount b)) (all-occ (inRange (pageCount b)) (owned depth (view b) 0) (t6 .0) q m) in
             (leb→le 1 q (r .0), ltb→lt q (pageCount b) (r .1));
-        exact = λ q l u. agrees-exact b (owned depth (view b) 0) q (distinct-occ (owned depth (view b) 0) (t7 .0))
+        exact = λ q l u. Any.agrees-exact (view b) (owned depth (view b) 0) q (distinct-occ (owned depth (view b) 0) (t7 .0))
             (all-occ (agrees b (owned depth (view b) 0)) (countFrom 1 (pageCount b - 1)) (t8 .0) q (occ-countFrom 1 (pageCount b - 1) q l (omega arith)));
       }
 
@@ -137,7 +125,7 @@ module _ {depth : ℕ} {b : Bytes} where
       (cons-conditions _ _ (occ-distinct (owned depth (view b) 0) (once f))
       (cons-conditions _ []
       (occ-all (agrees b (owned depth (view b) 0)) (countFrom 1 (pageCount b - 1)) (λ q m.
-      let r = countFrom-occ 1 (pageCount b - 1) q m in exact-agrees b (owned depth (view b) 0) q (f .exact q (r .0) (omega (arith, r .0, r .1)))))
+      let r = countFrom-occ 1 (pageCount b - 1) q m in Any.exact-agrees (view b) (owned depth (view b) 0) q (f .exact q (r .0) (omega (arith, r .0, r .1)))))
       no-conditions)))))))
 
 pub sound-facts : {b : Bytes} → T (sound b) → Facts b

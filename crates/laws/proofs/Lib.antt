@@ -6,11 +6,11 @@ pub mod Frame
 pub mod Facts
 pub mod Level
 pub mod Focus
-pub mod Change
 pub mod Counting
 pub mod Walks
 pub mod Slots
 pub mod Vacant
+pub mod Shelf
 pub mod NewEntry
 -- Each call that changes something.
 pub mod Remove

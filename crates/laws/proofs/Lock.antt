@@ -4,35 +4,31 @@ use mathlib.Core.Path.{_≡_, refl, sym, ap, ap₂, _∙_, subst}
 use Prim.Native.Nat.{ℕ, _+_, _-_, _*_, _/_, _%_, _<_}
 use native.Mathlib.Omega.{arith}
 use mathlib.Core.Bool.{Bool, true, false, not}
-use mathlib.Core.List.{List, []}
-use lib.ListN.{length, set, length-set, take}
+use mathlib.Core.List.{List}
+use lib.ListN.{length, set, length-set}
 use lib.Dec.{T, eqb}
 use lib.Seq.{getD-set-same, getD-set-other}
 use mathlib.Core.Logic.{_≢_}
-use Rattle.volume.specs.Bytes.{Bytes, byteAt, same, bit, if_then_else_}
-use Rattle.volume.specs.Chain.{chain}
+use Rattle.volume.specs.Bytes.{Bytes, byteAt, bit, if_then_else_}
+use Rattle.volume.specs.Field.{byte}
 use Rattle.volume.specs.Geometry as On
-use Rattle.volume.proofs.Occ.{occ, Mem}
-use Rattle.volume.proofs.Tests.{if-yes, if-no}
 use Rattle.volume.proofs.Puts.{part-bytes}
-use Rattle.model.specs.Layout.{pageCount, pagesFor, pageBit, link}
-use Rattle.model.specs.Entry.{occupied, isDirectory, isLocked, nameAt, startAt, sizeAt, dateAt, Entry, vacant, aFile, aDirectory, entryAt}
+use Rattle.model.specs.Layout.{pageCount, pageBit}
+use Rattle.model.specs.Entry.{occupied, isDirectory, isLocked, nameAt, startAt, sizeAt, dateAt, vacant, aFile, aDirectory, entryAt}
 use Rattle.model.specs.Version1.{view}
-use Rattle.model.specs.Sound.{pagesOf, goodEntry, isNamed, sameName, inDirectory, goodDirectory, sound}
-use Rattle.model.specs.Tree.{Row, file, relock, Node}
+use Rattle.model.specs.Sound.{sound}
+use Rattle.model.specs.Tree.{relock, Node}
 use Rattle.model.specs.Path.{Name, below}
-use Rattle.model.specs.Image.{contentOf, entryRow, rowAt, treeOf}
-use Rattle.model.specs.Walk.{arrived, walkTo, entryNamed, changeAt}
+use Rattle.model.specs.Image.{rowAt, treeOf}
+use Rattle.model.specs.Walk.{arrived, walkTo, changeAt}
 use Rattle.model.specs.Effect.{withLock, relocked}
 use Rattle.model.specs.Refusal.{isMissing, isBlocked, isDirectoryNode}
-use Rattle.laws.proofs.Facts.{Facts}
-use Rattle.laws.proofs.Entries.{within-page}
-use Rattle.laws.proofs.Owns.{own}
-use Rattle.laws.proofs.Frame.{Kept, SamePages, kept-pages}
+use Rattle.view_laws.proofs.Writing.{relocked-sound}
+use Rattle.laws.proofs.Facts.{Facts, viewed}
 use Rattle.laws.proofs.Focus.{named-found}
-use Rattle.laws.proofs.Change.{Works, changed}
 use Rattle.laws.proofs.Walks.{Target, target}
 use Rattle.laws.proofs.Slots.{size, Slot}
+use Rattle.laws.proofs.Shelf.{shelved, afterwards}
 use Rattle.laws.proofs.Write as W
 
 -- ---- the flags byte
@@ -86,21 +82,6 @@ entry-relocked b b′ at k h o d l n a s z = rw (o, d, l, n, a, s, z) (go (occup
     go true false h = refl
     go false c h = absurd h
 
--- ---- relock
-
-relock-skip : (b : Bytes) (g : ℕ → Row) (n : Bytes) (k : Bool) (x : Entry) → T (not (isNamed n x)) → (rest : Row) → relock n k (entryRow (view b) g x rest) ≡ entryRow (view b) g x (relock n k rest)
-unfolding relock entryRow isNamed pagesOf
-relock-skip b g n k vacant h rest = refl
-relock-skip b g n k (aFile locked name date start size) h rest =
-    if-no (same name n) (entryRow (view b) g (aFile k name date start size) rest) (entryRow (view b) g (aFile locked name date start size) (relock n k rest)) h
-relock-skip b g n k (aDirectory name date start size) h rest = refl
-
-relock-work : (b : Bytes) (g : ℕ → Row) (n : Bytes) (k locked : Bool) (name date : Bytes) (start size : ℕ) → T (isNamed n (aFile locked name date start size)) → (rest : Row)
-    → relock n k (entryRow (view b) g (aFile locked name date start size) rest) ≡ entryRow (view b) g (aFile k name date start size) rest
-unfolding relock entryRow isNamed pagesOf
-relock-work b g n k locked name date start size h rest =
-    if-yes (same name n) (entryRow (view b) g (aFile k name date start size) rest) (entryRow (view b) g (aFile locked name date start size) (relock n k rest)) h
-
 -- ---- a file that some names lead to
 
 module _ (b : Bytes) (f : Facts b) (ns : List Name) (n : Name) (tg : Target b ns n) (isFile : T (W.isFileEntry (entryAt b (tg .at)))) (k : Bool) where
@@ -148,55 +129,15 @@ module _ (b : Bytes) (f : Facts b) (ns : List Name) (n : Name) (tg : Target b ns
       (other (at + 17) (omega arith))
       (ap₂ (λ (x y : ℕ). x + 256 * y) (other (at + 18) (omega arith)) (other (at + 19) (omega arith)))
 
-  -- the file's pages are not the directory's, where its entry stands
-  pages-kept : Kept b b′ (chain (link b) (pagesFor s₀) (startAt b at))
-  pages-kept q m =
-      let c = W.file-chained b f ns n tg isFile in
-      let home : at / 256 ≡ t = within-page t at (slot .within) at (omega arith) (omega arith) in (
-        W.file-owned b f ns n tg isFile .inside q m .0,
-        λ i l u. lock-rest i (λ w. omega (arith, m, c .apart, ap (λ (x : ℕ). occ x (chain (link b) (pagesFor s₀) (startAt b at))) (sym l ∙ ap (λ (x : ℕ). x / 256) w ∙ home))),
-      )
-
-  same-pages : SamePages b b′ (aFile k (nameAt b at) (dateAt b at) (startAt b at) s₀)
-  unfolding pagesOf
-  same-pages = kept-pages b b′ long (aFile k (nameAt b at) (dateAt b at) (startAt b at) s₀) pages-kept
-
-  works : Works b b′ e t at (relock (n .bytes) k) (isNamed (n .bytes))
-  unfolding entryNamed goodEntry sameName isNamed entryRow pagesOf contentOf
-  works = record {
-    skip = relock-skip b (rowAt e (view b)) (n .bytes) k;
-    work = λ rest.
-        ap (λ (x : Entry). relock (n .bytes) k (entryRow (view b) (rowAt e (view b)) x rest)) is
-        ∙ relock-work b (rowAt e (view b)) (n .bytes) k (isLocked b at) (nameAt b at) (dateAt b at) (startAt b at) s₀
-        (subst (λ (x : Entry). T (isNamed (n .bytes) x)) is (W.found b f ns n tg isFile .1)) rest
-        ∙ ap (λ (v : Bytes). file k (nameAt b at) (dateAt b at) (take s₀ v) rest) (sym (same-pages .content))
-        ∙ ap (λ (ps : List ℕ). file k (nameAt b at) (dateAt b at) (contentOf (view b′) s₀ ps) rest) (sym (same-pages .pages))
-        ∙ ap (λ (x : Entry). entryRow (view b′) (rowAt e (view b′)) x rest) (sym is′);
-    found = tg .found;
-    good = subst (λ (x : Entry). T (goodEntry (view b′) x)) (sym is′)
-        (subst T (sym (same-pages .good)) (subst (λ (x : Entry). T (goodEntry (view b) x)) is (W.good b f ns n tg isFile .each at (W.found b f ns n tg isFile .0))));
-    below = subst (λ (x : Entry). T (inDirectory true (goodDirectory e (view b′)) x)) (sym is′) tt;
-    name = λ x m ne. subst (λ (y : Entry). T (not (sameName y (entryAt b x)))) (sym is′)
-        (subst (λ (y : Entry). T (not (sameName y (entryAt b x)))) is (W.good b f ns n tg isFile .apart at x (W.found b f ns n tg isFile .0) m (λ q. ne (sym q))));
-  }
-
-  pub locked-sound : T (sound b′) × (treeOf b′ ≡ record { pages = pageCount b; root = changeAt ns (relock (n .bytes) k) (rowAt (pageCount b) (view b) 0) })
-  unfolding On.pageBit own pagesOf
+  locked-sound : T (sound b′) × (treeOf b′ ≡ record { pages = pageCount b; root = changeAt ns (relock (n .bytes) k) (rowAt (pageCount b) (view b) 0) })
+  unfolding On.pageBit
   locked-sound =
       let far = slot .within .far in
-      let mine′ : own e b′ (entryAt b′ at) ≡ own e b (entryAt b at) = ap (own e b′) is′ ∙ same-pages .pages ∙ sym (W.mine b f ns n tg isFile) in
       let low : (i : ℕ) → i < 36 → byteAt b′ i ≡ byteAt b i = λ i l. lock-rest i (λ q. omega (arith, q, far, l)) in
-      changed b′ f ns e t at [] (tg .above .leads) (W.found b f ns n tg isFile .0)
-      (record { len = long; head = λ i l. lock-rest i (λ q. omega (arith, q, far)); rest = λ i l u z. lock-rest i (λ q. omega (arith, q, u (omega (arith, q)))) })
-      (λ q k. absurd (omega arith))
-      (relock (n .bytes) k) (isNamed (n .bytes)) (tg .above .good) works
-      (record {
-        bits = λ q l.
-            let s : pageBit b′ q ≡ pageBit b q = ap (λ (x : ℕ). bit (q % 8) x) (low (4 + q / 8) (omega (arith, l, size f .high))) in
-            omega (arith, s, ap (occ q) mine′);
-        count = omega (arith, low 3 (omega arith), ap length mine′);
-        fresh-in = λ q m. let r = W.file-owned b f ns n tg isFile .inside q (subst (Mem q) (mine′ ∙ W.mine b f ns n tg isFile) m) in (r .0, r .1);
-      })
+      afterwards f long (λ i l. low i (omega arith))
+      (relocked-sound (shelved f) (size f .whole) (viewed f) ns e t at (n .bytes) (tg .above .leads) (tg .above .good) tt (tg .found)
+      (isLocked b at) (nameAt b at) (dateAt b at) s₀ (byte (at + 17)) is b′ k long (λ i u. lock-rest i (λ q. omega (arith, q, u (omega (arith, q))))) is′
+      (λ q l. ap (λ (x : ℕ). bit (q % 8) x) (low (4 + q / 8) (omega (arith, l, size f .high)))) (low 3 (omega arith)))
 
 -- ---- the call
 

@@ -5,97 +5,50 @@ use Prim.Native.Nat.{ℕ, zero, suc, _+_, _*_, _/_, _≤_, _<_}
 use native.Mathlib.Omega.{arith}
 use native.Mathlib.Decide.{ℕ-discrete}
 use mathlib.Core.Bool.{false, true, not}
-use mathlib.Core.Option.{Option, none, some, Option·getD, Option·map}
+use mathlib.Core.Option.{some}
 use mathlib.Core.List.{List, [], _∷_}
 use lib.ListN.{length}
-use lib.Dec.{T, eqb, T-not}
-use Rattle.volume.specs.Bytes.{Bytes, byteAt, put, if_then_else_}
+use lib.Dec.{T, eqb}
+use Rattle.volume.specs.Bytes.{Bytes, byteAt, put}
 use Rattle.volume.specs.Lists.{first}
 use Rattle.volume.specs.Chain.{chain, beyond}
 use Rattle.volume.specs.Field.{byte}
 use Rattle.volume.specs.Geometry as On
 use Rattle.volume.proofs.Occ.{occ, Mem, hit-refl, not-mem}
-use Rattle.volume.proofs.Tests.{both-and, first-found, first-none, eq-eqb}
+use Rattle.volume.proofs.Tests.{both-and, first-found, eq-eqb}
 use Rattle.volume.proofs.Puts.{put-in}
 use Rattle.volume.proofs.Grow.{Gained, gained-is, Held}
-use Rattle.volume.proofs.Entries.{Made, made-is}
+use Rattle.volume.proofs.Entries.{Made}
 use Rattle.volume.proofs.Stays as Stays
 use Rattle.volume.proofs.Stays.{Elsewhere}
 use Rattle.model.specs.Layout.{version1, pageCount, pagesFor, zeroBits, link}
 use Rattle.model.specs.Name.{legalName}
 use Rattle.model.specs.Entry.{entries, startAt, Entry, vacant, aFile, aDirectory, entryAt, newEntry}
+use Rattle.model.specs.View.{View}
 use Rattle.model.specs.Version1.{view}
 use Rattle.model.specs.Sound.{pagesOf, goodEntry, isNamed, sameName, inDirectory, goodDirectory, owned, sound}
-use Rattle.model.specs.Tree.{Row, file, dir, emptyRow, width, held as heldIn, Node, lookup, fill}
+use Rattle.model.specs.Tree.{Row, file, dir, emptyRow, width, held as heldIn, lookup, fill}
 use Rattle.model.specs.Path.{Name, below}
-use Rattle.model.specs.Image.{contentOf, entryRow, rowOf, rowAt, treeOf}
-use Rattle.model.specs.Walk.{Walked, arrived, walk, entryNamed, arrivedOr, changeAt}
+use Rattle.model.specs.Image.{contentOf, entryRow, rowAt, treeOf}
+use Rattle.model.specs.Walk.{Walked, arrived, walk, arrivedOr, changeAt}
 use Rattle.model.specs.Effect.{isVacant, lowestVacant, made, fileMade, directoryMade}
 use Rattle.model.specs.Refusal.{isMissing, isBlocked, isThere}
 use Rattle.model.proofs.Version1.{home}
 use Rattle.model.proofs.Bounds.{eight-entries}
-use Rattle.laws.proofs.Facts.{Facts}
-use Rattle.laws.proofs.Entries.{entry-within}
+use Rattle.view_laws.proofs.Owns as Owns
+use Rattle.view_laws.proofs.Shelf.{seen}
+use Rattle.view_laws.proofs.Vacant.{vacant-row, vacant-owns, vacant-good}
+use Rattle.view_laws.proofs.Making as Any
+use Rattle.laws.proofs.Facts.{Facts, viewed}
+use Rattle.laws.proofs.Entries.{entry-within, nodup-entries}
 use Rattle.laws.proofs.Owns.{own, own-length}
 use Rattle.laws.proofs.Focus.{named-found, Leads, leads-depth}
-use Rattle.laws.proofs.Change.{changed}
 use Rattle.laws.proofs.Counting.{count-owned}
-use Rattle.laws.proofs.Walks.{nodeOf, lookup-named, Parent, parent}
-use Rattle.laws.proofs.Slots.{size, lawful, head-kept, rest-kept, header-marked, Slot, slot, held}
-use Rattle.laws.proofs.Vacant.{zero-vacant, vacant-row, vacant-owns, vacant-good}
+use Rattle.laws.proofs.Walks.{Parent, parent}
+use Rattle.laws.proofs.Slots.{size, lawful, head-kept, header-marked, Slot, slot, held}
+use Rattle.laws.proofs.Vacant.{zero-vacant}
+use Rattle.laws.proofs.Shelf.{shelf, shelved, afterwards}
 use Rattle.laws.proofs.NewEntry.{new-length, new-start, is-file, is-directory}
-
--- ---- the lowest vacant entry, and a name that is not there
-
-all-held : (b : Bytes) (g : ℕ → Row) (ats : List ℕ) → first (λ x. isVacant (entryAt b x)) ats ≡ none → heldIn (rowOf (view b) g ats) ≡ width (rowOf (view b) g ats)
-unfolding heldIn width rowOf first entryRow isVacant
-all-held b g [] e = refl
-all-held b g (x ∷ xs) e = go (entryAt b x) e (all-held b g xs)
-  where
-    go : (y : Entry) → (if isVacant y then some x else first (λ z. isVacant (entryAt b z)) xs) ≡ none
-        → (first (λ z. isVacant (entryAt b z)) xs ≡ none → heldIn (rowOf (view b) g xs) ≡ width (rowOf (view b) g xs))
-        → heldIn (entryRow (view b) g y (rowOf (view b) g xs)) ≡ width (entryRow (view b) g y (rowOf (view b) g xs))
-    go vacant u next = let bad : _≡_ {A = ℕ} 0 1 = cc in absurd (omega (arith, bad))
-    go (aFile locked name date start size) u next = ap suc (next u)
-    go (aDirectory name date start size) u next = ap suc (next u)
-
-some-vacant : (b : Bytes) (d p : ℕ) → T (not (eqb (heldIn (rowAt (suc d) (view b) p)) (width (rowAt (suc d) (view b) p)))) → first (λ x. isVacant (entryAt b x)) (entries p) ≡ some (lowestVacant b p)
-unfolding rowAt lowestVacant
-some-vacant b d p h = go (first (λ x. isVacant (entryAt b x)) (entries p)) refl
-  where
-    go : (o : Option ℕ) → first (λ x. isVacant (entryAt b x)) (entries p) ≡ o → o ≡ some (Option·getD o 0)
-    go none e = absurd (T-not (eqb (heldIn (rowOf (view b) (rowAt d (view b)) (entries p))) (width (rowOf (view b) (rowAt d (view b)) (entries p)))) h (eq-eqb (all-held b (rowAt d (view b)) (entries p) e)))
-    go (some x) e = refl
-
-not-named : (b : Bytes) (d p : ℕ) (n : Bytes) → T (not (isThere (lookup n (rowAt (suc d) (view b) p)))) → (x : ℕ) → Mem x (entries p) → T (not (isNamed n (entryAt b x)))
-unfolding isThere entryNamed
-not-named b d p n h = go (first (λ x. isNamed n (entryAt b x)) (entries p)) refl
-    (subst (λ (o : Option Node). T (not (isThere o))) (lookup-named b d p n) h)
-  where
-    go : (o : Option ℕ) → first (λ x. isNamed n (entryAt b x)) (entries p) ≡ o → T (not (isThere (Option·map (λ at. nodeOf b (rowAt d (view b)) (entryAt b at)) o)))
-        → (x : ℕ) → Mem x (entries p) → T (not (isNamed n (entryAt b x)))
-    go none e k x m = first-none (λ y. isNamed n (entryAt b y)) (entries p) e x m
-    go (some y) e k x m = absurd k
-
--- ---- fill
-
-fill-skip : (b : Bytes) (g : ℕ → Row) (h : Row → Row) (x : Entry) → T (not (isVacant x)) → (rest : Row) → fill h (entryRow (view b) g x rest) ≡ entryRow (view b) g x (fill h rest)
-unfolding fill entryRow isVacant
-fill-skip b g h vacant u rest = absurd u
-fill-skip b g h (aFile locked name date start size) u rest = refl
-fill-skip b g h (aDirectory name date start size) u rest = refl
-
-fill-work : (b : Bytes) (g : ℕ → Row) (h : Row → Row) (x : Entry) → T (isVacant x) → (rest : Row) → fill h (entryRow (view b) g x rest) ≡ h rest
-unfolding fill entryRow isVacant
-fill-work b g h vacant u rest = refl
-fill-work b g h (aFile locked name date start size) u rest = absurd u
-fill-work b g h (aDirectory name date start size) u rest = absurd u
-
-vacant-own : (d : ℕ) (b : Bytes) (x : Entry) → T (isVacant x) → own d b x ≡ []
-unfolding own isVacant
-vacant-own d b vacant u = refl
-vacant-own d b (aFile locked name date start size) u = absurd u
-vacant-own d b (aDirectory name date start size) u = absurd u
 
 -- ---- a new entry with k new pages
 
@@ -129,13 +82,15 @@ module _ {b : Bytes} (f : Facts b) (ns : List Name) (name date : Bytes) (fl z k 
       let h = held f place-slot 0 32 (omega arith) in
       record { inside = omega (arith, place-slot .inside); bytes = λ i u v. h .bytes i (omega arith) (omega arith); page = h .page; marked = h .marked }
 
-  pub made-bytes : Made version1 home (pageCount b) b (madeAt fl z k name date (w .at) b) (w .at) (newEntry fl name 0 z date) (byte (w .at + 17)) k (On.gained version1 (pageCount b) k b)
-  made-bytes =
+  -- the new entry's start page is 0 before it is given one
+  no-start : byteAt (put (w .at) (newEntry fl name 0 z date) b) (w .at + 17) ≡ 0
+  no-start =
       let l = new-length fl name z date (w .long) (w .dated) in
-      made-is (lawful f) b (w .at) (w .above .t) (newEntry fl name 0 z date) (byte (w .at + 17)) k (size f .whole) (header-marked f)
-      (omega (arith, size f .low)) place-held (omega arith) (omega arith)
-      (put-in (w .at) (newEntry fl name 0 z date) b (place-held .inside) 17 (omega arith) ∙ new-start fl name z date (w .long) (w .dated))
-      (w .space)
+      put-in (w .at) (newEntry fl name 0 z date) b (place-held .inside) 17 (omega arith) ∙ new-start fl name z date (w .long) (w .dated)
+
+  pub made-bytes : Made version1 home (pageCount b) b (madeAt fl z k name date (w .at) b) (w .at) (newEntry fl name 0 z date) (byte (w .at + 17)) k (On.gained version1 (pageCount b) k b)
+  made-bytes = Any.made-bytes (shelved f) (size f .whole) (viewed f) ns (w .above .e) (w .above .t) (w .at) k (newEntry fl name 0 z date) (byte (w .at + 17))
+      (w .above .leads) (w .above .good) tt (w .found) (w .space) (new-length fl name z date (w .long) (w .dated)) (omega arith) (omega arith) no-start
 
   -- every byte but the entry's, and those that hold or count the pages gained
   pub made-stays : (i : ℕ) → (w .at ≤ i → w .at + 32 ≤ i) → ((p : ℕ) → Mem p (On.gained version1 (pageCount b) k b) → Elsewhere version1 p i)
@@ -144,8 +99,7 @@ module _ {b : Bytes} (f : Facts b) (ns : List Name) (name date : Bytes) (fl z k 
       let l = new-length fl name z date (w .long) (w .dated) in
       Stays.made-stays (lawful f) b (w .at) (w .above .t) (newEntry fl name 0 z date) (byte (w .at + 17)) k (size f .whole) (header-marked f)
       (omega (arith, size f .low)) place-held (omega arith) (omega arith)
-      (put-in (w .at) (newEntry fl name 0 z date) b (place-held .inside) 17 (omega arith) ∙ new-start fl name z date (w .long) (w .dated))
-      (w .space) i (λ u. omega (arith, l, o u)) e
+      no-start (w .space) i (λ u. omega (arith, l, o u)) e
 
   pub made-gained : Gained version1 (pageCount b) k b
   made-gained = gained-is (lawful f) k b (size f .whole) (header-marked f) (w .space)
@@ -158,50 +112,27 @@ module _ {b : Bytes} (f : Facts b) (ns : List Name) (name date : Bytes) (fl z k 
   made-inside = omega (arith, made-bytes .size, place-slot .inside)
 
   -- what the new entry must be like; the rest follows
-  made-sound : let b′ = madeAt fl z k name date (w .at) b in (h : Row → Row) (x : Entry) → entryAt b′ (w .at) ≡ x
-      → own (w .above .e) b′ x ≡ On.gained version1 (pageCount b) k b → T (goodEntry (view b′) x) → T (inDirectory true (goodDirectory (w .above .e) (view b′)) x)
+  made-sound : let b′ = madeAt fl z k name date (w .at) b in let v′ = seen (shelf (pageCount b)) b′ in (h : Row → Row) (x : Entry) → entryAt b′ (w .at) ≡ x
+      → Owns.own (w .above .e) v′ x ≡ On.gained version1 (pageCount b) k b → T (goodEntry v′ x) → T (inDirectory true (goodDirectory (w .above .e) v′) x)
       → ((y : Entry) → T (not (isNamed name y)) → T (not (sameName x y)))
-      → ((rest : Row) → h rest ≡ entryRow (view b′) (rowAt (w .above .e) (view b′)) x rest)
+      → ((rest : Row) → h rest ≡ entryRow v′ (rowAt (w .above .e) v′) x rest)
       → T (sound b′) × (treeOf b′ ≡ record { pages = pageCount b; root = changeAt ns (fill h) (rowAt (pageCount b) (view b) 0) })
   made-sound h x is mine good sub apart means =
-      let b′ : Bytes = madeAt fl z k name date (w .at) b in
       let m = made-bytes in
       let qs : List ℕ = On.gained version1 (pageCount b) k b in
-      let before : own (w .above .e) b (entryAt b (w .at)) ≡ [] = vacant-own (w .above .e) b (entryAt b (w .at)) (spot .1) in
-      let after : own (w .above .e) b′ (entryAt b′ (w .at)) ≡ qs = ap (own (w .above .e) b′) is ∙ mine in
-      let new = made-gained .new in
-      let l = new-length fl name z date (w .long) (w .dated) in
-      let zero-out : occ 0 qs ≡ 0 = not-mem 0 qs (λ c. omega (arith, new 0 c .0)) in
-      changed b′ f ns (w .above .e) (w .above .t) (w .at) qs (w .above .leads) (spot .0)
-      (record {
-        len = m .size;
-        head = λ i u. let z : i / 256 ≡ 0 = omega arith in
-            m .rest i (head-kept f i u) (λ v. omega (arith, place-slot .within .far)) (subst (λ (y : ℕ). occ y qs ≡ 0) (sym z) zero-out);
-        rest = λ i u v c. m .rest i (rest-kept f i u) (λ y. omega (arith, v y)) c;
-      })
-      (λ q c. let r = new q c in (r .0, λ o. absurd (omega (arith, r .2, f .exact q (r .0) (r .1)))))
-      (fill h) isVacant (w .above .good)
-      (record {
-        skip = fill-skip b (rowAt (w .above .e) (view b)) h;
-        work = λ rest. fill-work b (rowAt (w .above .e) (view b)) h (entryAt b (w .at)) (spot .1) rest ∙ means rest
-            ∙ ap (λ (y : Entry). entryRow (view b′) (rowAt (w .above .e) (view b′)) y rest) (sym is);
-        found = w .found;
-        good = subst (λ (y : Entry). T (goodEntry (view b′) y)) (sym is) good;
-        below = subst (λ (y : Entry). T (inDirectory true (goodDirectory (w .above .e) (view b′)) y)) (sym is) sub;
-        name = λ y c ne. subst (λ (v : Entry). T (not (sameName v (entryAt b y)))) (sym is) (apart (entryAt b y) (w .apart y c));
-      })
-      (record {
-        bits = λ q u. omega (arith, ap (occ q) before, ap (occ q) after, m .bits q u);
-        count = omega (arith, ap length before, ap length after, made-gained .many, m .count, f .counted, w .space);
-        fresh-in = λ q c. let r = new q (subst (λ (ps : List ℕ). Mem q ps) after c) in (r .0, r .1);
-      })
+      afterwards f (m .size)
+      (λ i u. let y : i / 256 ≡ 0 = omega arith in
+      m .rest i (head-kept f i u) (λ v. omega (arith, place-slot .within .far)) (subst (λ (q : ℕ). occ q qs ≡ 0) (sym y) (not-mem 0 qs (λ c. omega (arith, made-gained .new 0 c .0)))))
+      (Any.made-sound (shelved f) (size f .whole) (viewed f) ns (w .above .e) (w .above .t) (w .at) k (newEntry fl name 0 z date) (byte (w .at + 17))
+      (w .above .leads) (w .above .good) tt (w .found) (w .space) (new-length fl name z date (w .long) (w .dated)) (omega arith) (omega arith) no-start
+      h x name is mine good sub (w .apart) apart means)
 
 -- ---- a file: its pages are those that size 0 wants, whatever their number
 
 module _ {b : Bytes} (f : Facts b) {ns : List Name} {name date : Bytes} (w : Place b ns name date (pagesFor 0)) where
   file-sound : let b′ = madeAt 0x80 0 (pagesFor 0) name date (w .at) b in
       T (sound b′) × (treeOf b′ ≡ record { pages = pageCount b; root = changeAt ns (fill (file false name date [])) (rowAt (pageCount b) (view b) 0) })
-  unfolding own pagesOf goodEntry sameName entryRow contentOf
+  unfolding Owns.own pagesOf goodEntry sameName entryRow contentOf
   file-sound =
       let b′ : Bytes = madeAt 0x80 0 (pagesFor 0) name date (w .at) b in
       let m = made-bytes f ns name date 0x80 0 (pagesFor 0) w in
@@ -225,11 +156,14 @@ leads-many b (n ∷ ns) (suc d) p e t l =
 module _ {b : Bytes} (f : Facts b) {ns : List Name} {name date : Bytes} (w : Place b ns name date 1) where
   directory-sound : let b′ = madeAt 0x81 0x0100 1 name date (w .at) b in
       T (sound b′) × (treeOf b′ ≡ record { pages = pageCount b; root = changeAt ns (fill (dir name date (emptyRow 8))) (rowAt (pageCount b) (view b) 0) })
-  unfolding own goodEntry sameName entryRow chain beyond
+  unfolding Owns.own goodEntry sameName entryRow chain beyond
   directory-sound = go (w .above .e) refl
     where
       b′ : Bytes
       b′ = madeAt 0x81 0x0100 1 name date (w .at) b
+
+      v′ : View
+      v′ = seen (shelf (pageCount b)) (madeAt 0x81 0x0100 1 name date (w .at) b)
 
       m : Made version1 home (pageCount b) b (madeAt 0x81 0x0100 1 name date (w .at) b) (w .at) (newEntry 0x81 name 0 0x0100 date) (byte (w .at + 17)) 1 (On.gained version1 (pageCount b) 1 b)
       m = made-bytes f ns name date 0x81 0x0100 1 w
@@ -266,12 +200,12 @@ module _ {b : Bytes} (f : Facts b) {ns : List Name} {name date : Bytes} (w : Pla
       go (suc e) q =
           let is = is-directory 0x81 name 0x0100 date (w .long) (w .dated) b′ (w .at) (made-inside f ns name date 0x81 0x0100 1 w) (made-there f ns name date 0x81 0x0100 1 w) refl in
           made-sound f ns name date 0x81 0x0100 1 w (dir name date (emptyRow 8)) (aDirectory name date s 0x0100) is
-          (ap (λ (d : ℕ). s ∷ owned d (view b′) s) q ∙ ap (λ (l : List ℕ). s ∷ l) (vacant-owns b′ e s vacants) ∙ m .pages)
+          (ap (λ (d : ℕ). s ∷ owned d v′ s) q ∙ ap (λ (l : List ℕ). s ∷ l) (vacant-owns v′ e s vacants) ∙ m .pages)
           (both-and (legalName name) true (w .legal) tt)
-          (subst (λ (d : ℕ). T (goodDirectory d (view b′) s)) (sym q) (vacant-good b′ e s vacants))
+          (subst (λ (d : ℕ). T (goodDirectory d v′ s)) (sym q) (vacant-good v′ e s vacants (nodup-entries s)))
           (λ y h. h)
           (λ rest. ap (λ (r : Row). dir name date r rest)
-          (sym (ap (λ (d : ℕ). rowAt d (view b′) s) q ∙ vacant-row b′ e s vacants ∙ ap emptyRow (eight-entries s low))))
+          (sym (ap (λ (d : ℕ). rowAt d v′ s) q ∙ vacant-row v′ e s vacants ∙ ap emptyRow (eight-entries s low))))
 
 -- ---- the calls
 
@@ -286,15 +220,16 @@ pub record Clear (b : Bytes) (ns : List Name) (n : Name) (date : Bytes) (k : ℕ
   pub space : k ≤ zeroBits b (pageCount b)
 
 pub place-of : {b : Bytes} → Facts b → {ns : List Name} {n : Name} {date : Bytes} {k : ℕ} → Clear b ns n date k → Place b ns (n .bytes) date k
+unfolding lowestVacant
 place-of {b} f {ns} {n} c =
     let p = parent f (c .reached) (c .entered) in
     let r = c .new (rowAt (suc (p .e)) (view b) (p .t)) (p .row) in
     record {
       above = p;
       at = lowestVacant b (p .t);
-      found = some-vacant b (p .e) (p .t) (r .1);
+      found = Any.some-vacant (view b) (p .e) (p .t) (r .1);
       legal = c .legal;
-      apart = not-named b (p .e) (p .t) (n .bytes) (r .0);
+      apart = Any.not-named (view b) (p .e) (p .t) (n .bytes) (r .0);
       long = c .long;
       dated = c .dated;
       space = c .space;

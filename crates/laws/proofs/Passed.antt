@@ -268,7 +268,7 @@ module _ (b : Bytes) (f : Facts b) (path : Bytes) (from : ℕ) (v : Bytes) (w : 
   pub write-position : entryPosition b (pathOf path) ≡ at
   write-position = ap (entryPosition b) (w .is) ∙ write-target .position
 
-  node-here : node path (treeOf b) ≡ nodeOf b (rowAt (write-target .above .e) (view b)) (entryAt b at)
+  node-here : node path (treeOf b) ≡ nodeOf (view b) (rowAt (write-target .above .e) (view b)) (entryAt b at)
   node-here = let l = w .leads in let r = write-target .node in cc
 
   pub write-file : T (isFileEntry (entryAt b at))

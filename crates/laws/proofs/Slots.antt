@@ -1,23 +1,23 @@
 -- A sound image is lawful as version 1, and an entry of a reached directory lies in a marked page of the image, its pages marked and owned once.
 use mathlib.Core.Path.{_≡_, ap, _∙_}
-use mathlib.Core.Logic.{inl, inr}
 use Prim.Native.Nat.{ℕ, suc, _+_, _≤_, _<_}
 use native.Mathlib.Omega.{arith}
-use mathlib.Core.List.{List, _∷_}
+use mathlib.Core.List.{List, []}
 use lib.ListN.{length}
 use Rattle.volume.specs.Bytes.{Bytes}
-use Rattle.volume.proofs.Occ.{occ, Mem, Nodup, hit-refl, hit-ne, mem-cons, not-mem}
+use Rattle.volume.proofs.Occ.{occ, Mem, mem-head}
 use Rattle.volume.proofs.Lawful.{Kept, Lawful}
 use Rattle.volume.proofs.Grow.{Held}
 use Rattle.model.specs.Layout.{version1, pageCount, pageBit}
 use Rattle.model.specs.Entry.{entries, entryAt}
-use Rattle.model.specs.Sound.{ownedPages}
+use Rattle.model.specs.Version1.{view}
 use Rattle.model.specs.Path.{Name}
 use Rattle.model.proofs.Version1.{home, version1-lawful}
-use Rattle.laws.proofs.Facts.{Facts, once, Sized, valid-sized}
+use Rattle.view_laws.proofs.Slots as Any
+use Rattle.laws.proofs.Facts.{Facts, viewed, rooted, Sized, valid-sized}
 use Rattle.laws.proofs.Entries.{Within, entry-within, within-page}
-use Rattle.laws.proofs.Owns.{own, own-le}
-use Rattle.laws.proofs.Focus.{Leads, leads-sub, leads-owned}
+use Rattle.laws.proofs.Owns.{own}
+use Rattle.laws.proofs.Focus.{Leads}
 
 -- ---- version 1
 
@@ -46,19 +46,11 @@ pub record Slot (b : Bytes) (t at : ℕ) : Type 0 where
   pub marked : pageBit b t ≡ 1
   pub inside : at + 32 ≤ length b
 
-module _ {b : Bytes} (f : Facts b) (ns : List Name) (e t at : ℕ) (leads : Leads b (pageCount b) 0 ns e t) where
-  page-marked : (t < pageCount b) × (pageBit b t ≡ 1)
-  page-marked =
-      let m : Mem t (0 ∷ ownedPages b) = omega (arith, hit-refl t, leads-sub b ns (pageCount b) 0 e t t leads) in
-      elim (mem-cons t 0 (ownedPages b) m) [
-        | inl z ↦ (omega (arith, z, size f .low), ap (pageBit b) z ∙ f .bit-zero)
-        | inr k ↦ let r = f .inside t k in (r .1, omega (arith, f .exact t (r .0) (r .1), once f t))
-      ]
-
-  pub slot : Mem at (entries t) → Slot b t at
-  slot m =
-      let w = entry-within t at m in
-      record { within = w; page = page-marked .0; marked = page-marked .1; inside = omega (arith, w .high, page-marked .0, size f .whole) }
+pub slot : {b : Bytes} → Facts b → (ns : List Name) (e t at : ℕ) → Leads b (pageCount b) 0 ns e t → Mem at (entries t) → Slot b t at
+slot {b} f ns e t at leads m =
+    let w = entry-within t at m in
+    let p = Any.directory-page (viewed f) (omega arith) (omega (arith, size f .low)) (rooted b) ns e t t leads (mem-head t []) in
+    record { within = w; page = p .0 .1; marked = p .1; inside = omega (arith, w .high, p .0 .1, size f .whole) }
 
 -- n bytes of the entry, from its byte i on
 pub held : {b : Bytes} → Facts b → {t at : ℕ} → Slot b t at → (i n : ℕ) → i + n ≤ 32 → Held version1 home (pageCount b) (at + i) n t b
@@ -70,34 +62,14 @@ held {b} f {t} {at} s i n h = record {
 }
 
 -- the pages of an entry, with those below it
-pub record Owned (b : Bytes) (ps : List ℕ) : Type 0 where
-  pub inside : (q : ℕ) → Mem q ps → (1 ≤ q) × (q < pageCount b) × (pageBit b q ≡ 1)
-  pub once : Nodup ps
+abbrev pub Owned : Bytes → List ℕ → Type 0
+Owned b ps = Any.Owned (view b) ps
 
 pub entry-owned : {b : Bytes} → Facts b → (ns : List Name) (e t at : ℕ) → Leads b (pageCount b) 0 ns (suc e) t → Mem at (entries t) → Owned b (own e b (entryAt b at))
-entry-owned {b} f ns e t at leads m = record {
-  inside = λ q k.
-      let o : Mem q (ownedPages b) = omega (arith, le q) in
-      let r = f .inside q o in
-      (r .0, r .1, omega (arith, f .exact q (r .0) (r .1), once f q));
-  once = λ q. omega (arith, le q, once f q);
-}
-  where
-    le : (q : ℕ) → occ q (own e b (entryAt b at)) ≤ occ q (ownedPages b)
-    le q = omega (arith, own-le e b t at q m, leads-owned b ns (pageCount b) 0 (suc e) t q leads)
+unfolding own
+entry-owned f = Any.entry-owned (viewed f)
 
 -- the directory's own page is none of them
 pub entry-apart : {b : Bytes} → Facts b → (ns : List Name) (e t at : ℕ) → Leads b (pageCount b) 0 ns (suc e) t → Mem at (entries t) → occ t (own e b (entryAt b at)) ≡ 0
-entry-apart {b} f ns e t at leads m =
-    let s = leads-sub b ns (pageCount b) 0 (suc e) t t leads in
-    let l = own-le e b t at t m in
-    let o = once f t in
-    elim (mem-cons t 0 (ownedPages b) (omega (arith, hit-refl t, s))) [
-      | inl z ↦
-          let n : occ 0 (ownedPages b) ≡ 0 = not-mem 0 (ownedPages b) (λ k. omega (arith, f .inside 0 k .0)) in
-          let u = leads-owned b ns (pageCount b) 0 (suc e) t t leads in
-          omega (arith, l, u, n, ap (λ (x : ℕ). occ x (ownedPages b)) z)
-      | inr k ↦
-          let r = f .inside t k in
-          omega (arith, hit-refl t, s, l, o, hit-ne t 0 (λ z. omega (arith, z, r .0)))
-    ]
+unfolding own
+entry-apart {b} f ns e t at leads m = Any.entry-apart (viewed f) (omega arith) (omega (arith, size f .low)) (rooted b) ns e t at t leads m (mem-head t [])

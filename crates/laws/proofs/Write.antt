@@ -5,15 +5,14 @@ use mathlib.Core.Logic.{_≢_, inl, inr}
 use Prim.Native.Nat.{ℕ, suc, _+_, _-_, _*_, _/_, _%_, _≤_, _<_, max}
 use native.Mathlib.Omega.{arith}
 use mathlib.Core.Bool.{Bool, true, false, not}
-use mathlib.Core.List.{List, [], _∷_, _++_, flatMap}
-use lib.ListN.{length, length-append, take}
+use mathlib.Core.List.{List, [], _∷_, _++_}
+use lib.ListN.{length, length-append}
 use lib.Dec.{T, eqb, eqb→eq}
-use Rattle.volume.specs.Bytes.{Bytes, byteAt, put, le16, same, if_then_else_}
+use Rattle.volume.specs.Bytes.{Bytes, byteAt, put, le16, if_then_else_}
 use Rattle.volume.specs.Chain.{chain, beyond, along}
 use Rattle.volume.specs.Field.{byte}
 use Rattle.volume.specs.Geometry as On
 use Rattle.volume.proofs.Occ.{occ, Mem, occ-append, mem-or-not, not-mem}
-use Rattle.volume.proofs.Tests.{and-both, both-and, if-yes, if-no, eq-eqb}
 use Rattle.volume.proofs.Splice.{splice-nil}
 use Rattle.volume.proofs.Puts.{part-bytes}
 use Rattle.volume.proofs.Chains.{chain-length}
@@ -26,23 +25,24 @@ use Rattle.model.specs.Layout.{version1, pageCount, pagesFor, zeroBits, link}
 use Rattle.model.specs.Name.{legalName}
 use Rattle.model.specs.Entry.{entries, occupied, isDirectory, isLocked, nameAt, startAt, sizeAt, dateAt, Entry, vacant, aFile, aDirectory, entryAt}
 use Rattle.model.specs.Version1.{view}
-use Rattle.model.specs.Sound.{pagesOf, pagesAt, goodEntry, isNamed, sameName, inDirectory, goodDirectory, sound}
-use Rattle.model.specs.Tree.{Row, file, Node, rewrite}
+use Rattle.model.specs.Sound.{pagesOf, pagesAt, isNamed, sound}
+use Rattle.model.specs.Tree.{Row, Node, rewrite}
 use Rattle.model.specs.Path.{Name, below}
-use Rattle.model.specs.Image.{contentOn, contentOf, entryRow, rowAt, treeOf}
-use Rattle.model.specs.Walk.{arrived, walkTo, entryNamed, changeAt, entryPosition}
+use Rattle.model.specs.Image.{contentOf, rowAt, treeOf}
+use Rattle.model.specs.Walk.{arrived, walkTo, changeAt, entryPosition}
 use Rattle.model.specs.Effect.{rewritten, written}
 use Rattle.model.specs.Refusal.{isMissing, isBlocked, isDirectoryNode, contentIn}
 use Rattle.model.proofs.Version1.{home}
-use Rattle.laws.proofs.Facts.{Facts}
+use Rattle.view_laws.proofs.Shelf.{entry-changed}
+use Rattle.view_laws.proofs.Writing as Any
+use Rattle.laws.proofs.Facts.{Facts, viewed}
 use Rattle.laws.proofs.Entries.{within-page}
 use Rattle.laws.proofs.Owns.{own}
 use Rattle.laws.proofs.Focus.{named-found}
-use Rattle.laws.proofs.Level.{Good, good-split}
-use Rattle.laws.proofs.Change.{Works, changed}
 use Rattle.laws.proofs.Counting.{fill-up, content-length}
 use Rattle.laws.proofs.Walks.{nodeOf, Target, target}
 use Rattle.laws.proofs.Slots.{size, lawful, head-kept, rest-kept, header-marked, Slot, slot, held, Owned, entry-owned, entry-apart}
+use Rattle.laws.proofs.Shelf.{shelved, afterwards}
 
 -- ---- the entry of a file
 
@@ -65,26 +65,11 @@ file-entry b b′ at h fl n d = rw (fl, n, d) (go (occupied b at) (isDirectory b
     go false c k = absurd k
 
 -- a named entry whose node is no directory
-pub node-file : (b : Bytes) (g : ℕ → Row) (n : Bytes) (x : Entry) → T (isNamed n x) → T (not (isDirectoryNode (nodeOf b g x))) → T (isFileEntry x)
+pub node-file : (b : Bytes) (g : ℕ → Row) (n : Bytes) (x : Entry) → T (isNamed n x) → T (not (isDirectoryNode (nodeOf (view b) g x))) → T (isFileEntry x)
 unfolding isNamed isDirectoryNode nodeOf isFileEntry
 node-file b g n vacant h k = h
 node-file b g n (aFile locked name date start size) h k = tt
 node-file b g n (aDirectory name date start size) h k = k
-
--- ---- rewrite
-
-rewrite-skip : (b : Bytes) (g : ℕ → Row) (n w : Bytes) (x : Entry) → T (not (isNamed n x)) → (rest : Row) → rewrite n w (entryRow (view b) g x rest) ≡ entryRow (view b) g x (rewrite n w rest)
-unfolding rewrite entryRow isNamed
-rewrite-skip b g n w vacant h rest = refl
-rewrite-skip b g n w (aFile locked name date start size) h rest =
-    if-no (same name n) (file locked name date w rest) (entryRow (view b) g (aFile locked name date start size) (rewrite n w rest)) h
-rewrite-skip b g n w (aDirectory name date start size) h rest = refl
-
-rewrite-work : (b : Bytes) (g : ℕ → Row) (n w : Bytes) (locked : Bool) (name date : Bytes) (start size : ℕ) → T (isNamed n (aFile locked name date start size)) → (rest : Row)
-    → rewrite n w (entryRow (view b) g (aFile locked name date start size) rest) ≡ file locked name date w rest
-unfolding rewrite entryRow isNamed
-rewrite-work b g n w locked name date start size h rest =
-    if-yes (same name n) (file locked name date w rest) (entryRow (view b) g (aFile locked name date start size) (rewrite n w rest)) h
 
 -- the sizes of a file that grows
 pages-rise : (s₀ s : ℕ) → s₀ ≤ s → pagesFor s₀ + (pagesFor s - pagesFor s₀) ≡ pagesFor s
@@ -113,7 +98,7 @@ module _ (b : Bytes) (f : Facts b) (ns : List Name) (n : Name) (tg : Target b ns
   abbrev content : Bytes
   content = contentOf (view b) s₀ ps
 
-  pub found : Mem at (entries t) × T (isNamed (n .bytes) (entryAt b at))
+  found : Mem at (entries t) × T (isNamed (n .bytes) (entryAt b at))
   found = named-found b t (n .bytes) at (tg .found)
 
   pub is : entryAt b at ≡ aFile (isLocked b at) (nameAt b at) (dateAt b at) (startAt b at) s₀
@@ -123,20 +108,14 @@ module _ (b : Bytes) (f : Facts b) (ns : List Name) (n : Name) (tg : Target b ns
   unfolding pagesOf
   file-pages = ap (pagesOf (view b)) is
 
-  pub mine : own e b (entryAt b at) ≡ ps
+  mine : own e b (entryAt b at) ≡ ps
   unfolding own pagesOf
   mine = ap (own e b) is
 
-  pub good : Good e b t
-  good = good-split e b t (tg .above .good)
+  file-good : T (legalName (nameAt b at)) × (beyond (link b) (pagesFor s₀) (startAt b at) ≡ 0)
+  file-good = Any.file-good (view b) (view b) e t at (tg .above .good) (n .bytes) (tg .found) is
 
-  pub file-good : T (legalName (nameAt b at)) × (beyond (link b) (pagesFor s₀) (startAt b at) ≡ 0)
-  unfolding goodEntry
-  file-good =
-      let r = and-both (legalName (nameAt b at)) (eqb (beyond (link b) (pagesFor s₀) (startAt b at)) 0) (subst (λ (x : Entry). T (goodEntry (view b) x)) is (good .each at (found .0))) in
-      (r .0, eqb→eq (beyond (link b) (pagesFor s₀) (startAt b at)) 0 (r .1))
-
-  pub file-owned : Owned b ps
+  file-owned : Owned b ps
   file-owned = subst (Owned b) mine (entry-owned f ns e t at (tg .above .leads) (found .0))
 
   pub file-slot : Slot b t at
@@ -153,45 +132,27 @@ module _ (b : Bytes) (f : Facts b) (ns : List Name) (n : Name) (tg : Target b ns
     ends = file-good .1;
   }
 
-  pub file-beside : Beside version1 home (pageCount b) (byte (at + 17)) t (at + 18) 2 b
+  file-beside : Beside version1 home (pageCount b) (byte (at + 17)) t (at + 18) 2 b
   file-beside =
       let h = held f file-slot 18 2 (omega arith) in
       record { inside = h .inside; bytes = λ i l u. (h .bytes i l u .0, h .bytes i l u .1, λ x. omega arith) }
 
-  pub file-content : contentIn (nodeOf b (rowAt e (view b)) (entryAt b at)) ≡ content
+  pub file-content : contentIn (nodeOf (view b) (rowAt e (view b)) (entryAt b at)) ≡ content
   unfolding contentIn nodeOf pagesOf
-  file-content = ap (λ (x : Entry). contentIn (nodeOf b (rowAt e (view b)) x)) is
+  file-content = ap (λ (x : Entry). contentIn (nodeOf (view b) (rowAt e (view b)) x)) is
 
   pub file-size : length content ≡ s₀
   file-size = content-length b (startAt b at) s₀ (λ q m. let r = file-owned .inside q m in omega (arith, r .1, size f .whole))
 
-  -- what the entry must be afterwards: a file of the same name and date, with these bytes
-  works : (b′ : Bytes) (start s : ℕ) (w : Bytes) → entryAt b′ at ≡ aFile (isLocked b at) (nameAt b at) (dateAt b at) start s
-      → contentOf (view b′) s (chain (link b′) (pagesFor s) start) ≡ w → beyond (link b′) (pagesFor s) start ≡ 0
-      → Works b b′ e t at (rewrite (n .bytes) w) (isNamed (n .bytes))
-  unfolding entryNamed goodEntry sameName entryRow pagesOf
-  works b′ start s w is′ c ends = record {
-    skip = rewrite-skip b (rowAt e (view b)) (n .bytes) w;
-    work = λ rest.
-        ap (λ (x : Entry). rewrite (n .bytes) w (entryRow (view b) (rowAt e (view b)) x rest)) is
-        ∙ rewrite-work b (rowAt e (view b)) (n .bytes) w (isLocked b at) (nameAt b at) (dateAt b at) (startAt b at) s₀ (subst (λ (x : Entry). T (isNamed (n .bytes) x)) is (found .1)) rest
-        ∙ ap {B = Row} (λ v. file (isLocked b at) (nameAt b at) (dateAt b at) v rest) (sym c)
-        ∙ ap (λ (x : Entry). entryRow (view b′) (rowAt e (view b′)) x rest) (sym is′);
-    found = tg .found;
-    good = subst (λ (x : Entry). T (goodEntry (view b′) x)) (sym is′) (both-and (legalName (nameAt b at)) (eqb (beyond (link b′) (pagesFor s) start) 0) (file-good .0) (eq-eqb ends));
-    below = subst (λ (x : Entry). T (inDirectory true (goodDirectory e (view b′)) x)) (sym is′) tt;
-    name = λ x m ne. subst (λ (y : Entry). T (not (sameName y (entryAt b x)))) (sym is′)
-        (subst (λ (y : Entry). T (not (sameName y (entryAt b x)))) is (good .apart at x (found .0) m (λ q. ne (sym q))));
-  }
-
   -- a write of no bytes
   unchanged : T (sound b) × (treeOf b ≡ record { pages = pageCount b; root = changeAt ns (rewrite (n .bytes) content) (rowAt (pageCount b) (view b) 0) })
+  unfolding own
   unchanged =
-      changed b f ns e t at [] (tg .above .leads) (found .0)
-      (record { len = refl; head = λ i l. refl; rest = λ i l u z. refl }) (λ q k. absurd (omega arith))
-      (rewrite (n .bytes) content) (isNamed (n .bytes)) (tg .above .good)
-      (works b (startAt b at) s₀ content is refl (file-good .1))
-      (record { bits = λ q l. refl; count = refl; fresh-in = λ q k. let r = file-owned .inside q (subst (Mem q) mine k) in (r .0, r .1) })
+      afterwards f refl (λ i l. refl)
+      (entry-changed (shelved f) (viewed f) ns e t (tg .above .leads) b at [] (found .0) (λ q k. absurd (omega arith)) refl (λ i k z u. refl)
+      (rewrite (n .bytes) content) (isNamed (n .bytes)) (tg .above .good) tt
+      (Any.rewrite-works (view b) (view b) e t at (tg .above .good) (n .bytes) (tg .found) is is (file-good .1) refl)
+      (record { bits = λ q l. refl; count = refl; fresh-in = λ q k. let r = file-owned .inside q (subst (Mem q) mine k) in (r .0, r .1) }))
 
   module _ (from : ℕ) (v : Bytes) (hf : from ≤ s₀) (space : pagesFor (max s₀ (from + length v)) - pagesFor s₀ ≤ zeroBits b (pageCount b)) where
     -- the size, the number of pages gained, and the pages gained
@@ -249,10 +210,6 @@ module _ (b : Bytes) (f : Facts b) (ns : List Name) (n : Name) (tg : Target b ns
     pub pages′ : chain (link b′) (pagesFor s) (startAt b′ at) ≡ ps ++ qs
     pages′ = ap (λ (m : ℕ). chain (link b′) m (startAt b′ at)) (sym many) ∙ write-bytes .pages
 
-    mine′ : own e b′ (entryAt b′ at) ≡ ps ++ qs
-    unfolding own pagesOf
-    mine′ = ap (own e b′) is′ ∙ pages′
-
     pub write-inside : (q : ℕ) → Mem q (ps ++ qs) → (1 ≤ q) × (q < pageCount b)
     write-inside q m = elim (mem-or-not q ps) [
       | inl h ↦ let r = file-owned .inside q h in (r .0, r .1)
@@ -262,33 +219,15 @@ module _ (b : Bytes) (f : Facts b) (ns : List Name) (n : Name) (tg : Target b ns
     zero-out : occ 0 (ps ++ qs) ≡ 0
     zero-out = not-mem 0 (ps ++ qs) (λ c. omega (arith, write-inside 0 c .0))
 
-    pub rewritten-sound : T (sound b′) × (treeOf b′ ≡ record { pages = pageCount b; root = changeAt ns (rewrite (n .bytes) (put from v content)) (rowAt (pageCount b) (view b) 0) })
-    unfolding contentOf
+    rewritten-sound : T (sound b′) × (treeOf b′ ≡ record { pages = pageCount b; root = changeAt ns (rewrite (n .bytes) (put from v content)) (rowAt (pageCount b) (view b) 0) })
     rewritten-sound =
-        let w = write-bytes in
-        changed b′ f ns e t at (ps ++ qs) (tg .above .leads) (found .0)
-        (record {
-          len = w .size;
-          head = λ i l. let z : i / 256 ≡ 0 = omega arith in
-              w .rest i (head-kept f i l) (λ u. omega (arith, file-slot .within .far)) (λ u. omega (arith, file-slot .within .far)) (ap (λ (x : ℕ). occ x (ps ++ qs)) z ∙ zero-out);
-          rest = λ i l u c. w .rest i (rest-kept f i l) (λ y. omega (arith, u (omega arith))) (λ y. omega (arith, u (omega arith))) c;
-        })
-        (λ q m. (
-          write-inside q m .0,
-          λ o. elim (mem-or-not q ps) [
-            | inl h ↦ subst (Mem q) (sym mine) h
-            | inr z ↦ let r = write-gained .new q (omega (arith, occ-append q ps qs)) in absurd (omega (arith, r .2, f .exact q (r .0) (r .1)))
-          ],
-        ))
-        (rewrite (n .bytes) (put from v content)) (isNamed (n .bytes)) (tg .above .good)
-        (works b′ (startAt b′ at) s (put from v content) is′
-        (ap (λ (l : List ℕ). take s (flatMap (contentOn (view b′)) l)) pages′ ∙ w .content)
-        (ap (λ (m : ℕ). beyond (link b′) m (startAt b′ at)) (sym many) ∙ w .ends))
-        (record {
-          bits = λ q l. omega (arith, ap (occ q) mine, ap (occ q) mine′, occ-append q ps qs, w .bits q l);
-          count = omega (arith, ap length mine, ap length mine′, length-append ps qs, w .count, write-gained .many, f .counted, space);
-          fresh-in = λ q m. write-inside q (subst (Mem q) mine′ m);
-        })
+        let far = file-slot .within .far in
+        afterwards f (write-bytes .size)
+        (λ i l. let z : i / 256 ≡ 0 = omega arith in
+        write-bytes .rest i (head-kept f i l) (λ u. omega (arith, far)) (λ u. omega (arith, far)) (ap (λ (x : ℕ). occ x (ps ++ qs)) z ∙ zero-out))
+        (Any.written-sound (shelved f) (size f .whole) (viewed f) ns e t at (n .bytes) (tg .above .leads) (tg .above .good) tt (tg .found)
+        (isLocked b at) (nameAt b at) (dateAt b at) s₀ (byte (at + 17)) is (omega arith) (omega arith) (at + 18) (le16 s) (omega arith) (omega arith)
+        (λ i l u x. omega arith) fill-up pages-rise from v hf space is′)
 
     pub rewritten-is : rewritten at from v b ≡ b′
     unfolding rewritten
@@ -314,7 +253,7 @@ written-tree {b} f ns n from v u w x q nd hf space = go (eqb (length v) 0) (eqb�
     tg : Target b ns n
     tg = target f u w
 
-    node : x ≡ nodeOf b (rowAt (tg .above .e) (view b)) (entryAt b (tg .at))
+    node : x ≡ nodeOf (view b) (rowAt (tg .above .e) (view b)) (entryAt b (tg .at))
     node = cc (q, tg .node)
 
     isFile : T (isFileEntry (entryAt b (tg .at)))

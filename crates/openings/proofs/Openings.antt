@@ -118,7 +118,7 @@ module _ (b : Bytes) (f : Facts b) where
       subst (λ (k : ℕ). linesOf false (n .bytes) (arrived (rowAt k (view b) t)) (lowestVacant b t, n .bytes) ≡ openingNamed b t n) (sym deep)
       (rw (lookup-named b (pageCount b - 1) t (n .bytes), row-full b (rowAt (pageCount b - 1) (view b)) (entries t)) (go (entryNamed (view b) t (n .bytes)) (first (vacancy b) (entries t))))
     where
-      go : (o v : Option ℕ) → (if isThere (Option·map (λ at. nodeOf b (rowAt (pageCount b - 1) (view b)) (entryAt b at)) o) then refused (refusal 8) else if isNone v then refused (refusal 9) else granted (Option·getD v 0, n .bytes))
+      go : (o v : Option ℕ) → (if isThere (Option·map (λ at. nodeOf (view b) (rowAt (pageCount b - 1) (view b)) (entryAt b at)) o) then refused (refusal 8) else if isNone v then refused (refusal 9) else granted (Option·getD v 0, n .bytes))
           ≡ unlessNamed (vacancyOr (n .bytes) v) o
       go none none = refl
       go none (some at) = refl

@@ -50,29 +50,29 @@ directory-read b at {name} {date} {start} {size} e = go (occupied b at) (isDirec
 
 abbrev pub nodeAt : Bytes → Spot → Node
 nodeAt b theRoot = directoryNode (replicate 8 0) (treeOf b .root)
-nodeAt b (theFile at begins start size) = nodeOf b (rowAt (pageCount b - 1) (view b)) (entryAt b at)
-nodeAt b (theDirectory at begins start size) = nodeOf b (rowAt (pageCount b - 1) (view b)) (entryAt b at)
+nodeAt b (theFile at begins start size) = nodeOf (view b) (rowAt (pageCount b - 1) (view b)) (entryAt b at)
+nodeAt b (theDirectory at begins start size) = nodeOf (view b) (rowAt (pageCount b - 1) (view b)) (entryAt b at)
 
 module _ (b : Bytes) (at begins start k : ℕ) where
   pub file-node : entryAt b at ≡ aFile (isLocked b at) (nameAt b at) (dateAt b at) start k → nodeAt b (theFile at begins start k) ≡ fileNode (isLocked b at) (dateAt b at) (contentOf (view b) k (chain (link b) (pagesFor k) start))
   unfolding nodeOf pagesOf
-  file-node is = ap (nodeOf b (rowAt (pageCount b - 1) (view b))) is
+  file-node is = ap (nodeOf (view b) (rowAt (pageCount b - 1) (view b))) is
 
   pub directory-node : entryAt b at ≡ aDirectory (nameAt b at) (dateAt b at) start k → nodeAt b (theDirectory at begins start k) ≡ directoryNode (dateAt b at) (rowAt (pageCount b - 1) (view b) start)
   unfolding nodeOf
-  directory-node is = ap (nodeOf b (rowAt (pageCount b - 1) (view b))) is
+  directory-node is = ap (nodeOf (view b) (rowAt (pageCount b - 1) (view b))) is
 
 module _ (b : Bytes) (f : Facts b) where
   deep : pageCount b ≡ suc (pageCount b - 1)
   deep = omega (arith, valid-sized b (f .fits) .low)
 
   spot-node : (n : Name) (p : ℕ) (o : Option ℕ) → entryNamed (view b) p (n .bytes) ≡ o
-      → nodeNamed n (Option·map (λ at. nodeOf b (rowAt (pageCount b - 1) (view b)) (entryAt b at)) o) ≡ mapWalked (nodeAt b) (spotNamed b n o)
+      → nodeNamed n (Option·map (λ at. nodeOf (view b) (rowAt (pageCount b - 1) (view b)) (entryAt b at)) o) ≡ mapWalked (nodeAt b) (spotNamed b n o)
   unfolding nodeNamed mapWalked spotNamed spotAt isNamed
   spot-node n p none e = refl
   spot-node n p (some at) e = go (entryAt b at) refl (named-found b p (n .bytes) at e .1)
     where
-      go : (x : Entry) → entryAt b at ≡ x → T (isNamed (n .bytes) x) → arrived (nodeOf b (rowAt (pageCount b - 1) (view b)) (entryAt b at)) ≡ mapWalked (nodeAt b) (spotAt n at x)
+      go : (x : Entry) → entryAt b at ≡ x → T (isNamed (n .bytes) x) → arrived (nodeOf (view b) (rowAt (pageCount b - 1) (view b)) (entryAt b at)) ≡ mapWalked (nodeAt b) (spotAt n at x)
       go vacant q h = absurd h
       go (aFile locked name date start size) q h = refl
       go (aDirectory name date start size) q h = refl

@@ -75,7 +75,7 @@ module _ (b : Bytes) (f : Facts b) (ns : List Name) (n : Name) (date v : Bytes) 
 
   empty-node : walkTo (below ns n) (treeOf b₁ .root) ≡ arrived (fileNode false date [])
   unfolding treeOf nodeOf contentOf
-  empty-node = tg .node ∙ ap (λ (x : Entry). arrived (nodeOf b₁ (rowAt (above₁ .0 .e) (view b₁)) x)) is₁
+  empty-node = tg .node ∙ ap (λ (x : Entry). arrived (nodeOf (view b₁) (rowAt (above₁ .0 .e) (view b₁)) x)) is₁
 
   enough : pagesFor (length v) ≤ freeNumber (treeOf b₁) + pagesFor 0
   enough = omega (arith, free-number f₁, f₁ .counted, zeros₁, c .space)
