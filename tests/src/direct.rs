@@ -1,5 +1,12 @@
 //! The calls on the image bytes directly: judge, walk, do. No tree and no
 //! allocation; this is what the benchmark measures the library by.
+//!
+//! [`behind`] has the same calls as functions that C could call, which is how
+//! the benchmark calls them; `links` and `tidy` are there for it alone.
+
+pub mod behind;
+mod links;
+mod tidy;
 
 use crate::calls::{
     Answer, Audit, Calls, Kind, Refusal, DATE_BYTES, DIRECTORY_SIZE, NAME_BYTES, OWNERS,
@@ -410,24 +417,42 @@ fn lengthen(image: &mut [u8], at: usize, old_pages: usize, added: usize) {
 
 // Doing
 
-fn find(image: &[u8], path: &[u8]) -> Result<Answer, Refusal> {
+fn format(image: &mut [u8]) -> Result<(), Refusal> {
+    let pages = pages_of(image.len())?;
+    image[..PAGE].fill(0);
+    image[..5].copy_from_slice(&[0x5A, 1, (pages / 8) as u8, (pages - 1) as u8, 1]);
+    Ok(())
+}
+
+/// What find and list tell of an entry.
+#[derive(Clone, Copy)]
+struct Told {
+    kind: Kind,
+    size: u64,
+    locked: bool,
+    date: [u8; DATE_BYTES],
+}
+
+fn told(entry: &[u8]) -> Told {
+    Told {
+        kind: kind_of(entry),
+        size: size_of(entry) as u64,
+        locked: is_locked(entry[0]),
+        date: date_of(entry),
+    }
+}
+
+fn find(image: &[u8], path: &[u8]) -> Result<Told, Refusal> {
     judge(image)?;
     let Some(at) = walk_to_entry(image, Path::check(path)?)? else {
-        let no_date = [0; DATE_BYTES];
-        return Ok(Answer::found(
-            Kind::Directory,
-            DIRECTORY_SIZE,
-            false,
-            no_date,
-        ));
+        return Ok(Told {
+            kind: Kind::Directory,
+            size: DIRECTORY_SIZE,
+            locked: false,
+            date: [0; DATE_BYTES],
+        });
     };
-    let entry = &image[at..at + ENTRY];
-    Ok(Answer::found(
-        kind_of(entry),
-        size_of(entry) as u64,
-        is_locked(entry[0]),
-        date_of(entry),
-    ))
+    Ok(told(&image[at..at + ENTRY]))
 }
 
 /// Whether the flags are those of a locked file.
@@ -446,7 +471,8 @@ fn date_of(entry: &[u8]) -> [u8; DATE_BYTES] {
     entry[DATE..DATE + DATE_BYTES].try_into().expect("8 bytes")
 }
 
-fn list(image: &[u8], path: &[u8], number: u64) -> Result<Answer, Refusal> {
+/// None for an empty entry.
+fn list(image: &[u8], path: &[u8], number: u64) -> Result<Option<(Padded, Told)>, Refusal> {
     judge(image)?;
     let entries = walk(image, Path::check(path)?)?;
     if number >= ((entries.to - entries.from) / ENTRY) as u64 {
@@ -455,18 +481,14 @@ fn list(image: &[u8], path: &[u8], number: u64) -> Result<Answer, Refusal> {
     let at = entries.from + number as usize * ENTRY;
     let entry = &image[at..at + ENTRY];
     if entry[0] & OCCUPIED == 0 {
-        return Ok(Answer::empty_entry());
+        return Ok(None);
     }
-    Ok(Answer::occupied(
-        kind_of(entry),
-        entry[1..=NAME_BYTES].try_into().expect("16 bytes"),
-        size_of(entry) as u64,
-        is_locked(entry[0]),
-        date_of(entry),
-    ))
+    let name = entry[1..=NAME_BYTES].try_into().expect("16 bytes");
+    Ok(Some((name, told(entry))))
 }
 
-fn read(image: &[u8], path: &[u8], position: u64, buffer: &mut [u8]) -> Result<Answer, Refusal> {
+/// How many bytes were copied.
+fn read(image: &[u8], path: &[u8], position: u64, buffer: &mut [u8]) -> Result<u64, Refusal> {
     judge(image)?;
     let (at, size) = walk_to_file(image, Path::check(path)?)?;
     if position > size as u64 {
@@ -475,7 +497,7 @@ fn read(image: &[u8], path: &[u8], position: u64, buffer: &mut [u8]) -> Result<A
     let position = position as usize;
     let count = buffer.len().min(size - position);
     if count == 0 {
-        return Ok(Answer::count(0));
+        return Ok(0);
     }
     let mut page = page_at(image, image[at + START], position);
     let mut within = position % CONTENT;
@@ -489,10 +511,10 @@ fn read(image: &[u8], path: &[u8], position: u64, buffer: &mut [u8]) -> Result<A
         within = 0;
         rest = later;
     }
-    Ok(Answer::count(count as u64))
+    Ok(count as u64)
 }
 
-fn make(image: &mut [u8], path: &[u8], date: &[u8], kind: Kind) -> Result<Answer, Refusal> {
+fn make(image: &mut [u8], path: &[u8], date: &[u8], kind: Kind) -> Result<(), Refusal> {
     let sound = judge(image)?;
     let path = Path::check(path)?;
     check_date(date)?;
@@ -519,10 +541,10 @@ fn make(image: &mut [u8], path: &[u8], date: &[u8], kind: Kind) -> Result<Answer
     entry[1..=NAME_BYTES].copy_from_slice(&name);
     entry[DATE..DATE + DATE_BYTES].copy_from_slice(date);
     image[at..at + ENTRY].copy_from_slice(&entry);
-    Ok(Answer::granted())
+    Ok(())
 }
 
-fn write(image: &mut [u8], path: &[u8], position: u64, bytes: &[u8]) -> Result<Answer, Refusal> {
+fn write(image: &mut [u8], path: &[u8], position: u64, bytes: &[u8]) -> Result<(), Refusal> {
     let sound = judge(image)?;
     let (at, size) = walk_to_file(image, Path::check(path)?)?;
     if is_locked(image[at]) {
@@ -539,12 +561,12 @@ fn write(image: &mut [u8], path: &[u8], position: u64, bytes: &[u8]) -> Result<A
         return refuse(10);
     }
     if bytes.is_empty() {
-        return Ok(Answer::granted());
+        return Ok(());
     }
     lengthen(image, at, old_pages, added);
     image[at + SIZE..at + SIZE + 2].copy_from_slice(&(new_size as u16).to_le_bytes());
     fill(image, image[at + START], position, bytes);
-    Ok(Answer::granted())
+    Ok(())
 }
 
 /// Puts bytes into the content of a chain that is long enough.
@@ -567,7 +589,7 @@ fn entry_to_remove(image: &[u8], path: Path) -> Result<usize, Refusal> {
     walk_to_entry(image, path)?.ok_or(Refusal::number(14))
 }
 
-fn remove_file(image: &mut [u8], path: &[u8]) -> Result<Answer, Refusal> {
+fn remove_file(image: &mut [u8], path: &[u8]) -> Result<(), Refusal> {
     judge(image)?;
     let at = entry_to_remove(image, Path::check(path)?)?;
     if image[at] & DIRECTORY != 0 {
@@ -582,10 +604,10 @@ fn remove_file(image: &mut [u8], path: &[u8]) -> Result<Answer, Refusal> {
         page = usize::from(image[page * PAGE]);
     }
     image[at] = 0;
-    Ok(Answer::granted())
+    Ok(())
 }
 
-fn remove_directory(image: &mut [u8], path: &[u8]) -> Result<Answer, Refusal> {
+fn remove_directory(image: &mut [u8], path: &[u8]) -> Result<(), Refusal> {
     judge(image)?;
     let path = Path::check(path)?;
     let at = entry_to_remove(image, path)?;
@@ -600,17 +622,17 @@ fn remove_directory(image: &mut [u8], path: &[u8]) -> Result<Answer, Refusal> {
     }
     release(image, page);
     image[at] = 0;
-    Ok(Answer::granted())
+    Ok(())
 }
 
-fn set_lock(image: &mut [u8], path: &[u8], locked: bool) -> Result<Answer, Refusal> {
+fn set_lock(image: &mut [u8], path: &[u8], locked: bool) -> Result<(), Refusal> {
     judge(image)?;
     let (at, _) = walk_to_file(image, Path::check(path)?)?;
     match locked {
         true => image[at] |= LOCKED,
         false => image[at] &= !LOCKED,
     }
-    Ok(Answer::granted())
+    Ok(())
 }
 
 /// The lowest free pages of an image, in order.
@@ -618,7 +640,7 @@ fn free_pages(image: &[u8], pages: usize) -> impl Iterator<Item = usize> + '_ {
     (0..pages).filter(|&page| image[BITMAP_AT + page / 8] >> (page % 8) & 1 == 0)
 }
 
-/// One store, worked out with no copy of the image.
+/// One store, worked out with no copy of the image; answers its page.
 fn store(
     image: &[u8],
     path: &[u8],
@@ -626,7 +648,7 @@ fn store(
     content: &[u8],
     number: u64,
     buffer: &mut [u8],
-) -> Result<Answer, Refusal> {
+) -> Result<u64, Refusal> {
     if buffer.len() != PAGE {
         return refuse(29);
     }
@@ -663,7 +685,7 @@ fn store(
         let here = &rest[..rest.len().min(CONTENT)];
         buffer[1..=here.len()].copy_from_slice(here);
         buffer[1 + here.len()..].fill(0);
-        return Ok(Answer::page(page as u64));
+        return Ok(page as u64);
     }
     let page = if number == wanted { 0 } else { parent };
     buffer.copy_from_slice(&image[page * PAGE..(page + 1) * PAGE]);
@@ -682,12 +704,12 @@ fn store(
         }
         buffer[3] -= wanted as u8;
     }
-    Ok(Answer::page(page as u64))
+    Ok(page as u64)
 }
 
 /// After a clean walk the owned pages are marked already, so that bits of lost
 /// pages are cleared and no other but the header's is set.
-fn repair(image: &mut [u8]) -> Result<Answer, Refusal> {
+fn repair(image: &mut [u8]) -> Result<(), Refusal> {
     let pages = judge_header(image)?;
     let lost = lost_pages(image, pages)?;
     let bitmap = &mut image[BITMAP_AT..BITMAP_AT + pages / 8];
@@ -697,7 +719,7 @@ fn repair(image: &mut [u8]) -> Result<Answer, Refusal> {
     bitmap[0] |= 1;
     let free: u32 = bitmap.iter().map(|byte| byte.count_zeros()).sum();
     image[3] = free as u8;
-    Ok(Answer::granted())
+    Ok(())
 }
 
 // The second judge
@@ -804,14 +826,14 @@ fn audit(image: &[u8]) -> Audit {
     }
 }
 
+/// The answer of a call that has nothing to tell.
+fn done(result: Result<(), Refusal>) -> Answer {
+    result.map(|()| Answer::granted()).into()
+}
+
 impl Calls for Direct {
     fn format(&self, image: &mut [u8]) -> Answer {
-        let granted = pages_of(image.len()).map(|pages| {
-            image[..PAGE].fill(0);
-            image[..5].copy_from_slice(&[0x5A, 1, (pages / 8) as u8, (pages - 1) as u8, 1]);
-            Answer::granted()
-        });
-        granted.into()
+        done(format(image))
     }
 
     fn verdict(&self, image: &[u8]) -> Answer {
@@ -822,43 +844,54 @@ impl Calls for Direct {
     }
 
     fn find(&self, image: &[u8], path: &[u8]) -> Answer {
-        find(image, path).into()
+        find(image, path)
+            .map(|told| Answer::found(told.kind, told.size, told.locked, told.date))
+            .into()
     }
 
     fn list(&self, image: &[u8], path: &[u8], entry: u64) -> Answer {
-        list(image, path, entry).into()
+        list(image, path, entry)
+            .map(|listed| match listed {
+                Some((name, told)) => {
+                    Answer::occupied(told.kind, name, told.size, told.locked, told.date)
+                }
+                None => Answer::empty_entry(),
+            })
+            .into()
     }
 
     fn read(&self, image: &[u8], path: &[u8], position: u64, buffer: &mut [u8]) -> Answer {
-        read(image, path, position, buffer).into()
+        read(image, path, position, buffer)
+            .map(Answer::count)
+            .into()
     }
 
     fn make_file(&self, image: &mut [u8], path: &[u8], date: &[u8]) -> Answer {
-        make(image, path, date, Kind::File).into()
+        done(make(image, path, date, Kind::File))
     }
 
     fn make_directory(&self, image: &mut [u8], path: &[u8], date: &[u8]) -> Answer {
-        make(image, path, date, Kind::Directory).into()
+        done(make(image, path, date, Kind::Directory))
     }
 
     fn write(&self, image: &mut [u8], path: &[u8], position: u64, bytes: &[u8]) -> Answer {
-        write(image, path, position, bytes).into()
+        done(write(image, path, position, bytes))
     }
 
     fn remove_file(&self, image: &mut [u8], path: &[u8]) -> Answer {
-        remove_file(image, path).into()
+        done(remove_file(image, path))
     }
 
     fn remove_directory(&self, image: &mut [u8], path: &[u8]) -> Answer {
-        remove_directory(image, path).into()
+        done(remove_directory(image, path))
     }
 
     fn lock(&self, image: &mut [u8], path: &[u8]) -> Answer {
-        set_lock(image, path, true).into()
+        done(set_lock(image, path, true))
     }
 
     fn unlock(&self, image: &mut [u8], path: &[u8]) -> Answer {
-        set_lock(image, path, false).into()
+        done(set_lock(image, path, false))
     }
 
     fn store(
@@ -870,11 +903,13 @@ impl Calls for Direct {
         number: u64,
         page: &mut [u8],
     ) -> Answer {
-        store(image, path, date, content, number, page).into()
+        store(image, path, date, content, number, page)
+            .map(Answer::page)
+            .into()
     }
 
     fn repair(&self, image: &mut [u8]) -> Answer {
-        repair(image).into()
+        done(repair(image))
     }
 
     fn audit(&self, image: &[u8]) -> Audit {

@@ -6,12 +6,14 @@
 //! * [`direct`] works on the image bytes without a tree, as one would write it
 //!   for speed; the benchmark compares the library with it.
 //! * [`above`] is the link list over the base's calls, whosever they are.
-//! * `c` (feature `library`) is the boundary to the C library.
+//! * `c` (feature `library`) is the C library behind [`boundary`], which is C's;
+//!   the benchmark has `direct` behind the same.
 //! * [`harness`] runs a list of calls on two implementations and shrinks a
 //!   list that shows a difference.
 
 pub mod above;
 pub mod assemble;
+pub mod boundary;
 #[cfg(feature = "library")]
 pub mod c;
 pub mod calls;

@@ -1,5 +1,6 @@
 //! The implementations under test.
 
+use crate::boundary::Plainly;
 use crate::calls::Calls;
 use crate::direct::Direct;
 use crate::plain::Plain;
@@ -34,9 +35,19 @@ pub fn library() -> Option<Subject> {
     None
 }
 
+/// What the benchmark measures the library by: the one on bytes, called as the
+/// library is.
+pub fn behind() -> Subject {
+    Subject {
+        name: "direct",
+        calls: Box::new(Plainly),
+    }
+}
+
 /// All implementations, for cases whose answers the paper states.
 pub fn all() -> Vec<Subject> {
     let mut subjects = compared();
+    subjects.push(behind());
     subjects.push(Subject {
         name: "plain",
         calls: Box::new(Plain),

@@ -1,10 +1,12 @@
 //! What the benchmarks perform: images and the calls on them, all granted.
 
 use crate::assemble::{assemble, nest, Order};
-use crate::calls::Call;
+use crate::calls::{Call, Calls};
 use crate::desk::{pattern, Desk, DATE};
 use crate::direct::Direct;
 use crate::random::Random;
+use crate::rows::{most_rows, numbers_of};
+use std::hint::black_box;
 
 /// Lengths of the images.
 pub const LENGTHS: [usize; 4] = [2048, 8192, 32_768, 65_536];
@@ -14,11 +16,34 @@ pub fn longest(length: usize) -> usize {
     (length / 256 - 1) * 255
 }
 
+/// What is performed: a call of the lists, or one that stands outside them.
+#[derive(Clone, Debug, PartialEq, Eq)]
+pub enum Work {
+    Call(Call),
+    Audit,
+    /// The row that is filled.
+    Propose(Vec<u8>),
+    /// The proposal, and the second buffer.
+    Tidy(Vec<u8>, Vec<u8>),
+}
+
+impl Work {
+    /// Performs it; answers whether it was granted.
+    pub fn perform(&mut self, calls: &dyn Calls, image: &mut [u8]) -> bool {
+        match self {
+            Work::Call(call) => black_box(call.perform(calls, image)).is_granted(),
+            Work::Audit => black_box(calls.audit(image)).sound == 1,
+            Work::Propose(places) => black_box(calls.propose(image, places)).is_granted(),
+            Work::Tidy(places, target) => black_box(calls.tidy(image, places, target)).is_granted(),
+        }
+    }
+}
+
 /// One call on one image.
 pub struct Case {
     pub what: String,
     pub image: Vec<u8>,
-    pub call: Call,
+    pub work: Work,
 }
 
 /// Each of the calls on images of all lengths that are near empty, half
@@ -31,11 +56,107 @@ pub fn calls() -> Vec<Case> {
                 let size = length / 1024;
                 let what = format!("{size} KiB, {}, {}", workload.name, call.name());
                 let image = workload.image.clone();
-                cases.push(Case { what, image, call });
+                let work = Work::Call(call);
+                cases.push(Case { what, image, work });
             }
         }
     }
     cases
+}
+
+/// The calls of document 02 §7, §8, §11 and §13 on the same images. A repair has
+/// a lost page to win back, a store is one of a new file of two pages, and what is
+/// carried out is the helper's own proposal.
+pub fn beside() -> Vec<Case> {
+    let mut cases = Vec::new();
+    for length in LENGTHS {
+        for workload in workloads(length) {
+            for (name, image, work) in one_of_each_beside(&workload) {
+                let what = format!("{} KiB, {}, {name}", length / 1024, workload.name);
+                cases.push(Case { what, image, work });
+            }
+        }
+    }
+    cases
+}
+
+fn one_of_each_beside(workload: &Workload) -> Vec<(&'static str, Vec<u8>, Work)> {
+    let image = &workload.image;
+    let pages = image.len() / 256;
+    let mut lost = image.clone();
+    let is_free = |page: &usize| image[4 + page / 8] >> (page % 8) & 1 == 0;
+    let free = (0..pages).find(is_free).expect("two pages are free");
+    lost[4 + free / 8] |= 1 << (free % 8);
+    let path = format!("{}/N", workload.directory).into_bytes();
+    let store = |number| {
+        let page = vec![0; 256];
+        Work::Call(Call::Store(
+            path.clone(),
+            DATE.to_vec(),
+            pattern(256),
+            number,
+            page,
+        ))
+    };
+    let mut places = vec![0; pages];
+    assert!(Direct.propose(image, &mut places).is_granted());
+    let target = vec![0; image.len()];
+    vec![
+        ("repair", lost, Work::Call(Call::Repair)),
+        ("audit", image.clone(), Work::Audit),
+        ("store a page", image.clone(), store(0)),
+        ("store the header", image.clone(), store(2)),
+        ("propose", image.clone(), Work::Propose(vec![0; pages])),
+        ("tidy", image.clone(), Work::Tidy(places, target)),
+    ]
+}
+
+/// The calls of the link list (document 02 §4), on 64 KiB: of a full directory,
+/// whose other files are the seven of the list, and of the longest list there is.
+pub fn link_lists() -> Vec<Case> {
+    let mut desk = Desk::fresh(&Direct, 65_536);
+    assert_eq!(desk.make_directory("/D"), 0);
+    let short: Vec<u64> = (1..8).flat_map(|digit| [1, digit, digit]).collect();
+    for digit in 1..8 {
+        assert_eq!(desk.make_file(&format!("/D/{digit}")), 0);
+    }
+    let mut cases = list_cases(&mut desk, "/D", &short);
+    let check = Work::Call(Call::LinksCheck(b"/D".to_vec()));
+    cases.push(Case {
+        what: "7 rows, links_check".into(),
+        image: desk.image,
+        work: check,
+    });
+    let long = numbers_of(&most_rows(longest(65_536)));
+    let mut desk = Desk::fresh(&Direct, 65_536);
+    cases.extend(list_cases(&mut desk, "/", &long));
+    cases
+}
+
+/// The list written, and then read, searched for its last row, and written over.
+fn list_cases(desk: &mut Desk, directory: &str, numbers: &[u64]) -> Vec<Case> {
+    let path = directory.as_bytes().to_vec();
+    let rows = numbers.len() / 3;
+    let empty = desk.image.clone();
+    let answer = desk
+        .calls
+        .links_write(&mut desk.image, &path, &DATE, numbers);
+    assert!(answer.is_granted());
+    let last = &numbers[3 * (rows - 1)..];
+    let write = Call::LinksWrite(path.clone(), DATE.to_vec(), numbers.to_vec());
+    let read = Call::LinksRead(path.clone(), vec![0; numbers.len()]);
+    let find = Call::LinksFind(path, last[0], last[1]);
+    let case = |name: &str, image: &[u8], call: Call| Case {
+        what: format!("{rows} rows, {name}"),
+        image: image.to_vec(),
+        work: Work::Call(call),
+    };
+    vec![
+        case("links_write", &empty, write.clone()),
+        case("links_write over", &desk.image, write),
+        case("links_read", &desk.image, read),
+        case("links_find the last", &desk.image, find),
+    ]
 }
 
 /// The longest file of an image of this length read, written into an empty
@@ -51,7 +172,7 @@ pub fn transfers(length: usize) -> Vec<Case> {
     let case = |what: &str, image: &[u8], call: &Call| Case {
         what: format!("{} bytes, {what}", longest(length)),
         image: image.to_vec(),
-        call: call.clone(),
+        work: Work::Call(call.clone()),
     };
     vec![
         case("read", &written, &read),
@@ -74,7 +195,8 @@ pub fn single_bytes() -> Vec<Case> {
         for call in [read, write] {
             let what = format!("{} bytes, {} the {which}", longest(length), call.name());
             let image = image.clone();
-            cases.push(Case { what, image, call });
+            let work = Work::Call(call);
+            cases.push(Case { what, image, work });
         }
     }
     cases

@@ -30,17 +30,6 @@ pub fn page_at(image: &[u8], shape: Shape, start: Page, index: usize) -> Page
     page
 }
 
-// What is left of a place in the content behind one page: 0 if it is on that page.
-fn behind_page(shape: Shape, place: usize) -> usize
-    ensures { λ r. ⌜ r ≡ place - shape .room ⌝ }
-{
-    let room = shape.room;
-    if place <= room {
-        return 0;
-    }
-    place - room
-}
-
 // Of the bytes wanted `done` are in the buffer. Copies those that this page has from a place of its content on, and answers how many are there then.
 // A place behind the page, and a buffer that has them all, make it none.
 fn read_page(
@@ -77,18 +66,24 @@ pub fn read_chain(
     buffer: &mut [u8],
     count: usize,
 )
-    requires { ⌜ (shape .room ≤ shape .size) × Inside (geometryOf shape) (now image) k (start .0) × (count ≤ length (now buffer)) ⌝ }
+    requires { ⌜ (0 < shape .room) × (shape .room ≤ shape .size) × Inside (geometryOf shape) (now image) k (start .0) × (count ≤ length (now buffer)) ⌝ }
     ensures { λ _. ⌜ now (buffer .exit) ≡ put 0 (take count (drop (position .0) (flatMap (On.contentOn (geometryOf shape) (now (image .entry))) (chain (On.next (geometryOf shape) (now (image .entry))) k (start .0))))) (now (buffer .entry)) ⌝ }
 {
-    let mut page = start;
-    let mut place = position.0;
-    let mut done = 0;
-    for _ in 0..k {
-        if done == count {
+    let room = shape.room;
+    let passed = position.0 / room;
+    if k <= passed {
+        return;
+    }
+    let first = page_at(image, shape, start, passed);
+    let mut done = read_page(image, shape, first, position.0 % room, buffer, 0, count);
+    let mut page = shape::link(image, shape, first);
+    for _ in passed + 1..k {
+        // The last, so that of all others the whole content is known to be wanted.
+        if count - done < room {
+            read_page(image, shape, page, 0, buffer, done, count);
             return;
         }
-        done = read_page(image, shape, page, place, buffer, done, count);
-        place = behind_page(shape, place);
+        done = read_page(image, shape, page, 0, buffer, done, count);
         page = shape::link(image, shape, page);
     }
 }
@@ -125,18 +120,24 @@ pub fn write_chain(
     position: Position,
     bytes: &[u8],
 )
-    requires { ⌜ Writable (geometryOf shape) (now image) k (start .0) ⌝ }
+    requires { ⌜ (0 < shape .room) × Writable (geometryOf shape) (now image) k (start .0) ⌝ }
     ensures { λ _. ⌜ now (image .exit) ≡ spread (On.content (geometryOf shape)) (shape .room) (chain (On.next (geometryOf shape) (now (image .entry))) k (start .0)) (position .0) (now (bytes .entry)) (now (image .entry)) ⌝ }
 {
-    let mut page = start;
-    let mut place = position.0;
-    let mut done = 0;
-    for _ in 0..k {
-        if done == bytes.len() {
+    let room = shape.room;
+    let passed = position.0 / room;
+    if k <= passed {
+        return;
+    }
+    let first = page_at(image, shape, start, passed);
+    let mut done = write_page(image, shape, first, position.0 % room, bytes, 0);
+    let mut page = shape::link(image, shape, first);
+    for _ in passed + 1..k {
+        // The last, so that all others are known to be filled.
+        if bytes.len() - done < room {
+            write_page(image, shape, page, 0, bytes, done);
             return;
         }
-        done = write_page(image, shape, page, place, bytes, done);
-        place = behind_page(shape, place);
+        done = write_page(image, shape, page, 0, bytes, done);
         page = shape::link(image, shape, page);
     }
 }

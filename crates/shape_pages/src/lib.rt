@@ -32,12 +32,42 @@ pub fn zero_page(image: &mut [u8], shape: Shape, page: Page)
     zero(&mut image[first..end]);
 }
 
-// Copies a source of 255 bytes, the content of a page of version 1: the count is known, so the copy is made of few wide steps.
-fn copy_content(part: &mut [u8], offset: usize, source: &[u8])
+// ---- copies: between two slices the back end must fear an overlap. An array of our own overlaps with nothing, so 255 bytes that go through one are
+// moved at once, and the array is gone. 255 is the content of a page of version 1.
+
+fn held(source: &[u8]) -> [u8; 255]
+    requires { ⌜ length (now source) ≡ 255 ⌝ }
+    ensures { λ r. ⌜ r ≡ now (source .entry) ⌝ }
+{
+    let mut piece = [0u8; 255];
+    for i in 0..255 {
+        piece[i] = source[i];
+    }
+    piece
+}
+
+fn put_piece(part: &mut [u8], offset: usize, piece: &[u8])
+    requires { ⌜ (offset + length (now piece) ≤ length (now part)) × (length (now piece) ≡ 255) ⌝ }
+    ensures { λ _. ⌜ now (part .exit) ≡ put offset (now (piece .entry)) (now (part .entry)) ⌝ }
+{
+    for k in 0..255 {
+        part[offset + k] = piece[k];
+    }
+}
+
+fn copy_piece(part: &mut [u8], offset: usize, source: &[u8])
     requires { ⌜ (offset + length (now source) ≤ length (now part)) × (length (now source) ≡ 255) ⌝ }
     ensures { λ _. ⌜ now (part .exit) ≡ put offset (now (source .entry)) (now (part .entry)) ⌝ }
 {
-    for i in 0..255 {
+    let piece = held(source);
+    put_piece(part, offset, &piece);
+}
+
+fn copy_bytes(part: &mut [u8], offset: usize, source: &[u8])
+    requires { ⌜ offset + length (now source) ≤ length (now part) ⌝ }
+    ensures { λ _. ⌜ now (part .exit) ≡ put offset (now (source .entry)) (now (part .entry)) ⌝ }
+{
+    for i in 0..source.len() {
         part[offset + i] = source[i];
     }
 }
@@ -47,13 +77,14 @@ pub fn copy_in(part: &mut [u8], offset: usize, source: &[u8])
     requires { ⌜ offset + length (now source) ≤ length (now part) ⌝ }
     ensures { λ _. ⌜ now (part .exit) ≡ put offset (now (source .entry)) (now (part .entry)) ⌝ }
 {
-    if source.len() == 255 {
-        copy_content(part, offset, source);
-        return;
+    let end = source.len();
+    let mut done = 0;
+    while 255 <= end - done {
+        let next = done + 255;
+        copy_piece(part, offset + done, &source[done..next]);
+        done = next;
     }
-    for i in 0..source.len() {
-        part[offset + i] = source[i];
-    }
+    copy_bytes(part, offset + done, &source[done..end]);
 }
 
 // The same for a routine that fills: the offset counts from the page's first byte.

@@ -6,10 +6,9 @@
 use std::hint::black_box;
 use std::time::Instant;
 use zealfs_tests::calls::Call;
-use zealfs_tests::direct::Direct;
 use zealfs_tests::plain::Plain;
-use zealfs_tests::subjects::{library, Subject};
-use zealfs_tests::workloads::{calls, transfers, Case};
+use zealfs_tests::subjects::{behind, library, Subject};
+use zealfs_tests::workloads::{beside, calls, link_lists, transfers, Case, Work as Task};
 
 /// Runs of which the least time is told.
 const RUNS: usize = 400;
@@ -19,39 +18,32 @@ const CALLS: usize = 4;
 /// What is measured: the one on bytes, the one with the tree, and the library
 /// when it is on.
 fn contestants() -> Vec<Subject> {
-    let direct = Subject {
-        name: "direct",
-        calls: Box::new(Direct),
-    };
     let tree = Subject {
         name: "tree",
         calls: Box::new(Plain),
     };
-    [direct, tree].into_iter().chain(library()).collect()
+    [behind(), tree].into_iter().chain(library()).collect()
 }
 
 /// What is done to each copy of the image while the clock runs.
 type Work<'a> = Box<dyn FnMut(&mut [u8]) + 'a>;
 
-fn performing<'a>(contestant: &'a Subject, call: &Call) -> Work<'a> {
-    let mut call = call.clone();
-    Box::new(move |image| {
-        let answer = call.perform(contestant.calls.as_ref(), image);
-        assert!(black_box(answer).is_granted());
-    })
+fn performing<'a>(contestant: &'a Subject, task: &Task) -> Work<'a> {
+    let mut task = task.clone();
+    Box::new(move |image| assert!(task.perform(contestant.calls.as_ref(), image)))
 }
 
 /// A copy with the memory pattern of a long read or write: the content of each
 /// page between the image and one buffer, and nothing else.
-fn copying(call: &Call) -> Work<'static> {
-    match call.clone() {
-        Call::Read(_, _, mut buffer) => Box::new(move |image| {
+fn copying(task: &Task) -> Work<'static> {
+    match task.clone() {
+        Task::Call(Call::Read(_, _, mut buffer)) => Box::new(move |image| {
             for (part, page) in buffer.chunks_mut(255).zip(image[256..].chunks(256)) {
                 part.copy_from_slice(&page[1..]);
             }
             black_box(&mut buffer);
         }),
-        Call::Write(_, _, bytes) => Box::new(move |image| {
+        Task::Call(Call::Write(_, _, bytes)) => Box::new(move |image| {
             for (part, page) in bytes.chunks(255).zip(image[256..].chunks_mut(256)) {
                 page[1..].copy_from_slice(part);
             }
@@ -114,11 +106,11 @@ fn print_head(contestants: &[Subject]) {
     println!("  (ratio to direct)");
 }
 
-/// All calls on all images; answers the ratios of the last contestant.
-fn bench_calls(contestants: &[Subject]) -> Vec<f64> {
+/// All these cases; answers the ratios of the last contestant.
+fn bench_cases(contestants: &[Subject], cases: Vec<Case>) -> Vec<f64> {
     let mut ratios = Vec::new();
-    for Case { what, image, call } in calls() {
-        let works = contestants.iter().map(|one| performing(one, &call));
+    for Case { what, image, work } in cases {
+        let works = contestants.iter().map(|one| performing(one, &work));
         let times = measure(&mut works.collect::<Vec<_>>(), &image);
         print_line(&what, &times);
         ratios.push(times[times.len() - 1] / times[0]);
@@ -130,9 +122,9 @@ fn bench_calls(contestants: &[Subject]) -> Vec<f64> {
 /// and to the same places.
 fn bench_transfers(contestants: &[Subject]) {
     println!();
-    for Case { what, image, call } in transfers(65_536) {
-        let works = contestants.iter().map(|one| performing(one, &call));
-        let mut works: Vec<Work> = works.chain([copying(&call)]).collect();
+    for Case { what, image, work } in transfers(65_536) {
+        let works = contestants.iter().map(|one| performing(one, &work));
+        let mut works: Vec<Work> = works.chain([copying(&work)]).collect();
         let mut times = measure(&mut works, &image);
         let copy = times.pop().expect("the copy comes last");
         print_line(&what, &times);
@@ -143,16 +135,23 @@ fn bench_transfers(contestants: &[Subject]) {
     }
 }
 
-fn main() {
-    let contestants = contestants();
-    print_head(&contestants);
-    let ratios = bench_calls(&contestants);
+/// The geometric mean and the worst of the ratios.
+fn print_ratios(contestants: &[Subject], ratios: &[f64]) {
     let last = contestants[contestants.len() - 1].name;
     let worst = ratios.iter().copied().fold(0.0, f64::max);
     let mean = ratios.iter().map(|ratio| ratio.ln()).sum::<f64>() / ratios.len() as f64;
     println!(
-        "\n{last} to direct: geometric mean {:.2}, worst {worst:.2}",
+        "\n{last} to direct: geometric mean {:.2}, worst {worst:.2}\n",
         mean.exp()
     );
+}
+
+fn main() {
+    let contestants = contestants();
+    print_head(&contestants);
+    for cases in [calls(), beside(), link_lists()] {
+        let ratios = bench_cases(&contestants, cases);
+        print_ratios(&contestants, &ratios);
+    }
     bench_transfers(&contestants);
 }

@@ -1,25 +1,29 @@
--- `copy_in` hands the content of a whole page on; of any other source it stores one byte a turn, and so pastes a byte more.
-use Rattle.fields.proofs.Plain.{_≡_, refl, _-_, _≤_, arith, needs, length, length-set}
-use lib.Seq.{paste, paste-zero}
-use Rattle.volume.proofs.Fills.{paste-turn, paste-all}
+-- `copy_in` puts a piece of 255 bytes a turn, and the rest behind the last.
+use Rattle.fields.proofs.Plain.{_≡_, refl, _+_, _-_, _≤_, arith, needs, length}
+use lib.ListN.{take}
+use Rattle.volume.specs.Bytes.{put}
+use Rattle.shape_pages.proofs.Pieces.{put-none, put-next, put-last}
 use Rattle.shape_pages.proofs.copy_in.{Statement.statement, Tie.close, Tie.spec}
 
 pub copy-in-spec : {M : Type 1} → statement M
 copy-in-spec = close (spec
-    (λ part₀ offset source i₀ i-end part i. (i ≤ length source) × (i-end ≡ length source) × (length part ≡ length part₀) × (part ≡ paste part₀ offset source i))
-    (λ part₀ offset source i₀ i-end part i. i-end - i)
-    (λ c κs. (omega arith, omega arith))
+    (λ part₀ offset source end done₀ part done. (done ≤ length source) × (end ≡ length source) × (length part ≡ length part₀) × (part ≡ put offset (take done source) part₀))
+    (λ part₀ offset source end done₀ part done. end - done)
+    (λ c. (omega arith, refl, refl, put-none (c .before .before .args .offset) (c .before .before .args .source .now) _))
+    (λ c. search needs) (λ c. search needs) (λ c. search needs) (λ c. search needs) (λ c. search needs) (λ c. search needs)
+    (λ c κs. search needs)
     (λ c. search needs)
-    (λ c. c .before .before .copy-content .ensures)
     (λ c.
-    let s = c .before .before .before .args in
-    (omega arith, refl, refl, paste-zero _ (s .offset) (s .source .now)))
-    (λ c. search needs) (λ c. search needs) (λ c. search needs) (λ c. search needs) (λ c. search needs)
+    let s = c .before .before .before .before .before .before .before .before .before in
+    let inv = c .before .before .before .before .before .before .loop .inv in
+    let done = c .before .before .before .before .before .before .loop .done in
+    (omega arith, inv .1, omega (arith, inv .2, c .before .before .copy-piece .kept .0), put-next (s .args .offset) done (done + 255 - done) (done + 255) (s .args .source .now) (s .args .part .now) _ _ (inv .3) (inv .0) (omega (arith, s .pre)) (c .before .before .copy-piece .ensures) (omega arith)))
+    (λ c. search needs) (λ c. search needs) (λ c. search needs) (λ c. search needs)
+    (λ c κs. search needs)
+    (λ c. search needs)
     (λ c.
-    let s = c .before .before .before .before .before .before .args in
-    let inv = c .before .before .loop .inv in
-    (omega arith, inv .1, simp length-set (inv .2), paste-turn _ (s .offset) (s .source .now) (c .before .before .loop .i) _ (inv .3) (omega arith) (omega arith)))
-    (λ c. c .before .loop .inv .2)
-    (λ c.
-    let s = c .before .before .before .before .before .args in
-    paste-all _ (s .offset) (s .source .now) (c .before .loop .i) _ (c .before .loop .inv .3) (omega arith)))
+    let s = c .before .before .before .before .before .before .before .before .before in
+    let inv = c .before .before .before .before .before .before .loop .inv in
+    let done = c .before .before .before .before .before .before .loop .done in
+    let end = length (s .args .source .now) in
+    put-last (s .args .offset) done (end - done) end (s .args .source .now) (s .args .part .now) _ _ (inv .3) (inv .0) (omega (arith, s .pre)) (c .before .before .copy-bytes .ensures) (omega (arith, inv .0)) (inv .1)))
