@@ -8,9 +8,9 @@ use Rattle.judge.specs.declared.Fault.the-variants.{BadEntry, BadChain, OwnedTw
 use Rattle.refusals.specs.Told.{told}
 use Rattle.refusals.specs.declared.Refusal.{Refusal}
 use Rattle.refusals.specs.declared.Refusal.the-variants.{BadLength, BadHeader, Unsound, NoPath, BadDate, IsRoot, NoSuchName, NotADirectory, NameTaken, IsADirectory, Locked, PastEnd, DirectoryFull, NoFreePages, NotEmpty, NotAPage}
-use Rattle.links.specs.declared.LinkRefusal.{LinkRefusal}
-use Rattle.links.specs.declared.LinkRefusal.the-variants.{Base}
-use Rattle.links.specs.Answers.{linkRefusal}
+use Rattle.link_answers.specs.declared.LinkRefusal.{LinkRefusal}
+use Rattle.link_answers.specs.declared.LinkRefusal.the-variants.{Base}
+use Rattle.link_answers.specs.Answers.{linkRefusal}
 use Rattle.codes.specs.Codes.{refusalCode, Fits}
 use Rattle.link_codes.specs.Codes.{pointsToRow, linkCode, LinkFits}
 

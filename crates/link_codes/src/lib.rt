@@ -1,10 +1,10 @@
 // A refusal of the link list (02 §4) as one number, as `codes` has it for the base's. 21, 22 and 23 have one number for a place, a byte of the file
 // or a row's number, and all that is above the low byte for it: it is told up to 2^56 - 1, which no list in memory reaches.
-use links::DoneAnswer;
-use links::LinkRefusal;
+use link_answers::DoneAnswer;
+use link_answers::LinkRefusal;
 ghost use mathlib.Core.Path.{_≡_};
 ghost use Prim.Native.Nat.{min};
-ghost use Rattle.links.specs.Answers.{linkRefusal, doneTold};
+ghost use Rattle.link_answers.specs.Answers.{linkRefusal, doneTold};
 ghost use Rattle.link_codes.specs.Codes.{mostRow, linkCode, linkCodeOf, LinkFits, AnswerFits};
 
 // The place of 21, 22 and 23.

@@ -1,4 +1,3 @@
 pub mod Locals
-pub mod Again
 pub mod Readings
 pub mod Packs

@@ -19,8 +19,8 @@ use Rattle.link_list.proofs.Files.{head-good}
 use Rattle.link_rows.proofs.Steps.{put-nil}
 use Rattle.link_rows.proofs.Puts.{put-length, put-after}
 use Rattle.link_rows.proofs.Lists.{row-short}
-use Rattle.links.specs.Writing.{StandsFor}
-use Rattle.links.proofs.Loading.{path-read}
+use Rattle.link_writes.specs.Writing.{StandsFor}
+use Rattle.link_files.proofs.Loading.{path-read}
 use Rattle.link_slices.specs.Writing.{packedAt, packedBytes, packedFrom}
 
 fits? : (m n : ℕ) → (m ≤ n) ⊎ (n < m)

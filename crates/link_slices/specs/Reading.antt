@@ -10,7 +10,7 @@ use Rattle.link_list.specs.declared.Row.{Row}
 use Rattle.link_list.specs.Judging.{readList}
 use Rattle.link_list.specs.Links.{readLinks, rowsIn, badLine, shortLine, linkAnswer, linkList}
 use Rattle.link_rows.specs.Told.{stepsFrom}
-use Rattle.links.specs.Answers.{readTold}
+use Rattle.link_answers.specs.Answers.{readTold}
 use Rattle.link_slices.specs.declared.Found.{Found}
 
 -- so many rows of v at the front of a list, and past them the list itself

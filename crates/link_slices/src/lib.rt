@@ -1,18 +1,18 @@
 // The link list over lent slices of rows (01, "Which places take which form"): LINKS of a directory (02 §4) is read into a list of `Row`, and written
 // from one. No public call has a `requires`: whatever it is handed, it answers what `linkAnswer` says, leaves the list as `linkList` says and the image
 // as `linkAfter` says. The functions over a slice of rows are thin, since their proofs are walks of their code by hand; what they call is not.
+use link_answers::DoneAnswer;
+use link_answers::LinkRefusal;
+use link_answers::ReadAnswer;
+use link_files::Loaded;
 use link_list::Row;
 use link_rows::FileJudged;
 use link_rows::Judged;
-use links::DoneAnswer;
-use links::LinkRefusal;
-use links::Loaded;
-use links::ReadAnswer;
 ghost use mathlib.Core.Path.{_≡_};
 ghost use Prim.Native.Nat.{_≤_};
 ghost use lib.ListN.{length};
 ghost use Rattle.link_list.specs.Links.{readLinks, writeLinks, linkAnswer, linkList, linkAfter};
-ghost use Rattle.links.specs.Answers.{readTold, doneTold};
+ghost use Rattle.link_answers.specs.Answers.{readTold, doneTold};
 ghost use Rattle.link_rows.specs.Judged.{unjudged, judgedFrom};
 ghost use Rattle.link_slices.specs.Writing.{packedAt, packedBytes, packedFrom, WrittenFor};
 ghost use Rattle.link_slices.specs.Reading.{placed, FoundIn, FoundFor};
@@ -64,7 +64,7 @@ fn find_rows(image: &[u8], directory: &[u8], room: usize, file: &mut [u8]) -> Fo
     requires { ⌜ 65025 ≤ length (now file) ⌝ }
     ensures { λ r. ⌜ FoundFor (now (directory .entry)) (now (image .entry)) room (now (file .exit)) r ⌝ }
 {
-    match links::load(image, directory, file) {
+    match link_files::load(image, directory, file) {
         Loaded::Size(size) => judge_found(&file[..size], room),
         Loaded::Refused(r) => Found {
             size: 0,
@@ -154,7 +154,7 @@ fn write_judged(
 ) -> DoneAnswer
     ensures { λ r. ⌜ WrittenFor judged (now (bytes .entry)) (now (directory .entry)) (now (date .entry)) (now (image .entry)) (doneTold r) (now (image .exit)) ⌝ }
 {
-    links::write_packed(image, directory, date, link_rows::judgement(judged), bytes)
+    link_writes::write_packed(image, directory, date, link_rows::judgement(judged), bytes)
 }
 
 // Writes the rows as a directory's LINKS: any old one is removed, and it is made anew with the date. No image has room for a file that the array has no

@@ -27,7 +27,7 @@ ghost use Rattle.moves.specs.Propose.{proposeAnswer, proposeAfter};
 ghost use Rattle.tidy.specs.Answer.{answerOf};
 ghost use Rattle.link_list.specs.Links.{readLinks, writeLinks, findLink, checkLinks, linkAnswer, linkAfter};
 ghost use Rattle.link_rows.specs.Judged.{rowsOf};
-ghost use Rattle.links.specs.Answers.{numbersAfter};
+ghost use Rattle.link_looks.specs.Looks.{numbersAfter};
 ghost use Rattle.codes.specs.Codes.{codeOf, Fits, placeOf};
 ghost use Rattle.link_codes.specs.Codes.{linkCodeOf};
 ghost use Rattle.zealfs_c.specs.Outs.{lockNumber, soundNumber, verdictOut, findOut, listOut, numberOut, figureOut};

@@ -47,13 +47,13 @@ use denote.Triple.Walked.{says, Stays, stay-none-slice, gave-slice, walkOf, Walk
 use Rattle.link_list.specs.declared.Row.{Row}
 use Rattle.link_slices.specs.declared.Found.{Found}
 use Rattle.link_list.specs.Links.{readLinks, linkAnswer, linkList}
-use Rattle.links.specs.Answers.{readTold}
+use Rattle.link_answers.specs.Answers.{readTold}
 use Rattle.link_slices.specs.Reading.{placed, FoundFor}
 use Rattle.link_list.proofs.Row as T
 use Rattle.link_slices.proofs.Found as F
 use Rattle.link_slices.proofs.Found.Laws as F′
-use Rattle.links.proofs.ReadAnswer as R
-use Rattle.links.proofs.ReadAnswer.Laws as R′
+use Rattle.link_answers.proofs.ReadAnswer as R
+use Rattle.link_answers.proofs.ReadAnswer.Laws as R′
 use Rattle.link_slices.proofs.Locals.{part-room, big, zeros-typed, zeros-some, Kept, lends-first, first-back}
 use Rattle.link_slices.proofs.find_rows as finding
 use Rattle.link_slices.proofs.find_rows.Symbol as finding-def

@@ -50,10 +50,10 @@ use Rattle.link_rows.specs.declared.Judged.{Judged}
 use Rattle.link_rows.specs.Judged.{unjudged, judgedFrom}
 use Rattle.link_rows.proofs.Judged as J
 use Rattle.link_rows.proofs.Judged.Laws as J′
-use Rattle.links.specs.declared.DoneAnswer.{DoneAnswer}
-use Rattle.links.specs.Answers.{doneTold}
-use Rattle.links.proofs.DoneAnswer as R
-use Rattle.links.proofs.DoneAnswer.Laws as R′
+use Rattle.link_answers.specs.declared.DoneAnswer.{DoneAnswer}
+use Rattle.link_answers.specs.Answers.{doneTold}
+use Rattle.link_answers.proofs.DoneAnswer as R
+use Rattle.link_answers.proofs.DoneAnswer.Laws as R′
 use Rattle.link_slices.specs.Writing.{packedFrom, WrittenFor}
 use Rattle.link_slices.proofs.Packs.{packed-inside, packed-stands}
 use Rattle.link_slices.proofs.judge_rows as judging

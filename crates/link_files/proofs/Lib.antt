@@ -1,0 +1,4 @@
+pub mod Depth
+pub mod Paths
+pub mod Loading
+pub mod Whole

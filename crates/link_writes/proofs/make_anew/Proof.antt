@@ -1,0 +1,32 @@
+-- A refused make ends it; a granted one is followed by the write.
+use Rattle.link_writes.proofs.InTurn.{make-stops, made-written}
+use borrow.Author.Needs.{needs}
+use Rattle.link_writes.proofs.make_anew.Statement.{statement}
+use Rattle.link_writes.proofs.make_anew.Tie as tie
+
+returns : tie.Need-returns
+returns c =
+    let at-make = c .before .before .before .before in
+    let args = at-make .before .before .before .before .before .before .args in
+    make-stops (args .path .now) (args .date .now) (args .bytes .now) (args .image .now) _ (at-make .make-file .result) _ (c .enum-told .given .1) (at-make .make-file .ensures .0)
+
+returns-2 : tie.Need-returns-2
+returns-2 c =
+    let at-write = c .before .before in
+    let at-make = at-write .before .before .before .before .before .before in
+    let args = at-make .before .before .before .before .before .before .args in
+    made-written (args .path .now) (args .date .now) (args .bytes .now) (args .image .now) _ _ (at-make .make-file .result) (at-write .before .before .enum-told2 .given .1)
+    (at-make .make-file .ensures .0) (at-make .make-file .ensures .1) (at-write .write .result) (at-write .write .ensures .0) (at-write .write .ensures .1)
+
+pub make-anew-spec : {M : Type 1} → statement M
+make-anew-spec =
+    tie.close
+    (tie.spec
+    (λ c κs. search needs)
+    (λ c. search needs)
+    (λ c. search needs)
+    returns
+    (λ c. search needs)
+    (λ c κs. search needs)
+    (λ c. search needs)
+    returns-2)
