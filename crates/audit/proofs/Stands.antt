@@ -17,7 +17,7 @@ use Rattle.model.specs.Sound.{pagesAt, namesApart}
 use Rattle.laws.proofs.Entries.{entry-within}
 use Rattle.audit.specs.Visit.{Visited, stops, goes, thenVisit, claimEntries, directoriesAt, visit}
 use Rattle.audit.proofs.Visiting.{few, children-low}
-use Rattle.audit.specs.Lent.{free}
+use Rattle.audit.specs.Lent.{Row, free}
 use Rattle.audit.proofs.Claims.{Spends, entries-spend}
 
 pub record Stands (b : Bytes) (row₀ list row : List ℕ) (found done : ℕ) : Type 0 where
@@ -33,6 +33,10 @@ nothing : (b : Bytes) (n : ℕ) (row : List ℕ) → visit n b [] row ≡ goes r
 unfolding visit
 nothing b zero row = refl
 nothing b (suc n) row = refl
+
+-- setting a number keeps the length
+pub as-long : (l list : List ℕ) (i x : ℕ) → length l ≡ length (set list i x) → length l ≡ length list
+as-long l list i x e = e ∙ length-set list i x
 
 module _ (b : Bytes) (row₀ : List ℕ) where
   pub stands-first : (list : List ℕ) → 1 + free row₀ ≤ length row₀ → length row₀ ≡ pageCount b → length row₀ ≤ 256 → 256 ≤ length list → Stands b row₀ (set list 0 0) row₀ 1 0
@@ -61,6 +65,10 @@ module _ (b : Bytes) (row₀ : List ℕ) where
 
     pub next-low : done < found → getD list done 0 < pageCount b
     next-low l = at .within (getD list done 0) (subst (Mem (getD list done 0)) (sym (head l)) (mem-head (getD list done 0) (drop (suc done) (take found list))))
+
+    -- its entries are asked for in a row that is the image's
+    pub entries-asked : done < found → Row b row × (getD list done 0 < length row)
+    entries-asked l = (record { each = at .long; high = at .small }, omega (arith, next-low l, at .long))
 
     turn : (l : done < found) → visit (pageCount b) b (0 ∷ []) row₀
         ≡ (if namesApart (view b) (entries (getD list done 0))

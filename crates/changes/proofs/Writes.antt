@@ -135,13 +135,23 @@ module _ {at start size from : ℕ} {v b : Bytes} (w : Writing at start size fro
         first : p ≡ byteAt b₂ (at + 17)
         first = ep ∙ ap (λ (c : Bytes). byteAt c (at + 17)) same₂
 
-        pub write-inside : Inside c₂ x p
+        write-inside : Inside c₂ x p
         write-inside =
             subst (λ (c : Bytes). Inside c x p) (sym same₂) (subst (λ (m : ℕ). Inside b₂ m p) (sym wanted)
             (subst (Inside b₂ (pagesFor s)) (sym first) spread-inside))
 
-        pub write-effect : {c₃ : Bytes} → c₃ ≡ spread (On.content version1) room (chain (link c₂) x p) from v c₂ → c₃ ≡ rewritten at from v b
+        write-effect : {c₃ : Bytes} → c₃ ≡ spread (On.content version1) room (chain (link c₂) x p) from v c₂ → c₃ ≡ rewritten at from v b
         write-effect e₃ =
             e₃ ∙ ap (λ (c : Bytes). spread (On.content version1) room (chain (link c) x p) from v c) same₂
             ∙ ap₂ (λ (m q : ℕ). spread (On.content version1) room (chain (link b₂) m q) from v b₂) wanted first
             ∙ effect
+
+-- the image y with the chain grown and the size set, its pages x and its start p, as the code comes to them
+pub record Resized (at start size from : ℕ) (v b y : Bytes) (x p : ℕ) : Type 0 where
+  pub inside : Inside y x p
+  pub comes : {z : Bytes} → z ≡ spread (On.content version1) room (chain (link y) x p) from v y → z ≡ rewritten at from v b
+
+pub resize : {at start size from : ℕ} {v b : Bytes} → Writing at start size from v b → {n z h x : ℕ} → n ≡ pageCount b → z ≡ max size (from + length v) → h ≡ pagesFor size → x ≡ pagesFor z
+    → {r : ℕ} → byte r ≡ On.jointOf version1 (byte (at + 17)) (chain (link b) h start)
+    → {c₁ y c₂ : Bytes} {p : ℕ} → c₁ ≡ On.grown version1 n (x - h) (byte r) b → y ≡ le16 z → c₂ ≡ put (at + 18) y c₁ → p ≡ byteAt c₂ (at + 17) → Resized at start size from v b c₂ x p
+resize w en ez eh ex er e₁ ey e₂ ep = record { inside = write-inside w en ez eh ex er e₁ ey e₂ ep; comes = write-effect w en ez eh ex er e₁ ey e₂ ep }

@@ -9,7 +9,7 @@ use mathlib.Core.List.{List, [], _∷_}
 use lib.ListN.{length, drop, length-drop, drop-of-length-le}
 use lib.Seq.{drop-drop}
 use lib.Dec.{T, eqb, ltb}
-use borrow.Author.Tests.{ne-eqb, eqb-false}
+use borrow.Author.Tests.{ne-eqb, eqb-false, not-true, not-false}
 use Rattle.volume.specs.Bytes.{Bytes, if_then_else_}
 use Rattle.model.specs.Call.{Refusal, refusalAt, Answer, refused, granted}
 use Rattle.link_list.specs.declared.Row.{Row}
@@ -94,9 +94,9 @@ pub counted-first : (v : Bytes) (last : Row) → countedAt v 0 0 false last ≡ 
 unfolding countedAt readList beforeOf
 counted-first v last = let e : length v - 0 ≡ length v = omega arith in ap (λ (n : ℕ). counted 0 (readFrom n (length v) 0 none v)) e
 
-pub counted-end : (v : Bytes) (i at : ℕ) (any : Bool) (last : Row) → length v ≤ at → countedAt v i at any last ≡ granted i
+pub counted-end : (v : Bytes) (i at : ℕ) (any : Bool) (last : Row) {x : Answer ℕ} → length v ≤ at → countedAt v i at any last ≡ x → granted i ≡ x
 unfolding countedAt counted readFrom
-counted-end v i at any last h = rw (drop-of-length-le v h) (go (length v - i))
+counted-end v i at any last h e = sym (rw (drop-of-length-le v h) (go (length v - i))) ∙ e
   where
     plain : i + 0 ≡ i
     plain = omega arith
@@ -105,45 +105,57 @@ counted-end v i at any last h = rw (drop-of-length-le v h) (go (length v - i))
     go zero = ap (λ (n : ℕ). granted n) plain
     go (suc most) = ap (λ (n : ℕ). granted n) plain
 
--- a row that begins before the end
-module _ (v : Bytes) (i at : ℕ) (any : Bool) (last : Row) (l : i ≤ at) (h : at < length v) where
+-- ---- what a row that is known says
+
+abbrev Says : Bytes → ℕ → RowAt → Type 0
+Says v at a = (rowTold v a ≡ takeRow (drop at v)) × RowFits v a
+
+says-row : (v : Bytes) (at : ℕ) {a : RowAt} {r : Row} {next : ℕ} → a ≡ row-at.Is r next → Says v at a → (takeRow (drop at v) ≡ some (r, drop next v)) × (at < next) × (next ≤ length v)
+says-row v at {a} {r} {next} e h =
+    let s : Says v at (row-at.Is r next) = subst (Says v at) e h in
+    let l = row-shorter (drop at v) r (drop next v) (sym (s .0)) in
+    (sym (s .0), omega (arith, l, length-drop at v, length-drop next v, s .1), s .1)
+
+-- a row that begins before the end was read as a, and all comes to x
+pub record Reads (v : Bytes) (i at : ℕ) (any : Bool) (last : Row) (a : RowAt) (x : Answer ℕ) : Type 0 where
+  pub few : i ≤ at
+  pub inside : at < length v
+  pub says : Says v at a
+  pub comes : countedAt v i at any last ≡ x
+
+module _ {v : Bytes} {i at : ℕ} {any : Bool} {last : Row} {a : RowAt} {x : Answer ℕ} (s : Reads v i at any last a x) where
   here : Taken Row → Reading
   here t = readRow i at (beforeOf any last) (λ r rest. readFrom (length v - (i + 1)) (length v) (i + 1) (some r) rest) t
 
   opened : countedAt v i at any last ≡ counted i (here (takeRow (drop at v)))
   unfolding countedAt readFrom here
   opened =
+      let l = s .few in
+      let h = s .inside in
       let more : length v - i ≡ suc (length v - (i + 1)) = omega arith in
       let some-left : length (drop at v) ≡ 0 → ⊥ = λ z. let q = length-drop at v in omega arith in
       let place : length v - length (drop at v) ≡ at = let q = length-drop at v in omega arith in
       rw (more, ne-eqb (length (drop at v)) 0 some-left, place)
 
-  pub counted-broken : takeRow (drop at v) ≡ none → countedAt v i at any last ≡ refused (refusalAt 21 at)
+  pub counted-broken : a ≡ row-at.Broken → refused (refusalAt 21 at) ≡ x
   unfolding here readRow counted
-  counted-broken e = opened ∙ rw e
+  counted-broken e =
+      let no : takeRow (drop at v) ≡ none = sym (subst (Says v at) e (s .says) .0) in
+      sym (opened ∙ rw no) ∙ s .comes
 
-  pub counted-low : (r : Row) (w : Bytes) → takeRow (drop at v) ≡ some (r, w) → followsLast any last r ≡ false → countedAt v i at any last ≡ refused (refusalAt 22 i)
-  unfolding here readRow counted
-  counted-low r w e f = opened ∙ rw (e, follows-last any last r, f)
+  module _ {r : Row} {next : ℕ} (is : a ≡ row-at.Is r next) where
+    -- what is left is shorter
+    pub further : (at < next) × (next ≤ length v)
+    further = let k = says-row v at is (s .says) in (k .1, k .2)
 
-  pub counted-next : (r : Row) (next : ℕ) → takeRow (drop at v) ≡ some (r, drop next v) → followsLast any last r ≡ true → countedAt v i at any last ≡ countedAt v (i + 1) next true r
-  unfolding here readRow countedAt beforeOf
-  counted-next r next e f = opened ∙ rw (e, follows-last any last r, f) (counted-row i r _)
+    module _ {f : Bool} (tested : f ≡ followsLast any last r) where
+      pub counted-low : not f ≡ true → refused (refusalAt 22 i) ≡ x
+      unfolding here readRow counted
+      counted-low h = sym (opened ∙ rw (says-row v at is (s .says) .0, follows-last any last r, sym tested ∙ not-true f h)) ∙ s .comes
 
--- ---- what a row that is known says
-
-abbrev Says : Bytes → ℕ → RowAt → Type 0
-Says v at a = (rowTold v a ≡ takeRow (drop at v)) × RowFits v a
-
-pub says-row : (v : Bytes) (at : ℕ) (a : RowAt) (r : Row) (next : ℕ) → a ≡ row-at.Is r next → Says v at a
-    → (takeRow (drop at v) ≡ some (r, drop next v)) × (at < next) × (next ≤ length v)
-says-row v at a r next e h =
-    let s : Says v at (row-at.Is r next) = subst (Says v at) e h in
-    let l = row-shorter (drop at v) r (drop next v) (sym (s .0)) in
-    (sym (s .0), omega (arith, l, length-drop at v, length-drop next v, s .1), s .1)
-
-pub says-no-row : (v : Bytes) (at : ℕ) (a : RowAt) → a ≡ row-at.Broken → Says v at a → takeRow (drop at v) ≡ none
-says-no-row v at a e h = let s : Says v at row-at.Broken = subst (Says v at) e h in sym (s .0)
+      pub counted-next : not f ≡ false → countedAt v (i + 1) next true r ≡ x
+      unfolding here readRow countedAt beforeOf
+      counted-next h = sym (opened ∙ rw (says-row v at is (s .says) .0, follows-last any last r, sym tested ∙ not-false f h) (counted-row i r _)) ∙ s .comes
 
 -- ---- what is left is the file from a byte on
 

@@ -17,12 +17,6 @@ use Rattle.laws.proofs.Facts.{Sized, valid-sized}
 pub allowed : (b : Bytes) → validLength (length b) ≡ true → Sized b
 allowed b e = valid-sized b (subst T (sym e) tt)
 
-pub inside : (b : Bytes) → validLength (length b) ≡ true → 0 < pageCount b
-inside b e = let s = allowed b e in omega (arith, s .low)
-
-pub still-inside : (b b′ : Bytes) → length b′ ≡ length b → 0 < pageCount b → 0 < pageCount b′
-still-inside b b′ e h = omega (arith, e, h)
-
 pub format-refused : (b : Bytes) → validLength (length b) ≡ false → (refused (refusal 1) ≡ answer format b) × (b ≡ after format b)
 unfolding answer after lines isFormat settle
 format-refused b h = (rw h, rw h)

@@ -1,11 +1,11 @@
 -- The makes: behind the lines that find the vacant entry stands that of the free pages, and past it the entry can be put and its chain grown.
 use mathlib.Core.Path.{_≡_, refl, sym, ap, _∙_, subst}
-use Prim.Native.Nat.{ℕ, _+_, _≤_, _<_}
+use Prim.Native.Nat.{ℕ, _+_, _-_, _≤_, _<_}
 use native.Mathlib.Omega.{arith}
 use mathlib.Core.Bool.{true, false}
 use mathlib.Core.Option.{Option, none, some, Option·getD}
 use mathlib.Core.List.{List, [], _∷_, _++_}
-use lib.ListN.{length}
+use lib.ListN.{length, take, drop, length-take}
 use lib.Dec.{T, ltb}
 use borrow.Author.Tests.{lt-ltb, le-ltb}
 use Rattle.volume.specs.Bytes.{Bytes, put}
@@ -60,6 +60,9 @@ module _ (b path date : Bytes) where
 -- the name lies in the path
 pub begins-inside : (path : Bytes) (o : Opening) (at begins : ℕ) → Named path o → o ≡ At at begins → begins ≤ length path
 begins-inside path o at begins named is = (rw is at named) .0
+
+pub name-fits : (path : Bytes) (o : Opening) (at begins : ℕ) → Named path o → o ≡ At at begins → length (take (length path - begins) (drop begins path)) ≤ 16
+name-fits path o at begins named is = let s = rw is at named in simp length-take (omega (arith, s .1))
 
 module _ (b path date : Bytes) (k : ℕ) where
   abbrev space : Line

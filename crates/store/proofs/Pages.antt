@@ -1,11 +1,10 @@
 -- A page in the buffer: what is put over all of it takes its place, and what the content has for a page is what is copied.
-use mathlib.Core.Path.{_≡_, refl, sym, ap, ap₂, _∙_}
+use mathlib.Core.Path.{_≡_, sym, ap, ap₂, _∙_}
 use Prim.Native.Nat.{ℕ, suc, _+_, _-_, _*_, _≤_, _<_, min}
 use native.Mathlib.Nat.{zero-add}
 use native.Mathlib.Omega.{arith}
 use native.Mathlib.Decide.{decLe}
 use mathlib.Core.Bool.{Bool, true, false}
-use mathlib.Core.List.{List}
 use lib.ListN.{length, set, take, drop, length-set, length-take, length-drop, length-replicate}
 use lib.Seq.{ext-getD, take-all}
 use lib.Dec.{T, ltb, ltb→lt}
@@ -68,11 +67,18 @@ module _ (x y v : Bytes) (link j end : ℕ) (l : length x ≡ 256) (e : y ≡ ze
 -- ---- the header page's copy
 
 module _ (b : Bytes) (low : 256 ≤ length b) where
-  pub copy-long : length (part 0 256 b) ≡ 256
+  copy-long : length (part 0 256 b) ≡ 256
   copy-long = part-length 0 256 b (omega (arith, low))
 
-  pub copy-count : byteAt (part 0 256 b) 3 ≡ freeCount b
+  copy-count : byteAt (part 0 256 b) 3 ≡ freeCount b
   copy-count = byte-part 0 256 3 b (omega arith)
+
+  -- a buffer that it is
+  pub copied-long : {x : Bytes} → x ≡ part 0 256 b → 64 ≤ length x
+  copied-long e = omega (arith, ap length e, copy-long)
+
+  pub copied-count : {x : Bytes} → x ≡ part 0 256 b → (k : ℕ) → k ≤ freeCount b → k ≤ byteAt x 3
+  copied-count e k l = omega (arith, l, ap (λ (y : Bytes). byteAt y 3) e, copy-count)
 
   copy-free : (n : ℕ) → n ≤ 256 → zeroBits (part 0 256 b) n ≡ zeroBits b n
   copy-free n h = zeros-cong version1 b (part 0 256 b) n (λ q l.
@@ -88,6 +94,12 @@ module _ (b : Bytes) (low : 256 ≤ length b) where
   pub copy-left : (n j : ℕ) → byteAt (claimed n j (part 0 256 b)) 3 ≡ freeCount b - j
   copy-left n j = count-left n j (part 0 256 b) (omega (arith, copy-long)) ∙ ap (λ (x : ℕ). x - j) copy-count
 
+pub image-long : {b : Bytes} {size : ℕ} → Storing b size → 256 ≤ length b
+image-long s = omega (arith, s .whole, s .low)
+
+pub fewer-free : {b : Bytes} {size : ℕ} → Storing b size → (j : ℕ) → j < pagesFor size → j ≤ freeCount b
+fewer-free s j l = omega (arith, l, s .counted)
+
 -- one claim more
 claimed-more : (n j : ℕ) (h : Bytes) → claim (pageAfter n j h) (claimed n j h) ≡ claimed n (suc j) h
 unfolding claimed
@@ -100,47 +112,48 @@ module _ (b v x₁ x₂ : Bytes) (n j : ℕ) (s : Storing b (length v)) (l : j <
   abbrev h : Bytes
   h = part 0 256 b
 
-  long : 256 ≤ length b
-  long = omega (arith, s .whole, s .low)
+  abbrev long : 256 ≤ length b
+  long = image-long s
 
   second : x₂ ≡ claimed (pageCount b) j (part 0 256 b)
   second = e₂ ∙ ap₂ {C = Bytes} (λ (m : ℕ) (y : Bytes). claimed m j y) en e₁
 
-  pub content-long : length x₂ ≡ 256
-  content-long = ap length second ∙ claimed-long b long (pageCount b) j
+  pub content-long : 64 ≤ length x₂
+  content-long = omega (arith, ap length second, claimed-long b long (pageCount b) j)
 
   pub content-counted : 0 < byteAt x₂ 3
   content-counted = omega (arith, ap (λ (y : Bytes). byteAt y 3) second, copy-left b long (pageCount b) j, s .counted, l)
 
-  module _ (x₃ : Bytes) (k link : ℕ) (ek : k ≡ pagesFor (length v)) (e₃ : x₃ ≡ claim (On.lowestFree version1 n x₂) x₂) (to : link ≡ (if ltb (j + 1) k then On.lowestFree version1 n x₃ else 0)) where
+  pub content-page : (here : ℕ) → here ≡ On.lowestFree version1 n x₂ → here ≡ pageAfter (pageCount b) j (part 0 256 b)
+  content-page here eh = eh ∙ ap₂ (λ (m : ℕ) (y : Bytes). On.lowestFree version1 m y) en second
+
+  module _ (x₃ : Bytes) (e₃ : x₃ ≡ claim (On.lowestFree version1 n x₂) x₂) where
     third : x₃ ≡ claimed (pageCount b) (suc j) (part 0 256 b)
     third =
         e₃ ∙ ap₂ {C = Bytes} (λ (m : ℕ) (y : Bytes). claim (On.lowestFree version1 m y) y) en second
         ∙ claimed-more (pageCount b) j (part 0 256 b)
 
-    link-is : link ≡ linkAfter (pageCount b) (pagesFor (length v)) j (part 0 256 b)
-    unfolding linkAfter
-    link-is =
-        let e : j + 1 ≡ suc j = omega arith in
-        to ∙ (λ i. if ltb (e i) (ek i) then On.lowestFree version1 (en i) (third i) else 0)
-
     pub third-long : length x₃ ≡ 256
     third-long = ap length third ∙ claimed-long b long (pageCount b) (suc j)
 
-    pub link-small : link < 256
+    pub link-is : (k link : ℕ) → k ≡ pagesFor (length v) → link ≡ (if ltb (j + 1) k then On.lowestFree version1 n x₃ else 0)
+        → link ≡ linkAfter (pageCount b) (pagesFor (length v)) j (part 0 256 b)
     unfolding linkAfter
-    link-small = omega (arith, link-is, small (ltb (suc j) (pagesFor (length v))) (ltb→lt (suc j) (pagesFor (length v))))
-      where
-        small : (c : Bool) → (T c → suc j < pagesFor (length v)) → (if c then pageAfter (pageCount b) (suc j) (part 0 256 b) else 0) < 256
-        small true u = omega (arith, copy-under b long (pageCount b) (suc j) (s .high) (omega (arith, u tt, s .free)), s .high)
-        small false u = omega arith
+    link-is k link ek to =
+        let e : j + 1 ≡ suc j = omega arith in
+        to ∙ (λ i. if ltb (e i) (ek i) then On.lowestFree version1 (en i) (third i) else 0)
 
-    pub content-worked : (here : ℕ) → here ≡ On.lowestFree version1 n x₂ → (z : Bytes) → z ≡ contentPage link v j
-        → (here ≡ pageAfter (pageCount b) j (part 0 256 b)) × (z ≡ contentPage (linkAfter (pageCount b) (pagesFor (length v)) j (part 0 256 b)) v j)
-    content-worked here eh z ez = (
-      eh ∙ ap₂ (λ (m : ℕ) (y : Bytes). On.lowestFree version1 m y) en second,
-      ez ∙ ap (λ (y : ℕ). contentPage y v j) link-is,
-    )
+-- the link is a byte
+pub link-small : {b : Bytes} {size link : ℕ} (j : ℕ) → Storing b size → link ≡ linkAfter (pageCount b) (pagesFor size) j (part 0 256 b) → link < 256
+unfolding linkAfter
+link-small {b} {size} j s is = omega (arith, is, small (ltb (suc j) (pagesFor size)) (ltb→lt (suc j) (pagesFor size)))
+  where
+    small : (c : Bool) → (T c → suc j < pagesFor size) → (if c then pageAfter (pageCount b) (suc j) (part 0 256 b) else 0) < 256
+    small true u = omega (arith, copy-under b (image-long s) (pageCount b) (suc j) (s .high) (omega (arith, u tt, s .free)), s .high)
+    small false u = omega arith
+
+pub content-linked : (v : Bytes) (j : ℕ) {z : Bytes} {link to : ℕ} → z ≡ contentPage link v j → link ≡ to → z ≡ contentPage to v j
+content-linked v j e l = e ∙ ap (λ (x : ℕ). contentPage x v j) l
 
 -- page j begins within the content, or at its end
 pub begins-in : (v : Bytes) (j : ℕ) → j < pagesFor (length v) → 255 * j ≤ length v
@@ -163,16 +176,20 @@ module _ (b : Bytes) (size n r : ℕ) (s : Storing b size) (en : n ≡ pageCount
 
 -- ---- the header, and the parent's page
 
-module _ (b x₁ x₂ w : Bytes) (n k at : ℕ) (long : 256 ≤ length b) (en : n ≡ pageCount b) (e₁ : x₁ ≡ part 0 256 b) (e₂ : x₂ ≡ claimed n k x₁) where
+module _ (b x₁ x₂ : Bytes) (n k : ℕ) (long : 256 ≤ length b) (en : n ≡ pageCount b) (e₁ : x₁ ≡ part 0 256 b) (e₂ : x₂ ≡ claimed n k x₁) where
   header-is : x₂ ≡ claimed (pageCount b) k (part 0 256 b)
   header-is = e₂ ∙ ap₂ {C = Bytes} (λ (m : ℕ) (y : Bytes). claimed m k y) en e₁
 
   pub header-long : length x₂ ≡ 256
   header-long = ap length header-is ∙ claimed-long b long (pageCount b) k
 
-  pub header-root : at < 256 → (z : Bytes) → z ≡ put at w x₂
+  pub header-root : (at : ℕ) (w : Bytes) → at < 256 → (z : Bytes) → z ≡ put at w x₂
       → z ≡ (if ltb at 256 then put at w (claimed (pageCount b) k (part 0 256 b)) else claimed (pageCount b) k (part 0 256 b))
-  header-root l z e = rw (lt-ltb at 256 l) (e ∙ ap (put at w) header-is)
+  header-root at w l z e = rw (lt-ltb at 256 l) (e ∙ ap (put at w) header-is)
 
-  pub header-below : 256 ≤ at → x₂ ≡ (if ltb at 256 then put at w (claimed (pageCount b) k (part 0 256 b)) else claimed (pageCount b) k (part 0 256 b))
-  header-below l = rw (le-ltb at 256 l) header-is
+  pub header-below : (at : ℕ) (w : Bytes) → 256 ≤ at → x₂ ≡ (if ltb at 256 then put at w (claimed (pageCount b) k (part 0 256 b)) else claimed (pageCount b) k (part 0 256 b))
+  header-below at w l = rw (le-ltb at 256 l) header-is
+
+-- the entry is put into a copy of the parent's page
+pub parent-put : (b x w z : Bytes) (at p : ℕ) → x ≡ part (256 * p) 256 b → z ≡ put at w x → z ≡ put at w (part (256 * p) 256 b)
+parent-put b x w z at p e is = is ∙ ap (put at w) e

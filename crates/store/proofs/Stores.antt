@@ -8,13 +8,14 @@ use native.Mathlib.Decide.{decLt}
 use mathlib.Core.Bool.{Bool, true, false, not}
 use mathlib.Core.Option.{none, some}
 use mathlib.Core.List.{List, [], _∷_, _++_}
-use lib.ListN.{length, length-set}
-use lib.Dec.{T, eqb, leb, ltb, ltb→lt, nltb→le}
-use borrow.Author.Tests.{lt-ltb, le-ltb, le-leb, lt-leb, eq-eqb, ne-eqb}
+use lib.ListN.{length, take, drop, length-set, length-take}
+use lib.Dec.{T, eqb, leb, ltb}
+use borrow.Author.Tests.{lt-ltb, le-ltb, le-leb, lt-leb, eq-eqb, ne-eqb, ltb-true, ltb-false}
 use Rattle.volume.specs.Bytes.{Bytes, part, put, if_then_else_}
 use Rattle.volume.specs.Geometry as On
 use Rattle.model.specs.Layout.{version1, pageCount, pagesFor, freeCount}
 use Rattle.model.specs.Entry.{newEntry}
+use Rattle.model.specs.Name.{padded}
 use Rattle.model.specs.Sound.{sound}
 use Rattle.model.specs.Tree.{freeNumber}
 use Rattle.model.specs.Path.{Path, pathOf, lastName, below}
@@ -33,26 +34,35 @@ use Rattle.laws.proofs.NewEntry.{new-length}
 use Rattle.laws.proofs.Lines.{settle-holds, settle-append}
 use Rattle.laws.proofs.Passed.{image-passed, Makes, make-passed}
 use Rattle.places.proofs.Settled.{opened, settle-opened, settle-granted}
-use Rattle.openings.specs.Openings.{Place, found, opening}
+use Rattle.openings.specs.declared.Opening.{Opening}
+use Rattle.openings.specs.declared.Opening.the-variants.{At}
+use Rattle.openings.specs.Openings.{Place, found, opening, Named}
 use Rattle.store_laws.specs.Claim.{claimed, pageAfter, linkAfter, contentPage, startedEntry}
 use Rattle.store_laws.proofs.Numbers.{content-store, header-below, header-root, parent-store}
 use Rattle.store_laws.proofs.Calls.{spot-within, spot-page, count-by-place}
 use Rattle.store.specs.Asked.{Storing}
 
 -- a test that the code made
-pub is-less : (x y : ℕ) (r : Bool) → r ≡ ltb x y → r ≡ true → x < y
-is-less x y r e t = ltb→lt x y (subst T (sym t ∙ e) tt)
+pub is-less : {x y : ℕ} {r : Bool} → r ≡ ltb x y → r ≡ true → x < y
+is-less {x} {y} e t = ltb-true x y (sym e ∙ t)
 
-pub not-less : (x y : ℕ) (r : Bool) → r ≡ ltb x y → r ≡ false → y ≤ x
-not-less x y r e t = nltb→le x y (subst (λ (z : Bool). T (not z)) (sym t ∙ e) tt)
+pub not-less : {x y : ℕ} {r : Bool} → r ≡ ltb x y → r ≡ false → y ≤ x
+not-less {x} {y} e t = ltb-false x y (sym e ∙ t)
 
-pub entry-length : (name date : Bytes) (size start : ℕ) → length name ≡ 16 → length date ≡ 8 → length (startedEntry name date size start) ≡ 32
+entry-length : (name date : Bytes) (size start : ℕ) → length name ≡ 16 → length date ≡ 8 → length (startedEntry name date size start) ≡ 32
 unfolding startedEntry
 entry-length name date z start n d = length-set (newEntry 0x80 name 0 z date) 17 start ∙ new-length 0x80 name z date n d
 
+-- the opening's name lies in the path, and fits an entry
+pub begins-in : (path : Bytes) {o : Opening} {at begins : ℕ} → o ≡ At at begins → Named path o → begins ≤ length path
+begins-in path is fits = (rw is at fits) .0
+
+pub name-fits : (path : Bytes) {o : Opening} {at begins : ℕ} → o ≡ At at begins → Named path o → length (take (length path - begins) (drop begins path)) ≤ 16
+name-fits path is fits = let s = rw is at fits in simp length-take (omega (arith, s .1))
+
 -- ---- where a new file may be made
 
-module _ (b path date v : Bytes) {at : ℕ} {name : Bytes} (e : granted (at, name) ≡ opening b path date) where
+module _ (b path date : Bytes) {at : ℕ} {name : Bytes} (e : granted (at, name) ≡ opening b path date) where
   abbrev above : List Line
   above = imageLines b ++ makeLines path date (treeOf b)
 
@@ -72,8 +82,11 @@ module _ (b path date v : Bytes) {at : ℕ} {name : Bytes} (e : granted (at, nam
   pub long : 4 ≤ length b
   long = omega (arith, size facts .low, size facts .whole)
 
+  pub free-few : freeCount b ≤ 255
+  free-few = omega (arith, free-sum facts, size facts .high)
+
   -- and pages enough for it
-  module _ (l : pagesFor (length v) ≤ freeCount b) where
+  module _ (v : Bytes) (l : pagesFor (length v) ≤ freeCount b) where
     free : ltb (freeNumber (treeOf b)) (pagesFor (length v)) ≡ false
     free = rw (free-number facts) (le-ltb (freeCount b) (pagesFor (length v)) l)
 
@@ -82,26 +95,20 @@ module _ (b path date v : Bytes) {at : ℕ} {name : Bytes} (e : granted (at, nam
     makes = make-passed facts (refusal 10)
         (settle-append some (makeLines path date (treeOf b)) ((ltb (freeNumber (treeOf b)) (pagesFor (length v)), refusal 10) ∷ []) none ∙ rw free (behind .1))
 
-    few : freeCount b ≤ 255
-    few = omega (arith, free-sum facts, size facts .high)
-
-    pub storing : Storing b (length v)
+    storing : Storing b (length v)
     storing = record {
       low = omega (arith, size facts .low);
       high = size facts .high;
       whole = size facts .whole;
       free = omega (arith, facts .counted, l);
       counted = l;
-      fits = omega (arith, fill-up (length v), l, few);
+      fits = omega (arith, fill-up (length v), l, free-few);
     }
 
-    pub pages-few : pagesFor (length v) ≤ 256
-    pages-few = omega (arith, l, few)
-
-    pub dated : length date ≡ 8
+    dated : length date ≡ 8
     dated = makes .clear .dated
 
-    pub named : length name ≡ 16
+    named : length name ≡ 16
     named = ap (λ (p : Place). length (p .1)) is-found ∙ ap (λ (p : Path). length (lastName p)) (makes .is) ∙ makes .clear .long
 
     -- the entry's place
@@ -120,10 +127,10 @@ module _ (b path date v : Bytes) {at : ℕ} {name : Bytes} (e : granted (at, nam
     parent-is : at / 256 ≡ parentPage b (pathOf path)
     parent-is = omega (arith, within .low, within .high)
 
-    pub on-page : at + 32 ≤ 256 * (at / 256) + 256
+    on-page : at + 32 ≤ 256 * (at / 256) + 256
     on-page = omega (arith, within .high, within .low)
 
-    pub in-image : 256 * (at / 256) + 256 ≤ length b
+    in-image : 256 * (at / 256) + 256 ≤ length b
     in-image = omega (arith, parent-is, page-in, size facts .whole)
 
     count-is : pagesFor (length v) + (if ltb at 256 then 1 else 2) ≡ storeCount (pathOf path) v
@@ -185,18 +192,18 @@ module _ (b path date v : Bytes) (j : ℕ) (buffer : Bytes) where
       pub store-lacking : freeCount b < pagesFor (length v) → Refuses (refusal 10)
       unfolding settle answer bufferAfter
       store-lacking l =
-          let t : ltb (freeNumber (treeOf b)) (pagesFor (length v)) ≡ true = rw (free-number (facts b path date v e)) (lt-ltb (freeCount b) (pagesFor (length v)) l) in
+          let t : ltb (freeNumber (treeOf b)) (pagesFor (length v)) ≡ true = rw (free-number (facts b path date e)) (lt-ltb (freeCount b) (pagesFor (length v)) l) in
           (rw t at (at-place refused granted-here e), rw t at (at-place (λ m. buffer) bytes-here e))
 
       module _ (l : pagesFor (length v) ≤ freeCount b) where
         abbrev f : Facts b
-        f = facts b path date v e
+        f = facts b path date e
 
         abbrev made : Makes b path date (pagesFor (length v))
-        made = makes b path date v e l
+        made = makes b path date e v l
 
         abbrev roomy : ltb (freeNumber (treeOf b)) (pagesFor (length v)) ≡ false
-        roomy = free b path date v e l
+        roomy = free b path date e v l
 
         module _ (count k : ℕ) (ek : k ≡ pagesFor (length v)) (counted : count ≡ k + (if ltb at 256 then 1 else 2)) where
           many : count ≡ pagesFor (length v) + (if ltb at 256 then 1 else 2)
@@ -205,12 +212,12 @@ module _ (b path date v : Bytes) (j : ℕ) (buffer : Bytes) where
           pub store-past : count ≤ j → Refuses (refusal 12)
           unfolding settle answer bufferAfter
           store-past h =
-              let t : leb (storeCount (pathOf path) v) j ≡ true = le-leb (storeCount (pathOf path) v) j (omega (arith, h, many, (count-is b path date v e l))) in
+              let t : leb (storeCount (pathOf path) v) j ≡ true = le-leb (storeCount (pathOf path) v) j (omega (arith, h, many, (count-is b path date e v l))) in
               (rw (roomy, t) at (at-place refused granted-here e), rw (roomy, t) at (at-place (λ m. buffer) bytes-here e))
 
           module _ (h : j < count) where
             open-line : leb (storeCount (pathOf path) v) j ≡ false
-            open-line = lt-leb (storeCount (pathOf path) v) j (omega (arith, h, many, (count-is b path date v e l)))
+            open-line = lt-leb (storeCount (pathOf path) v) j (omega (arith, h, many, (count-is b path date e v l)))
 
             -- past all lines: store j is s
             done : (s : Store) → storeAt j (pathOf path) date v b ≡ s
@@ -228,7 +235,7 @@ module _ (b path date v : Bytes) (j : ℕ) (buffer : Bytes) where
                 let d = done s (subst (λ (q : Path). storeAt j q date v b ≡ s) (sym (made .is)) is) in
                 (ap {B = Answer ℕ} (λ (x : ℕ). granted x) ep ∙ d .0, ez ∙ d .1)
 
-            pub content-done : j < k → (p : ℕ) (z : Bytes) → p ≡ pageAfter (pageCount b) j (part 0 256 b)
+            content-done : j < k → (p : ℕ) (z : Bytes) → p ≡ pageAfter (pageCount b) j (part 0 256 b)
                 → z ≡ contentPage (linkAfter (pageCount b) (pagesFor (length v)) j (part 0 256 b)) v j
                 → (granted p ≡ answer (store path date v j buffer) b) × (z ≡ bufferAfter (store path date v j buffer) b)
             content-done u p z ep ez = done-below p z _ (content-store b f (made .ns) (made .n) date v (made .clear) j (omega (arith, u, ek))) ep ez
@@ -240,15 +247,15 @@ module _ (b path date v : Bytes) (j : ℕ) (buffer : Bytes) where
 
               entry-is : w ≡ startedEntry (made .n .bytes) date (length v) (On.lowestFree version1 (pageCount b) b)
               entry-is = is ∙ ap (λ (x : Bytes). startedEntry x date (length v) (On.lowestFree version1 (pageCount b) b))
-                  (same ∙ ap (λ (p : Place). p .1) (is-found b path date v e) ∙ ap lastName (made .is))
+                  (same ∙ ap (λ (p : Place). p .1) (is-found b path date e) ∙ ap lastName (made .is))
 
               place-is : at ≡ lowestVacant b (parentPage b (below (made .ns) (made .n)))
-              place-is = (at-is b path date v e l) ∙ ap (λ (p : Path). lowestVacant b (parentPage b p)) (made .is)
+              place-is = (at-is b path date e v l) ∙ ap (λ (p : Path). lowestVacant b (parentPage b p)) (made .is)
 
               page-is : at / 256 ≡ parentPage b (below (made .ns) (made .n))
-              page-is = (parent-is b path date v e l) ∙ ap (parentPage b) (made .is)
+              page-is = (parent-is b path date e v l) ∙ ap (parentPage b) (made .is)
 
-              pub header-done : j ≡ k → (z : Bytes) → z ≡ (if ltb at 256 then put at w (claimed (pageCount b) k (part 0 256 b)) else claimed (pageCount b) k (part 0 256 b))
+              header-done : j ≡ k → (z : Bytes) → z ≡ (if ltb at 256 then put at w (claimed (pageCount b) k (part 0 256 b)) else claimed (pageCount b) k (part 0 256 b))
                   → (granted 0 ≡ answer (store path date v j buffer) b) × (z ≡ bufferAfter (store path date v j buffer) b)
               header-done ej z by-code = elim (decLt at 256) [
                 | yes u ↦ done-below 0 z _
@@ -262,7 +269,7 @@ module _ (b path date v : Bytes) (j : ℕ) (buffer : Bytes) where
                   ez : z ≡ (if ltb at 256 then put at w (claimed (pageCount b) (pagesFor (length v)) (part 0 256 b)) else claimed (pageCount b) (pagesFor (length v)) (part 0 256 b))
                   ez = by-code ∙ ap (λ (m : ℕ). if ltb at 256 then put at w (claimed (pageCount b) m (part 0 256 b)) else claimed (pageCount b) m (part 0 256 b)) ek
 
-              pub parent-done : k ≤ j → j ≢ k → (p : ℕ) (z : Bytes) → p ≡ at / 256 → z ≡ put (at - 256 * (at / 256)) w (part (256 * (at / 256)) 256 b)
+              parent-done : k ≤ j → j ≢ k → (p : ℕ) (z : Bytes) → p ≡ at / 256 → z ≡ put (at - 256 * (at / 256)) w (part (256 * (at / 256)) 256 b)
                   → (granted p ≡ answer (store path date v j buffer) b) × (z ≡ bufferAfter (store path date v j buffer) b)
               parent-done low ne p z ep ez =
                   let far = beyond-root in
@@ -277,3 +284,50 @@ module _ (b path date v : Bytes) (j : ℕ) (buffer : Bytes) where
                     | yes u ↦ absurd (omega (arith, h, many ∙ ap (λ (y : Bool). pagesFor (length v) + (if y then 1 else 2)) (lt-ltb at 256 u), low, ne, ek))
                     | no u ↦ (omega arith, omega (arith, h, many ∙ ap (λ (y : Bool). pagesFor (length v) + (if y then 1 else 2)) (le-ltb at 256 (omega arith)), low, ne, ek))
                   ]
+
+-- ---- past all lines
+
+-- no line stopped the store, and the entry is to be at that byte
+pub record Passed (b path date v : Bytes) (j : ℕ) (buffer : Bytes) (at begins k : ℕ) : Type 0 where
+  pub paged : length buffer ≡ 256
+  pub placed : granted (at, padded (take (length path - begins) (drop begins path))) ≡ opening b path date
+  pub enough : pagesFor (length v) ≤ freeCount b
+  pub pages : k ≡ pagesFor (length v)
+  pub number : j < k + (if ltb at 256 then 1 else 2)
+
+module _ {b path date v : Bytes} {j : ℕ} {buffer : Bytes} {at begins k : ℕ} (p : Passed b path date v j buffer at begins k) where
+  pub can-store : Storing b (length v)
+  can-store = storing b path date (p .placed) v (p .enough)
+
+  pub header-fits : (256 ≤ length b) × (pageCount b ≤ 256) × (k ≤ freeCount b)
+  header-fits = (omega (arith, can-store .whole, can-store .low), can-store .high, omega (arith, p .pages, p .enough))
+
+  pub date-long : length date ≡ 8
+  date-long = dated b path date (p .placed) v (p .enough)
+
+  pub in-root : at < 256 → at + 32 ≤ 256
+  in-root u = omega (arith, u, on-page b path date (p .placed) v (p .enough))
+
+  pub on-parent : (256 * (at / 256) + 256 ≤ length b) × (at + 32 ≤ 256 * (at / 256) + 256)
+  on-parent = (in-image b path date (p .placed) v (p .enough), on-page b path date (p .placed) v (p .enough))
+
+  abbrev Done : ℕ → Bytes → Type 0
+  Done page z = (granted page ≡ answer (store path date v j buffer) b) × (z ≡ bufferAfter (store path date v j buffer) b)
+
+  pub content-stored : j < k → {page : ℕ} {z : Bytes} → page ≡ pageAfter (pageCount b) j (part 0 256 b)
+      → z ≡ contentPage (linkAfter (pageCount b) (pagesFor (length v)) j (part 0 256 b)) v j → Done page z
+  content-stored u {page} {z} = content-done b path date v j buffer (p .paged) (p .placed) (p .enough) _ k (p .pages) refl (p .number) u page z
+
+  module _ {text : Bytes} (same : text ≡ padded (take (length path - begins) (drop begins path))) where
+    pub name-long : length text ≡ 16
+    name-long = ap length same ∙ named b path date (p .placed) v (p .enough)
+
+    module _ {w : Bytes} (is : w ≡ startedEntry text date (length v) (On.lowestFree version1 (pageCount b) b)) where
+      pub entry-long : length w ≡ 32
+      entry-long = ap length is ∙ entry-length text date (length v) _ name-long date-long
+
+      pub header-stored : j ≡ k → {z : Bytes} → z ≡ (if ltb at 256 then put at w (claimed (pageCount b) k (part 0 256 b)) else claimed (pageCount b) k (part 0 256 b)) → Done 0 z
+      header-stored u {z} = header-done b path date v j buffer (p .paged) (p .placed) (p .enough) _ k (p .pages) refl (p .number) text w same is u z
+
+      pub parent-stored : k ≤ j → j ≢ k → {page : ℕ} {z : Bytes} → page ≡ at / 256 → z ≡ put (at - 256 * (at / 256)) w (part (256 * (at / 256)) 256 b) → Done page z
+      parent-stored low ne {page} {z} = parent-done b path date v j buffer (p .paged) (p .placed) (p .enough) _ k (p .pages) refl (p .number) text w same is low ne page z

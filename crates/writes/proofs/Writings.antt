@@ -122,7 +122,7 @@ module _ (b path : Bytes) (from : ℕ) (v : Bytes) where
   write-directory a p here k e =
       (directory-does b path (write path from v) refl rest its-lines refused (λ n. granted (tt {0})) here k e, directory-does b path (write path from v) refl rest its-lines (λ m. b) result here k e)
 
-  module _ (a : Arrival) (p : Place) (t : Target) (here : a ≡ At p) (is : p ≡ place.File t) (arrives : arrivalOf a ≡ placed b path) where
+  module _ (t : Target) (e : FileAt b path t) where
     abbrev entry : ℕ
     entry = t .entry
 
@@ -134,9 +134,6 @@ module _ (b path : Bytes) (from : ℕ) (v : Bytes) where
 
     abbrev k : ℕ
     k = t .size
-
-    e : FileAt b path t
-    e = at-file here is arrives
 
     content : Content b path entry begins start k
     content = content-at b path e
@@ -154,42 +151,53 @@ module _ (b path : Bytes) (from : ℕ) (v : Bytes) where
     leaves = file-does b path (write path from v) refl rest its-lines (λ m. b) result e
 
     -- the code says r of the mark
-    module _ (r : Bool) (marked : r ≡ isLocked b entry) where
-      pub write-locked : r ≡ true → Refuses (refusal 25)
-      unfolding settle isLockedNode
-      write-locked locked = let l = sym marked ∙ locked in (rw l at answers, rw l at leaves)
+    pub write-locked : {r : Bool} → r ≡ isLocked b entry → r ≡ true → Refuses (refusal 25)
+    unfolding settle isLockedNode
+    write-locked marked locked = let l = sym marked ∙ locked in (rw l at answers, rw l at leaves)
 
-      module _ (unmarked : r ≡ false) where
-        u : isLocked b entry ≡ false
-        u = sym marked ∙ unmarked
+    pub write-past : {r : Bool} → r ≡ isLocked b entry → r ≡ false → k < from → Refuses (refusal 12)
+    unfolding settle isLockedNode contentIn
+    write-past marked unmarked h = let u = sym marked ∙ unmarked in (rw (u, content .long, lt-ltb k from h) at answers, rw (u, content .long, lt-ltb k from h) at leaves)
 
-        pub write-past : k < from → Refuses (refusal 12)
-        unfolding settle isLockedNode contentIn
-        write-past h = (rw (u, content .long, lt-ltb k from h) at answers, rw (u, content .long, lt-ltb k from h) at leaves)
+-- ---- past the lines of the place, the lock and the position
 
-        module _ (h : from ≤ k) where
-          -- and q of whether pages are lacking
-          module _ (q : Bool) (counted : q ≡ ltb (freeCount b) (more k from (length v))) where
-            pub write-lacking : q ≡ true → Refuses (refusal 10)
-            unfolding settle isLockedNode contentIn
-            write-lacking lacks =
-                let l = sym counted ∙ lacks in
-                (rw (u, content .long, le-ltb k from h, free-number facts, l) at answers, rw (u, content .long, le-ltb k from h, free-number facts, l) at leaves)
+pub record Passed (b path : Bytes) (from : ℕ) (t : Target) : Type 0 where
+  pub there : FileAt b path t
+  pub unlocked : isLocked b (t .entry) ≡ false
+  pub inside : from ≤ t .size
 
-            module _ (fits : q ≡ false) where
-              l : ltb (freeCount b) (more k from (length v)) ≡ false
-              l = sym counted ∙ fits
+-- the code says q of whether pages are lacking
+module _ {b path : Bytes} {from : ℕ} {t : Target} (p : Passed b path from t) (v : Bytes) {q : Bool} (counted : q ≡ ltb (freeCount b) (more (t .size) from (length v))) where
+  abbrev its : Content b path (t .entry) (t .begins) (t .start .0) (t .size)
+  its = content b path from v t (p .there)
 
-              done : (granted (tt {0}) ≡ answer (write path from v) b) × (written (pathOf path) from v b ≡ after (write path from v) b)
-              unfolding settle isLockedNode contentIn
-              done = (rw (u, content .long, le-ltb k from h, free-number facts, l) at answers, rw (u, content .long, le-ltb k from h, free-number facts, l) at leaves)
+  pub write-lacking : q ≡ true → Refuses b path from v (refusal 10)
+  unfolding settle isLockedNode contentIn
+  write-lacking lacks =
+      let l = sym counted ∙ lacks in
+      let room = le-ltb (t .size) from (p .inside) in (
+        rw (p .unlocked, its .long, room, free-number (its .arrived .facts), l) at (answers b path from v t (p .there)),
+        rw (p .unlocked, its .long, room, free-number (its .arrived .facts), l) at (leaves b path from v t (p .there)),
+      )
 
-              pub write-nothing : length v ≡ 0 → (granted (tt {0}) ≡ answer (write path from v) b) × (b ≡ after (write path from v) b)
-              write-nothing z = (done .0, none-written b (pathOf path) from v z ∙ done .1)
+  module _ (fits : q ≡ false) where
+    l : ltb (freeCount b) (more (t .size) from (length v)) ≡ false
+    l = sym counted ∙ fits
 
-              pub writable : Writing entry start k from v b
-              writable = writing b facts (pathOf path) entry begins (content .arrived .at .0) (content .arrived .at .1) from v
-                  (omega (arith, ltb-false (freeCount b) (more k from (length v)) l, facts .counted))
+    done : (granted (tt {0}) ≡ answer (write path from v) b) × (written (pathOf path) from v b ≡ after (write path from v) b)
+    unfolding settle isLockedNode contentIn
+    done =
+        let room = le-ltb (t .size) from (p .inside) in (
+          rw (p .unlocked, its .long, room, free-number (its .arrived .facts), l) at (answers b path from v t (p .there)),
+          rw (p .unlocked, its .long, room, free-number (its .arrived .facts), l) at (leaves b path from v t (p .there)),
+        )
 
-              pub write-done : (length v ≡ 0 → ⊥) → {b′ : Bytes} → b′ ≡ rewritten entry from v b → (granted (tt {0}) ≡ answer (write path from v) b) × (b′ ≡ after (write path from v) b)
-              write-done z w = (done .0, w ∙ bytes-written b (pathOf path) entry begins (content .arrived .at .0) from v (omega arith) ∙ done .1)
+    pub write-nothing : length v ≡ 0 → (granted (tt {0}) ≡ answer (write path from v) b) × (b ≡ after (write path from v) b)
+    write-nothing z = (done .0, none-written b (pathOf path) from v z ∙ done .1)
+
+    pub writable : Writing (t .entry) (t .start .0) (t .size) from v b
+    writable = writing b (its .arrived .facts) (pathOf path) (t .entry) (t .begins) (its .arrived .at .0) (its .arrived .at .1) from v
+        (omega (arith, ltb-false (freeCount b) (more (t .size) from (length v)) l, its .arrived .facts .counted))
+
+    pub write-done : (length v ≡ 0 → ⊥) → {b′ : Bytes} → b′ ≡ rewritten (t .entry) from v b → (granted (tt {0}) ≡ answer (write path from v) b) × (b′ ≡ after (write path from v) b)
+    write-done z w = (done .0, w ∙ bytes-written b (pathOf path) (t .entry) (t .begins) (its .arrived .at .0) from v (omega arith) ∙ done .1)

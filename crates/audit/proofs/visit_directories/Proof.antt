@@ -1,7 +1,7 @@
 -- `visit_directories` visits one directory a turn. Each that is found has claimed a page, so the list has room and the loop ends.
-use Rattle.fields.proofs.Plain.{needs, arith, _≡_, _∙_, _-_, length, length-set}
+use Rattle.fields.proofs.Plain.{needs, _≡_, _-_, length}
 use Rattle.audit.proofs.Claims.{told, untold, goes-of, stops-of}
-use Rattle.audit.proofs.Stands.{Stands, stands-first, next-low, stands-unnamed, stands-unclaimed, push-fits, stands-next, stands-last}
+use Rattle.audit.proofs.Stands.{Stands, stands-first, next-low, as-long, entries-asked, stands-unnamed, stands-unclaimed, push-fits, stands-next, stands-last}
 use Rattle.audit.proofs.visit_directories as fn
 
 pub visit-directories-spec : {M : Type 1} → fn.Statement.statement M
@@ -13,18 +13,11 @@ visit-directories-spec = fn.Tie.close (fn.Tie.spec
     (λ c. search needs) (λ c. search needs)
     (λ c κs. search next-low)
     (λ c. search needs)
-    (λ c.
-    let round = c .before .before .before .before in
-    round .loop .inv .0 ∙ length-set (round .before .before .before .before .args .list .now) 0 0)
+    (λ c. search as-long)
     (λ c. search (stands-unnamed, untold))
-    (λ c κs.
-    let s = c .before .before .before .before .before .loop .inv .2 in
-    let low = next-low _ _ _ _ _ _ s (c .before .before .before .before .loop-test .taken) in
-    (record { each = s .long; high = s .small }, omega (arith, low, s .long)))
+    (λ c κs. entries-asked _ _ _ _ _ _ (c .before .before .before .before .before .loop .inv .2) (c .before .before .before .before .loop-test .taken))
     (λ c. search needs)
-    (λ c.
-    let round = c .before .before .before .before .before .before .before .before .before in
-    round .loop .inv .0 ∙ length-set (round .before .before .before .before .args .list .now) 0 0)
+    (λ c. search as-long)
     (λ c. search (stands-unclaimed, told, stops-of))
     (λ c κs.
     let claimed = c .before .before .before .before .claim-entries in
@@ -48,5 +41,5 @@ visit-directories-spec = fn.Tie.close (fn.Tie.spec
           (search needs) (pushed .0) (pushed .1),
     ))
     (λ c. search needs)
-    (λ c. c .before .loop .inv .0 ∙ length-set (c .before .before .before .before .before .args .list .now) 0 0)
+    (λ c. search as-long)
     (λ c. search stands-last))

@@ -1,35 +1,21 @@
 -- `write_entry` goes as the model's effect goes: the chain grows at its joint, the size is set, and the bytes are spread over the chain as it is then.
-use Rattle.changes.proofs.Writes.{held-inside, no-fewer, write-growing, write-inside, write-effect}
+use Rattle.changes.proofs.Writes.{held-inside, no-fewer, write-growing, Resized, resize}
 use borrow.Author.Needs.{needs}
 use Rattle.changes.proofs.write_entry as fn
 
-write-chain-requires : fn.Tie.Need-write-chain-requires
-write-chain-requires c κs =
-    let put = c .before .before .before .before .before in
-    let grow = put .before .before .before .before .before .before in
-    let pages-for2 = grow .before .before .before .before in
-    let larger = pages-for2 .before .before in
-    write-inside (larger .before .before .before .before .before .pre) (larger .before .before .page-count .ensures) (larger .larger .ensures)
-    (pages-for2 .before .pages-for .ensures) (pages-for2 .pages-for2 .ensures) (grow .before .before .joint-of .ensures) (grow .grow .ensures)
-    (put .before .before .before .size-bytes .ensures) (put .put .ensures) (c .before .start-of .ensures .0)
-
-returns : fn.Tie.Need-returns
-returns c =
-    let put = c .before .before .before .before .before .before .before .before in
-    let grow = put .before .before .before .before .before .before in
-    let pages-for2 = grow .before .before .before .before in
-    let larger = pages-for2 .before .before in
-    write-effect (larger .before .before .before .before .before .pre) (larger .before .before .page-count .ensures) (larger .larger .ensures)
-    (pages-for2 .before .pages-for .ensures) (pages-for2 .pages-for2 .ensures) (grow .before .before .joint-of .ensures) (grow .grow .ensures)
-    (put .before .before .before .size-bytes .ensures) (put .put .ensures) (c .before .before .before .before .start-of .ensures .0)
-    (c .before .before .write-chain .ensures)
+-- the chain is grown and the size set
+resized : (c : fn.Tie.After-start-of) → let a = c .before .before .before .before .before .before .before .before .before .before .before .before .before .before .before .before .before .before .before .before .before .args in Resized (a .entry) (a .start .0) (a .size) (a .position .0) (a .bytes .now) (a .image .now) (c .before .before .before .before .put .last .0) (c .before .before .before .before .before .before .before .before .before .before .before .before .before .before .pages-for2 .result) (c .start-of .result .0)
+resized c =
+    let grow = c .before .before .before .before .before .before .before .before .before .before in
+    let held = grow .before .before .before .before .before in
+    resize (held .before .before .before .before .before .before .pre) (held .before .before .before .page-count .ensures) (held .before .larger .ensures) (held .pages-for .ensures)
+    (grow .before .before .before .before .pages-for2 .ensures) (grow .before .before .joint-of .ensures) (grow .grow .ensures) (c .before .before .before .before .before .before .before .size-bytes .ensures) (c .before .before .before .before .put .ensures) (c .start-of .ensures .0)
 
 pub write-entry-spec : {M : Type 1} → fn.Statement.statement M
 write-entry-spec = fn.Tie.close (fn.Tie.spec
     (λ c. search needs) (λ c. search needs) (λ c. search needs) (λ c. search needs) (λ c. search needs)
-    (λ c κs.
-    let start = c .before .before .before .before .before .before .before .before in
-    (start .pre .inside, held-inside (start .pre) (c .before .before .pages-for .ensures)))
+    (λ c κs. (search needs, search held-inside))
     (λ c. search no-fewer) (λ c κs. search write-growing)
     (λ c. search needs) (λ c. search needs) (λ c. search needs) (λ c. search needs) (λ c. search needs)
-    write-chain-requires (λ c. search needs) returns)
+    (λ c κs. resized (c .before) .inside) (λ c. search needs)
+    (λ c. resized (c .before .before .before .before) .comes (c .before .before .write-chain .ensures)))

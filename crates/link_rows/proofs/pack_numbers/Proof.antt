@@ -17,36 +17,14 @@ abbrev μ-loop : tie.MeasureT-loop
 loop-holds : tie.Need-loop-holds Inv-loop μ-loop
 loop-holds c = (omega arith, refl, packing-first _ _ (c .before .before .pre))
 
-sub-if1 : tie.Need-sub-if1 Inv-loop μ-loop
-sub-if1 c = let p = c .before .loop .inv .2 in omega (arith, p .inside, p .long)
-
-same-length : tie.Need-same-length Inv-loop μ-loop
-same-length c = c .before .before .loop .inv .2 .long
-
 returns : tie.Need-returns Inv-loop μ-loop
-returns c = (packed-long _ _ _ _ _ _ (c .before .before .loop .inv .2) (c .if1 .taken), c .before .before .loop .inv .2 .long)
-
-row-of-requires : tie.Need-row-of-requires Inv-loop μ-loop
-row-of-requires c κs = let inv = c .before .before .loop .inv in omega (arith, inv .1)
+returns c = (search packed-long, search needs)
 
 put-row-requires : tie.Need-put-row-requires Inv-loop μ-loop
-put-row-requires c κs =
-    let p = c .before .before .before .before .loop .inv .2 in
-    (omega (arith, p .inside, p .long, c .before .before .if1 .left), packing-fits _ _ _ _ _ _ p (c .before .before .before .loop-test .taken) _ (c .before .row-of .ensures))
+put-row-requires c κs = (omega arith, search packing-fits)
 
 loop-again : tie.Need-loop-again Inv-loop μ-loop
-loop-again c =
-    let at-put-row = c .before .before in
-    let at-row-of = at-put-row .before .before in
-    let at-if1 = at-row-of .before in
-    let at-loop-test = at-if1 .before in
-    let at-loop = at-loop-test .before in
-    let inv = at-loop .loop .inv in
-    let p = inv .2 in
-    (omega arith, inv .1, packing-next _ _ _ _ _ _ p (at-loop-test .loop-test .taken) (omega (arith, p .inside, p .long, at-if1 .if1 .left)) _ (at-row-of .row-of .ensures) _ (at-put-row .put-row .ensures .0) _ (at-put-row .put-row .ensures .1))
-
-same-length-2 : tie.Need-same-length-2 Inv-loop μ-loop
-same-length-2 c = c .before .loop .inv .2 .long
+loop-again c = (omega arith, search needs, packing-next _ _ _ _ _ _ (c .before .before .before .before .before .before .before .loop .inv .2) (search needs) (omega arith) _ (c .before .before .before .before .row-of .ensures) _ (c .before .before .put-row .ensures .0) _ (c .before .before .put-row .ensures .1))
 
 returns-2 : tie.Need-returns-2 Inv-loop μ-loop
 returns-2 c = packed-all _ _ _ _ _ _ (c .before .loop .inv .2) (c .loop-test .left)
@@ -58,13 +36,13 @@ pack-numbers-spec =
     Inv-loop
     μ-loop
     loop-holds
-    sub-if1
-    same-length
+    (λ c. omega arith)
+    (λ c. search needs)
     returns
-    row-of-requires
+    (λ c κs. omega arith)
     put-row-requires
     (λ c. search needs)
     (λ c. search needs)
     loop-again
-    same-length-2
+    (λ c. search needs)
     returns-2)

@@ -12,34 +12,10 @@ abbrev μ-loop : tie.MeasureT-loop
 μ-loop bytes₀ at number rest₀ place₀ bytes rest place = rest
 
 loop-holds : tie.Need-loop-holds Inv-loop μ-loop
-loop-holds c = putting-first _ _ _ (c .pre .1)
-
-add-bytes : tie.Need-add-bytes Inv-loop μ-loop
-add-bytes c = omega arith
-
-cast-bytes : tie.Need-cast-bytes Inv-loop μ-loop
-cast-bytes c = omega arith
-
-slice-write-bytes : tie.Need-slice-write-bytes Inv-loop μ-loop
-slice-write-bytes c = let inv = c .before .loop .inv in let low = inv .behind .0 in let high = inv .behind .1 in omega (arith, inv .long, c .before .before .pre .0)
-
-add-place : tie.Need-add-place Inv-loop μ-loop
-add-place c = let inv = c .before .loop .inv in let high = inv .behind .1 in omega (arith, inv .long, c .before .before .pre .0)
-
-loop-less : tie.Need-loop-less Inv-loop μ-loop
-loop-less c = omega arith
+loop-holds c = search putting-first
 
 loop-again : tie.Need-loop-again Inv-loop μ-loop
-loop-again c = putting-next _ _ _ _ _ _ (c .before .before .pre .0) (c .before .loop .inv) (c .loop-test .taken)
-
-cast-bytes-2 : tie.Need-cast-bytes-2 Inv-loop μ-loop
-cast-bytes-2 c = omega arith
-
-slice-write-bytes-2 : tie.Need-slice-write-bytes-2 Inv-loop μ-loop
-slice-write-bytes-2 c = let inv = c .before .loop .inv in let low = inv .behind .0 in let high = inv .behind .1 in omega (arith, inv .long, c .before .before .pre .0)
-
-add-result : tie.Need-add-result Inv-loop μ-loop
-add-result c = let inv = c .before .loop .inv in let high = inv .behind .1 in omega (arith, inv .long, c .before .before .pre .0)
+loop-again c = search putting-next
 
 same-length : tie.Need-same-length Inv-loop μ-loop
 same-length c = let inv = c .before .loop .inv in simp length-set (inv .long)
@@ -54,14 +30,14 @@ put-number-spec =
     Inv-loop
     μ-loop
     loop-holds
-    add-bytes
-    cast-bytes
-    slice-write-bytes
-    add-place
-    loop-less
+    (λ c. omega arith)
+    (λ c. omega arith)
+    (λ c. omega arith)
+    (λ c. omega arith)
+    (λ c. omega arith)
     loop-again
-    cast-bytes-2
-    slice-write-bytes-2
-    add-result
+    (λ c. omega arith)
+    (λ c. omega arith)
+    (λ c. omega arith)
     same-length
     returns)

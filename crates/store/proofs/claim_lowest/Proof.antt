@@ -8,20 +8,13 @@ use Rattle.store.proofs.claim_lowest.Statement.{statement}
 use Rattle.store.proofs.claim_lowest.Tie as tie
 
 mark-requires : tie.Need-mark-requires
-mark-requires c κs =
-    let args = c .before .before .before .before .args in
-    let pre = c .before .before .before .before .pre in
-    let lowest = c .before .lowest in
-    omega (arith, lowest .ensures, lowest-le version1 (args .n) (args .header .now), pre .0, pre .1)
+mark-requires c κs = omega (arith, lowest-le version1 (c .before .before .before .before .args .n) (c .before .before .before .before .args .header .now))
 
 sub-header : tie.Need-sub-header
-sub-header c = omega (arith, count-kept _ _ _ (c .before .before .before .mark .ensures), c .before .before .before .before .before .before .before .before .pre .2)
+sub-header c = omega (arith, count-kept _ _ _ (c .before .before .before .mark .ensures))
 
 returns : tie.Need-returns
-returns c =
-    let lowest = c .before .before .before .before .before .lowest in
-    let mark = c .before .before .before .mark in
-    (lowest .ensures, claim-stored _ _ _ (mark .ensures) _ (lowest .ensures))
+returns c = (search needs, search claim-stored)
 
 pub claim-lowest-spec : {M : Type 1} → statement M
 claim-lowest-spec =

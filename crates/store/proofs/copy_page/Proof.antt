@@ -5,11 +5,7 @@ use Rattle.store.proofs.copy_page.Statement.{statement}
 use Rattle.store.proofs.copy_page.Tie as tie
 
 returns : tie.Need-returns
-returns c =
-    let pre = c .before .before .before .before .before .before .before .before .pre in
-    let first-byte = c .before .before .before .before .before .first-byte in
-    let copy-in = c .before .before .copy-in in
-    page-copied _ _ _ _ _ (first-byte .ensures) (pre .0) (pre .1) (copy-in .ensures)
+returns c = search page-copied
 
 pub copy-page-spec : {M : Type 1} → statement M
 copy-page-spec =

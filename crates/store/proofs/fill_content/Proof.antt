@@ -5,30 +5,13 @@ use Rattle.store.proofs.fill_content.Statement.{statement}
 use Rattle.store.proofs.fill_content.Tie as tie
 
 copy-in-requires : tie.Need-copy-in-requires
-copy-in-requires c κs =
-    let args = c .before .before .before .before .before .before .before .before .before .args in
-    let pre = c .before .before .before .before .before .before .before .before .before .pre in
-    let zero = c .before .before .before .before .before .zero in
-    let least = c .before .before .least in
-    fill-fits (args .buffer .now) _ _ _ _ _ (pre .0) (zero .ensures) (least .ensures)
+copy-in-requires c κs = search fill-fits
 
 same-length : tie.Need-same-length
-same-length c =
-    let args = c .before .before .before .before .before .before .before .before .before .before .before .before .args in
-    let pre = c .before .before .before .before .before .before .before .before .before .before .before .before .pre in
-    let zero = c .before .before .before .before .before .before .before .before .zero in
-    let least = c .before .before .before .before .before .least in
-    let copy-in = c .before .before .copy-in in
-    fill-long (args .buffer .now) _ _ _ _ _ (pre .0) (zero .ensures) (least .ensures) _ (copy-in .ensures)
+same-length c = search fill-long
 
 returns : tie.Need-returns
-returns c =
-    let args = c .before .before .before .before .before .before .before .before .before .before .before .before .args in
-    let pre = c .before .before .before .before .before .before .before .before .before .before .before .before .pre in
-    let zero = c .before .before .before .before .before .before .before .before .zero in
-    let least = c .before .before .before .before .before .least in
-    let copy-in = c .before .before .copy-in in
-    fill-is (args .buffer .now) _ _ _ _ _ (pre .0) (zero .ensures) (least .ensures) _ (copy-in .ensures) (pre .2)
+returns c = search fill-is
 
 pub fill-content-spec : {M : Type 1} → statement M
 fill-content-spec =

@@ -1,192 +1,90 @@
 -- Each return knows which line stopped the store, or that it passed them all; then the number says whose page it is, and the law of that page says its bytes.
-use Rattle.store.proofs.Stores.{is-less, not-less, entry-length, not-a-page, store-refused, long, store-lacking, storing, pages-few, dated, named, on-page, in-image, store-past, content-done, header-done, parent-done}
+use Rattle.store.proofs.Stores.{is-less, not-less, begins-in, name-fits, not-a-page, store-refused, long, store-lacking, free-few, store-past, Passed, can-store, header-fits, date-long, in-root, on-parent, content-stored, name-long, entry-long, header-stored, parent-stored}
 use Rattle.openings.proofs.Openings.{stopped-refused}
+use Rattle.openings.specs.Openings.{opening}
+use Rattle.model.specs.Layout.{pagesFor, freeCount}
+use Rattle.model.specs.Name.{padded}
+use Rattle.model.specs.Call.{granted}
 use native.Mathlib.Omega.{arith}
-use mathlib.Core.Path.{ap, _∙_}
-use mathlib.Core.List.{[]}
-use lib.ListN.{length, length-take}
+use mathlib.Core.Path.{_≡_}
+use Prim.Native.Nat.{_-_, _≤_}
+use lib.ListN.{length, take, drop}
 use borrow.Author.Needs.{needs}
 use Rattle.store.proofs.store.Statement.{statement}
 use Rattle.store.proofs.store.Tie as tie
 
-returns : tie.Need-returns
-returns c = not-a-page _ _ _ _ _ _ (c .if1 .taken)
+-- the entry and the name that were found are those of the model's opening
+abbrev Opened : tie.After-opening → Type 0
+Opened c =
+    let s = c .before .before .before .before .before .before .before .before .before .args in
+    granted (c .opening .given .0 .0, padded (take (length (s .path .now) - c .opening .given .0 .1 .0) (drop (c .opening .given .0 .1 .0) (s .path .now)))) ≡ opening (s .image .now) (s .path .now) (s .date .now)
+
+opened : (c : tie.After-opening) → Opened c
+opened c = rw (c .opening .given .1) at (c .before .before .find-opening .ensures .1)
+
+-- pages enough are free
+enough : (c : tie.Else2) → let s = c .before .before .before .before .before .before .before .before .before .before .before .before .args in pagesFor (length (s .content .now)) ≤ freeCount (s .image .now)
+enough c = search not-less
+
+-- no line stopped the store
+abbrev Passes : tie.Else3 → Type 0
+Passes c =
+    let s = c .before .before .before .before .before .before .before .before .before .before .before .before .before .before .before .args in
+    Passed (s .image .now) (s .path .now) (s .date .now) (s .content .now) (s .number) (s .page .now) (c .before .before .before .before .before .before .opening .given .0 .0) (c .before .before .before .before .before .before .opening .given .0 .1 .0) (c .before .before .pages-for .result)
+
+passed : (c : tie.Else3) → Passes c
+passed c = record { paged = c .before .before .before .before .before .before .before .before .before .if1 .left; placed = opened (c .before .before .before .before .before .before); enough = enough (c .before .before .before); pages = c .before .before .pages-for .ensures; number = omega arith }
 
 returns-2 : tie.Need-returns-2
-returns-2 c =
-    let args = c .before .before .before .before .before .before .before .before .before .before .args in
-    let if1 = c .before .before .before .before .if1 in
-    let find-opening = c .before .before .before .find-opening in
-    let enum-told = c .before .enum-told in
-    let refusal-of = c .refusal-of in
-    store-refused _ _ _ _ _ _ (if1 .left) (stopped-refused (args .path .now) (find-opening .result) _ (enum-told .given .1) (refusal-of .ensures) (find-opening .ensures .1))
+returns-2 c = store-refused _ _ _ _ _ _ (search needs) (search stopped-refused)
 
 lacks-pages-requires : tie.Need-lacks-pages-requires
-lacks-pages-requires c κs = long _ _ _ [] (rw (c .before .opening .given .1) at (c .before .before .before .find-opening .ensures .1))
+lacks-pages-requires c κs = long _ _ _ (opened (c .before))
 
 returns-3 : tie.Need-returns-3
-returns-3 c =
-    let if1 = c .before .before .before .before .before .before .if1 in
-    let find-opening = c .before .before .before .before .before .find-opening in
-    let opening = c .before .before .before .opening in
-    let lacks-pages = c .before .lacks-pages in
-    let if2 = c .if2 in
-    store-lacking _ _ _ _ _ _ (if1 .left) (rw (opening .given .1) at (find-opening .ensures .1)) (is-less _ _ _ (lacks-pages .ensures) (if2 .taken))
+returns-3 c = store-lacking _ _ _ _ _ _ (search needs) (opened (c .before .before .before)) (search is-less)
 
 store-count-requires : tie.Need-store-count-requires
-store-count-requires c κs =
-    let args = c .before .before .before .before .before .before .before .before .before .before .before .before .before .args in
-    let find-opening = c .before .before .before .before .before .before .find-opening in
-    let opening = c .before .before .before .before .opening in
-    let lacks-pages = c .before .before .lacks-pages in
-    let if2 = c .before .if2 in
-    let pages-for = c .pages-for in
-    omega (arith, pages-for .ensures, pages-few _ _ _ (args .content .now) (rw (opening .given .1) at (find-opening .ensures .1)) (not-less _ _ _ (lacks-pages .ensures) (if2 .left)))
+store-count-requires c κs = omega (arith, free-few _ _ _ (opened (c .before .before .before .before)), enough (c .before))
 
 returns-4 : tie.Need-returns-4
-returns-4 c =
-    let if1 = c .before .before .before .before .before .before .before .before .before .if1 in
-    let find-opening = c .before .before .before .before .before .before .before .before .find-opening in
-    let opening = c .before .before .before .before .before .before .opening in
-    let lacks-pages = c .before .before .before .before .lacks-pages in
-    let if2 = c .before .before .before .if2 in
-    let pages-for = c .before .before .pages-for in
-    let store-count = c .before .store-count in
-    let if3 = c .if3 in
-    store-past _ _ _ _ _ _ (if1 .left) (rw (opening .given .1) at (find-opening .ensures .1)) (not-less _ _ _ (lacks-pages .ensures) (if2 .left)) _ _ (pages-for .ensures) (store-count .ensures) (if3 .taken)
+returns-4 c = store-past _ _ _ _ _ _ (search needs) (opened (c .before .before .before .before .before .before)) (enough (c .before .before .before)) _ _ (c .before .before .pages-for .ensures) (c .before .store-count .ensures) (search needs)
 
 store-content-requires : tie.Need-store-content-requires
-store-content-requires c κs =
-    let args = c .before .before .before .before .before .before .before .before .before .before .before .before .before .before .before .before .before .args in
-    let if1 = c .before .before .before .before .before .before .before .before .before .before .before .if1 in
-    let find-opening = c .before .before .before .before .before .before .before .before .before .before .find-opening in
-    let opening = c .before .before .before .before .before .before .before .before .opening in
-    let lacks-pages = c .before .before .before .before .before .before .lacks-pages in
-    let if2 = c .before .before .before .before .before .if2 in
-    let pages-for = c .before .before .before .before .pages-for in
-    let if4 = c .before .if4 in (
-      storing _ _ _ (args .content .now) (rw (opening .given .1) at (find-opening .ensures .1)) (not-less _ _ _ (lacks-pages .ensures) (if2 .left)),
-      omega (arith, if4 .taken, pages-for .ensures),
-      if1 .left,
-    )
+store-content-requires c κs = (can-store (passed (c .before .before)), omega arith, search needs)
 
 returns-5 : tie.Need-returns-5
-returns-5 c =
-    let if1 = c .before .before .before .before .before .before .before .before .before .before .before .before .before .before .if1 in
-    let find-opening = c .before .before .before .before .before .before .before .before .before .before .before .before .before .find-opening in
-    let opening = c .before .before .before .before .before .before .before .before .before .before .before .opening in
-    let lacks-pages = c .before .before .before .before .before .before .before .before .before .lacks-pages in
-    let if2 = c .before .before .before .before .before .before .before .before .if2 in
-    let pages-for = c .before .before .before .before .before .before .before .pages-for in
-    let store-count = c .before .before .before .before .before .before .store-count in
-    let if3 = c .before .before .before .before .before .if3 in
-    let if4 = c .before .before .before .before .if4 in
-    let store-content = c .before .before .store-content in
-    content-done _ _ _ _ _ _ (if1 .left) (rw (opening .given .1) at (find-opening .ensures .1)) (not-less _ _ _ (lacks-pages .ensures) (if2 .left)) _ _ (pages-for .ensures) (store-count .ensures) (if3 .left) (if4 .taken) _ _ (store-content .ensures .0) (store-content .ensures .1)
+returns-5 c = content-stored (passed (c .before .before .before .before .before)) (search needs) (search needs) (search needs)
 
 sub-pad : tie.Need-sub-pad
-sub-pad c =
-    let find-opening = c .before .before .before .before .before .before .before .before .before .find-opening in
-    let opening = c .before .before .before .before .before .before .before .opening in
-    (rw (opening .given .1) at (find-opening .ensures .0)) .0
+sub-pad c = search begins-in
 
 part-pad-start : tie.Need-part-pad-start
-part-pad-start c =
-    let find-opening = c .before .before .before .before .before .before .before .before .before .find-opening in
-    let opening = c .before .before .before .before .before .before .before .opening in
-    (rw (opening .given .1) at (find-opening .ensures .0)) .0
+part-pad-start c = search begins-in
 
 pad-requires : tie.Need-pad-requires
-pad-requires c κs =
-    let find-opening = c .before .before .before .before .before .before .before .before .before .before .find-opening in
-    let opening = c .before .before .before .before .before .before .before .before .opening in
-    let s = rw (opening .given .1) at (find-opening .ensures .0) in simp length-take (omega (arith, s .1))
+pad-requires c κs = search name-fits
 
 entry-bytes-requires : tie.Need-entry-bytes-requires
-entry-bytes-requires c κs =
-    let args = c .before .before .before .before .before .before .before .before .before .before .before .before .before .before .before .before .before .before .before .args in
-    let find-opening = c .before .before .before .before .before .before .before .before .before .before .before .before .find-opening in
-    let opening = c .before .before .before .before .before .before .before .before .before .before .opening in
-    let lacks-pages = c .before .before .before .before .before .before .before .before .lacks-pages in
-    let if2 = c .before .before .before .before .before .before .before .if2 in
-    let pad = c .before .pad in
-    let v = args .content .now in
-    let e = rw (opening .given .1) at (find-opening .ensures .1) in
-    let l = not-less _ _ _ (lacks-pages .ensures) (if2 .left) in
-    (ap length (pad .ensures) ∙ named _ _ _ v e l, dated _ _ _ v e l, storing _ _ _ v e l)
+entry-bytes-requires c κs = let p = passed (c .before .before .before .before) in (name-long p (c .before .pad .ensures), date-long p, can-store p)
 
 store-header-requires : tie.Need-store-header-requires
-store-header-requires c κs =
-    let args = c .before .before .before .before .before .before .before .before .before .before .before .before .before .before .before .before .before .before .before .before .before .before .before .args in
-    let if1 = c .before .before .before .before .before .before .before .before .before .before .before .before .before .before .before .before .before .if1 in
-    let find-opening = c .before .before .before .before .before .before .before .before .before .before .before .before .before .before .before .before .find-opening in
-    let opening = c .before .before .before .before .before .before .before .before .before .before .before .before .before .before .opening in
-    let lacks-pages = c .before .before .before .before .before .before .before .before .before .before .before .before .lacks-pages in
-    let if2 = c .before .before .before .before .before .before .before .before .before .before .before .if2 in
-    let pages-for = c .before .before .before .before .before .before .before .before .before .before .pages-for in
-    let pad = c .before .before .before .before .before .pad in
-    let entry-bytes = c .before .before .before .entry-bytes in
-    let v = args .content .now in
-    let e = rw (opening .given .1) at (find-opening .ensures .1) in
-    let l = not-less _ _ _ (lacks-pages .ensures) (if2 .left) in
-    let long = ap length (entry-bytes .ensures) ∙ entry-length _ _ _ _ (ap length (pad .ensures) ∙ named _ _ _ v e l) (dated _ _ _ v e l) in
-    let s = storing _ _ _ v e l in
-    (omega (arith, s .whole, s .low), s .high, omega (arith, pages-for .ensures, s .counted), long, if1 .left, λ u. omega (arith, u, on-page _ _ _ v e l))
+store-header-requires c κs = let p = passed (c .before .before .before .before .before .before .before .before) in (header-fits p .0, header-fits p .1, header-fits p .2, entry-long p (c .before .before .before .before .before .pad .ensures) (c .before .before .before .entry-bytes .ensures), c .before .before .before .before .before .before .before .before .before .before .before .before .before .before .before .before .before .if1 .left, in-root p)
 
 returns-6 : tie.Need-returns-6
-returns-6 c =
-    let if1 = c .before .before .before .before .before .before .before .before .before .before .before .before .before .before .before .before .before .before .before .before .if1 in
-    let find-opening = c .before .before .before .before .before .before .before .before .before .before .before .before .before .before .before .before .before .before .before .find-opening in
-    let opening = c .before .before .before .before .before .before .before .before .before .before .before .before .before .before .before .before .before .opening in
-    let lacks-pages = c .before .before .before .before .before .before .before .before .before .before .before .before .before .before .before .lacks-pages in
-    let if2 = c .before .before .before .before .before .before .before .before .before .before .before .before .before .before .if2 in
-    let pages-for = c .before .before .before .before .before .before .before .before .before .before .before .before .before .pages-for in
-    let store-count = c .before .before .before .before .before .before .before .before .before .before .before .before .store-count in
-    let if3 = c .before .before .before .before .before .before .before .before .before .before .before .if3 in
-    let pad = c .before .before .before .before .before .before .before .before .pad in
-    let entry-bytes = c .before .before .before .before .before .before .entry-bytes in
-    let if5 = c .before .before .before .before .before .if5 in
-    let store-header = c .before .before .store-header in
-    header-done _ _ _ _ _ _ (if1 .left) (rw (opening .given .1) at (find-opening .ensures .1)) (not-less _ _ _ (lacks-pages .ensures) (if2 .left)) _ _ (pages-for .ensures) (store-count .ensures) (if3 .left) _ _ (pad .ensures) (entry-bytes .ensures) (if5 .taken) _ (store-header .ensures)
+returns-6 c = header-stored (passed (c .before .before .before .before .before .before .before .before .before .before .before)) (c .before .before .before .before .before .before .before .before .pad .ensures) (c .before .before .before .before .before .before .entry-bytes .ensures) (search needs) (search needs)
 
 store-parent-requires : tie.Need-store-parent-requires
-store-parent-requires c κs =
-    let args = c .before .before .before .before .before .before .before .before .before .before .before .before .before .before .before .before .before .before .before .before .before .before .before .args in
-    let if1 = c .before .before .before .before .before .before .before .before .before .before .before .before .before .before .before .before .before .if1 in
-    let find-opening = c .before .before .before .before .before .before .before .before .before .before .before .before .before .before .before .before .find-opening in
-    let opening = c .before .before .before .before .before .before .before .before .before .before .before .before .before .before .opening in
-    let lacks-pages = c .before .before .before .before .before .before .before .before .before .before .before .before .lacks-pages in
-    let if2 = c .before .before .before .before .before .before .before .before .before .before .before .if2 in
-    let pad = c .before .before .before .before .before .pad in
-    let entry-bytes = c .before .before .before .entry-bytes in
-    let v = args .content .now in
-    let e = rw (opening .given .1) at (find-opening .ensures .1) in
-    let l = not-less _ _ _ (lacks-pages .ensures) (if2 .left) in
-    let long = ap length (entry-bytes .ensures) ∙ entry-length _ _ _ _ (ap length (pad .ensures) ∙ named _ _ _ v e l) (dated _ _ _ v e l) in
-    (long, if1 .left, in-image _ _ _ v e l, on-page _ _ _ v e l)
+store-parent-requires c κs = let p = passed (c .before .before .before .before .before .before .before .before) in (entry-long p (c .before .before .before .before .before .pad .ensures) (c .before .before .before .entry-bytes .ensures), c .before .before .before .before .before .before .before .before .before .before .before .before .before .before .before .before .before .if1 .left, on-parent p .0, on-parent p .1)
 
 returns-7 : tie.Need-returns-7
-returns-7 c =
-    let if1 = c .before .before .before .before .before .before .before .before .before .before .before .before .before .before .before .before .before .before .before .before .if1 in
-    let find-opening = c .before .before .before .before .before .before .before .before .before .before .before .before .before .before .before .before .before .before .before .find-opening in
-    let opening = c .before .before .before .before .before .before .before .before .before .before .before .before .before .before .before .before .before .opening in
-    let lacks-pages = c .before .before .before .before .before .before .before .before .before .before .before .before .before .before .before .lacks-pages in
-    let if2 = c .before .before .before .before .before .before .before .before .before .before .before .before .before .before .if2 in
-    let pages-for = c .before .before .before .before .before .before .before .before .before .before .before .before .before .pages-for in
-    let store-count = c .before .before .before .before .before .before .before .before .before .before .before .before .store-count in
-    let if3 = c .before .before .before .before .before .before .before .before .before .before .before .if3 in
-    let if4 = c .before .before .before .before .before .before .before .before .before .before .if4 in
-    let pad = c .before .before .before .before .before .before .before .before .pad in
-    let entry-bytes = c .before .before .before .before .before .before .entry-bytes in
-    let if5 = c .before .before .before .before .before .if5 in
-    let store-parent = c .before .before .store-parent in
-    parent-done _ _ _ _ _ _ (if1 .left) (rw (opening .given .1) at (find-opening .ensures .1)) (not-less _ _ _ (lacks-pages .ensures) (if2 .left)) _ _ (pages-for .ensures) (store-count .ensures) (if3 .left) _ _ (pad .ensures) (entry-bytes .ensures) (if4 .left) (if5 .left) _ _ (store-parent .ensures .0) (store-parent .ensures .1)
+returns-7 c = parent-stored (passed (c .before .before .before .before .before .before .before .before .before .before .before)) (c .before .before .before .before .before .before .before .before .pad .ensures) (c .before .before .before .before .before .before .entry-bytes .ensures) (search needs) (search needs) (search needs) (search needs)
 
 pub store-spec : {M : Type 1} → statement M
 store-spec =
     tie.close
     (tie.spec
-    returns
+    (λ c. not-a-page _ _ _ _ _ _ (c .if1 .taken))
     (λ c κs. search needs)
     (λ c. search needs)
     (λ c. search needs)
