@@ -5,3 +5,4 @@ pub mod Placed
 pub mod Depth
 pub mod Walk
 pub mod Rest
+pub mod Owned

@@ -168,10 +168,16 @@ module _ (b : Bytes) (m : List ℕ) where
 
 module _ (b : Bytes) (m : List ℕ) (byte : ℕ) (so-far : lostFrom b m (length m) 1 ≡ lostFrom b m (length m) (max 1 (8 * byte))) where
   -- the answer for the pages of that byte is q
-  module _ (more : 8 * byte < length m) (from to : ℕ) (low : from ≡ max 1 (8 * byte)) (high : to ≡ min (8 * byte + 8) (length m))
-      (q : Check) (here : outcome q m ≡ lostOr (clean m) (lostFrom b m to from)) where
+  module _ (more : 8 * byte < length m) (q : Check)
+      (here : outcome q m ≡ lostOr (clean m) (lostFrom b m (min (8 * byte + 8) (length m)) (max 1 (8 * byte)))) where
+    abbrev from : ℕ
+    from = max 1 (8 * byte)
+
+    abbrev to : ℕ
+    to = min (8 * byte + 8) (length m)
+
     split : lostFrom b m (length m) 1 ≡ orElse (lostFrom b m to from) (lostFrom b m (length m) to)
-    split = so-far ∙ rw (← low) (lost-on b m to (length m) from (omega arith) (omega arith))
+    split = so-far ∙ lost-on b m to (length m) from (omega arith) (omega arith)
 
     pub byte-faulty : length m ≡ pageCount b → (x : Fault) → q ≡ Faulty x → fault (faultOf x) ≡ lostOr (clean m) (lostFrom b m (pageCount b) 1)
     byte-faulty each x e = rw (← each, split) (some-faulty b m (lostFrom b m to from) (lostFrom b m (length m) to) (fault-of m here e))
@@ -181,7 +187,7 @@ module _ (b : Bytes) (m : List ℕ) (byte : ℕ) (so-far : lostFrom b m (length 
     byte-clean e clear step c s =
         let next : byte + 1 ≡ byte + step = omega arith in
         split ∙ some-clean b m (lostFrom b m to from) (lostFrom b m (length m) to) (clean-of here e)
-        ∙ ap (lostFrom b m (length m)) high ∙ behind-byte b m (length m) byte ∙ ap (λ (k : ℕ). lostFrom b m (length m) (max 1 (8 * k))) next
+        ∙ behind-byte b m (length m) byte ∙ ap (λ (k : ℕ). lostFrom b m (length m) (max 1 (8 * k))) next
 
   pub bytes-clear : (clear step : ℕ) → Clear b byte clear → clear ≢ 0 → step ≡ max 1 clear
       → lostFrom b m (length m) 1 ≡ lostFrom b m (length m) (max 1 (8 * (byte + step)))

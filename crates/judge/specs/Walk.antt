@@ -1,7 +1,7 @@
 -- What the judges' contracts name besides the model's definitions: the owner marks that are lent, and the entries before one.
 use mathlib.Core.Path.{_≡_}
 use Prim.Native.Nat.{ℕ, zero, suc, _+_, _-_, _*_, _≤_}
-use mathlib.Core.Bool.{Bool, _&&_}
+use mathlib.Core.Bool.{Bool, true, not, _&&_}
 use mathlib.Core.List.{List, [], _∷_}
 use lib.ListN.{length, getD}
 use lib.Dec.{eqb}
@@ -37,3 +37,8 @@ earlier p (suc i) = position p i ∷ earlier p i
 -- page p is marked in the bitmap and has no owner
 abbrev pub isLost : Bytes → List ℕ → ℕ → Bool
 isLost b marks p = eqb (getD marks p 0) 0 && eqb (pageBit b p) 1
+
+-- the k pages from p on have their owner
+unfoldable pub ownedFrom : List ℕ → (p k : ℕ) → Bool
+ownedFrom marks p zero = true
+ownedFrom marks p (suc k) = not (eqb (getD marks p 0) 0) && ownedFrom marks (p + 1) k

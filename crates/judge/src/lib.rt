@@ -4,7 +4,7 @@
 use fields::Entry;
 use fields::Page;
 ghost use mathlib.Core.Path.{_≡_};
-ghost use Prim.Native.Nat.{ℕ, suc, _+_, _-_, _≤_, _<_};
+ghost use Prim.Native.Nat.{ℕ, suc, _+_, _-_, _*_, _≤_, _<_, min, max};
 ghost use lib.ListN.{length, replicate};
 ghost use Rattle.volume.specs.Bytes.{byteAt};
 ghost use Rattle.volume.specs.Lists.{first, countFrom};
@@ -13,7 +13,7 @@ ghost use Rattle.model.specs.Entry.{entryCount, nameAt, entryAt};
 ghost use Rattle.model.specs.Sound.{isNamed};
 ghost use Rattle.model.specs.Judge.{clean, judgePage, judgeChain, freshName, judgeEntry, judgeDirectory, lostOr, judgeRest, judgeWalk, judge};
 ghost use Rattle.judge.specs.Answers.{faultOf, outcome, findingOf, judgedAs};
-ghost use Rattle.judge.specs.Walk.{Marked, unowned, isLost, position, earlier};
+ghost use Rattle.judge.specs.Walk.{Marked, unowned, isLost, ownedFrom, position, earlier};
 
 // The first fault of an image, with its place; in brackets the number of paper 02 §2, which `refusals` tells.
 pub enum Fault {
@@ -210,8 +210,40 @@ fn lost_among(image: &[u8], marks: &[u8], from: usize, to: usize) -> Check
     Check::Clean
 }
 
-// The lowest of all, a byte of the bitmap at a time, or a word: where no bit is set no page is lost. The header is no such page: `judge_rest`
-// asks for its bit.
+// The eight pages from `from` on have their owner. There is no early end, so that all eight are looked at at once.
+fn eight_are_owned(marks: &[u8], from: usize) -> bool
+    requires { ⌜ from + 8 ≤ length (now marks) ⌝ }
+    ensures { λ r. ⌜ r ≡ ownedFrom (now (marks .entry)) from 8 ⌝ }
+{
+    let mut owned = true;
+    for i in 0..8 {
+        owned = owned & (marks[from + i] != 0);
+    }
+    owned
+}
+
+// The lowest lost page among those of one byte of the bitmap. The header is no such page: `judge_rest` asks for its bit.
+fn lost_in_byte(image: &[u8], marks: &[u8], byte: usize) -> Check
+    requires { ⌜ Marked (now image) (now marks) × (8 * byte < length (now marks)) ⌝ }
+    ensures { λ r. ⌜ outcome r (now (marks .entry))
+        ≡ lostOr (clean (now (marks .entry))) (first (isLost (now (image .entry)) (now (marks .entry)))
+        (countFrom (max 1 (8 * byte)) (min (8 * byte + 8) (length (now (marks .entry))) - max 1 (8 * byte)))) ⌝ }
+{
+    let from = 8 * byte;
+    if from + 8 <= marks.len() {
+        if eight_are_owned(marks, from) {
+            return Check::Clean;
+        }
+    }
+    lost_among(
+        image,
+        marks,
+        fields::larger(1, from),
+        fields::least(from + 8, marks.len()),
+    )
+}
+
+// The lowest of all, a byte of the bitmap at a time, or a word: where no bit is set no page is lost.
 fn lost_page(image: &[u8], marks: &[u8]) -> Check
     requires { ⌜ Marked (now image) (now marks) ⌝ }
     ensures { λ r. ⌜ outcome r (now (marks .entry))
@@ -223,12 +255,7 @@ fn lost_page(image: &[u8], marks: &[u8]) -> Check
     while 8 * byte < n {
         let clear = bitmap::clear_bytes(image, byte);
         if clear == 0 {
-            let lost = lost_among(
-                image,
-                marks,
-                fields::larger(1, 8 * byte),
-                fields::least(8 * byte + 8, n),
-            );
+            let lost = lost_in_byte(image, marks, byte);
             if let Check::Faulty(fault) = lost {
                 return Check::Faulty(fault);
             }

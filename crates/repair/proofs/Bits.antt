@@ -26,7 +26,7 @@ module _ (g : Geometry) where
   set-out true p b = mark-out g p b
   set-out false p b = unmark-out g p b
 
-  set-other : (c : Bool) (b : Bytes) (p q : ℕ) → bitmapByte g p < length b → q ≢ p → pageBit g (set-bit c p b) q ≡ pageBit g b q
+  pub set-other : (c : Bool) (b : Bytes) (p q : ℕ) → bitmapByte g p < length b → q ≢ p → pageBit g (set-bit c p b) q ≡ pageBit g b q
   set-other true = mark-other g
   set-other false = unmark-other g
 
@@ -39,7 +39,7 @@ module _ (g : Geometry) where
   set-here true b p h = record { yes = λ t. mark-here g b p h; no = λ t. absurd t }
   set-here false b p h = record { yes = λ t. absurd t; no = λ t. unmark-here g b p h }
 
-  set-again : (c : Bool) (p : ℕ) (b : Bytes) → Says c (pageBit g b p) → set-bit c p b ≡ b
+  pub set-again : (c : Bool) (p : ℕ) (b : Bytes) → Says c (pageBit g b p) → set-bit c p b ≡ b
   set-again true p b s = mark-again g p b (s .yes tt)
   set-again false p b s = unmark-again g p b (s .no tt)
 

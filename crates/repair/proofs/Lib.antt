@@ -3,5 +3,6 @@ pub mod WalkFaults
 pub mod Mended
 pub mod Repairs
 pub mod Taken
+pub mod Right
 pub mod Mending
 pub mod Table

@@ -25,7 +25,7 @@ use Rattle.repair.proofs.Repairs.{of-not, repair-granted, by-length, by
 use Rattle.repair.specs.Taken.{isTaken}
 use Rattle.repair.proofs.Taken.{taken-header, taken-mark}
 
-of-true : {c : Bool} → c ≡ true → T c
+pub of-true : {c : Bool} → c ≡ true → T c
 of-true e = subst (λ (x : Bool). T x) (sym e) tt
 
 true-of : (c : Bool) → T c → true ≡ c

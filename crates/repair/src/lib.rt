@@ -14,7 +14,7 @@ ghost use Rattle.model.specs.Layout.{version1, pageCount, validLength, validHea
 ghost use Rattle.judge.specs.Walk.{Marked};
 ghost use Rattle.repair.specs.Remark.{remarked, recounted};
 ghost use Rattle.repair.specs.Repair.{repairAnswer, repairAfter};
-ghost use Rattle.repair.specs.Taken.{isTaken};
+ghost use Rattle.repair.specs.Taken.{isTaken, Shown, Right};
 ghost use Rattle.answers.specs.Answers.{changeAnswer};
 
 // The header, or a page that has its owner mark.
@@ -39,15 +39,38 @@ fn set_bit(image: &mut [u8], page: Page, taken: bool)
     bitmap::unmark(image, page);
 }
 
+// How many pages from p on are seen to have the right bit: one that has its owner, or those of bytes in which no bit is set. Each owned page has its
+// bit, so these pages have no owner. Of the header nothing is seen.
+fn right_pages(image: &[u8], marks: &[u8], p: usize) -> usize
+    requires { ⌜ (p < length (now marks)) × (length (now marks) ≤ 256) × (44 ≤ length (now image)) × Shown (now image) (now marks) p ⌝ }
+    ensures { λ r. ⌜ Right (now (image .entry)) (now (marks .entry)) p r × (r ≤ 64) ⌝ }
+{
+    if p == 0 {
+        return 0;
+    }
+    if marks[p] != 0 {
+        return 1;
+    }
+    if p % 8 != 0 {
+        return 0;
+    }
+    8 * bitmap::clear_bytes(image, p / 8)
+}
+
 // Sets the bit of each page that has a mark to what that says, and counts the zero bits. The header is marked, so a byte holds their number.
 fn remark(image: &mut [u8], marks: &[u8])
-    requires { ⌜ (1 ≤ length (now marks)) × (length (now marks) ≤ 256) × (36 ≤ length (now image)) ⌝ }
+    requires { ⌜ (1 ≤ length (now marks)) × (length (now marks) ≤ 256) × (44 ≤ length (now image)) × Shown (now image) (now marks) 0 ⌝ }
     ensures { λ _. ⌜ now (image .exit) ≡ recounted version1 (length (now (marks .entry))) (remarked version1 (isTaken (now (marks .entry))) (length (now (marks .entry))) (now (image .entry))) ⌝ }
 {
     let n = marks.len();
-    for p in 0..n {
-        let taken = is_taken(marks, p);
-        set_bit(image, Page(p), taken);
+    let mut p = 0;
+    while p < n {
+        let right = right_pages(image, marks, p);
+        if right == 0 {
+            let taken = is_taken(marks, p);
+            set_bit(image, Page(p), taken);
+        }
+        p += fields::larger(1, right);
     }
     let zeros = bitmap::zero_bits(image, n);
     image[3] = zeros as u8;

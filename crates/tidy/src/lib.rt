@@ -9,12 +9,10 @@ ghost use mathlib.Core.Path.{_≡_};
 ghost use Prim.Native.Nat.{_+_, _-_, _<_, _≤_};
 ghost use mathlib.Core.List.{flatMap};
 ghost use lib.ListN.{length};
-ghost use lib.Dec.{T};
 ghost use Rattle.volume.specs.Lists.{keep, countFrom};
 ghost use Rattle.volume.specs.Chain.{chain};
 ghost use Rattle.volume.proofs.Occ.{Under};
 ghost use Rattle.model.specs.Layout.{pageCount, link};
-ghost use Rattle.model.specs.Sound.{sound};
 ghost use Rattle.moves.specs.Tidy.{tidyAnswer, tidyAfter};
 ghost use Rattle.moves.specs.Propose.{fileFrom, isOther, order, numbered, proposeAnswer, proposeAfter};
 ghost use Rattle.proposals.specs.Steps.{Judged, otherAt};
@@ -47,27 +45,31 @@ fn tidy_judged(image: &[u8], owners: &[usize], places: &[u8], target: &mut [u8])
     TidyAnswer::Done
 }
 
-// On a sound image. The second judge tells the owners.
-fn tidy_sound(image: &[u8], places: &[u8], target: &mut [u8]) -> TidyAnswer
-    requires { ⌜ T (sound (now image)) ⌝ }
+// On a sound image and the owners of its pages.
+fn tidy_sound(image: &[u8], owners: &[usize], places: &[u8], target: &mut [u8]) -> TidyAnswer
+    requires { ⌜ Judged (now image) (now owners) ⌝ }
     ensures { λ r. ⌜ answerOf r ≡ tidyAnswer (now (image .entry)) (now (places .entry)) (now (target .entry)) ⌝ }
     ensures { λ _. ⌜ now (target .exit) ≡ tidyAfter (now (image .entry)) (now (places .entry)) (now (target .entry)) ⌝ }
 {
     if target.len() != image.len() {
         return TidyAnswer::OtherLength;
     }
-    let findings = audit::audit(image);
-    let owners = findings.owners;
-    tidy_judged(image, &owners, places, target)
+    tidy_judged(image, owners, places, target)
 }
 
-// Writes the image to the target with its pages where the proposal puts them, if it is accepted. The verdict's refusals come first.
+// Writes the image to the target with its pages where the proposal puts them, if it is accepted. The verdict's refusals come first: the second judge,
+// which tells the owners, is asked once, and the first only for the fault of an image that is not sound.
 pub fn tidy(image: &[u8], places: &[u8], target: &mut [u8]) -> TidyAnswer
     ensures { λ r. ⌜ answerOf r ≡ tidyAnswer (now (image .entry)) (now (places .entry)) (now (target .entry)) ⌝ }
     ensures { λ _. ⌜ now (target .exit) ≡ tidyAfter (now (image .entry)) (now (places .entry)) (now (target .entry)) ⌝ }
 {
+    let findings = audit::audit(image);
+    if findings.sound {
+        let owners = findings.owners;
+        return tidy_sound(image, &owners, places, target);
+    }
     match zealfs::verdict(image) {
-        VerdictAnswer::Sound(pages, free) => tidy_sound(image, places, target),
+        VerdictAnswer::Sound(pages, free) => TidyAnswer::NotAccepted,
         VerdictAnswer::Refused(r) => TidyAnswer::Refused(r),
     }
 }
@@ -174,28 +176,31 @@ fn number_pages(image: &[u8], owners: &[usize], row: &mut [u8])
     number_others(image, owners, row, next);
 }
 
-// On a sound image.
-fn propose_sound(image: &[u8], places: &mut [u8]) -> TidyAnswer
-    requires { ⌜ T (sound (now image)) ⌝ }
+// On a sound image and the owners of its pages.
+fn propose_sound(image: &[u8], owners: &[usize], places: &mut [u8]) -> TidyAnswer
+    requires { ⌜ Judged (now image) (now owners) ⌝ }
     ensures { λ r. ⌜ answerOf r ≡ proposeAnswer (now (image .entry)) (now (places .entry)) ⌝ }
     ensures { λ _. ⌜ now (places .exit) ≡ proposeAfter (now (image .entry)) (now (places .entry)) ⌝ }
 {
     if places.len() != fields::page_count(image.len()) {
         return TidyAnswer::NotAccepted;
     }
-    let findings = audit::audit(image);
-    let owners = findings.owners;
-    number_pages(image, &owners, places);
+    number_pages(image, owners, places);
     TidyAnswer::Done
 }
 
-// Our own helper: on any sound image it puts an accepted proposal into a row of N numbers.
+// Our own helper: on any sound image it puts an accepted proposal into a row of N numbers. The judges are asked as by `tidy`.
 pub fn propose(image: &[u8], places: &mut [u8]) -> TidyAnswer
     ensures { λ r. ⌜ answerOf r ≡ proposeAnswer (now (image .entry)) (now (places .entry)) ⌝ }
     ensures { λ _. ⌜ now (places .exit) ≡ proposeAfter (now (image .entry)) (now (places .entry)) ⌝ }
 {
+    let findings = audit::audit(image);
+    if findings.sound {
+        let owners = findings.owners;
+        return propose_sound(image, &owners, places);
+    }
     match zealfs::verdict(image) {
-        VerdictAnswer::Sound(pages, free) => propose_sound(image, places),
+        VerdictAnswer::Sound(pages, free) => TidyAnswer::NotAccepted,
         VerdictAnswer::Refused(r) => TidyAnswer::Refused(r),
     }
 }

@@ -1,7 +1,9 @@
 -- `mend` is the walk, and on a clean one the bits set by its marks.
 use Rattle.fields.proofs.Plain.{arith, needs}
 use Rattle.judge.proofs.Marks.{clean-of, fault-of}
-use Rattle.repair.proofs.Mending.{refused-walk, granted-walk}
+use Rattle.laws.proofs.Facts.{valid-sized}
+use Rattle.repair.proofs.Mending.{of-true, refused-walk, granted-walk}
+use Rattle.repair.proofs.Right.{walk-shown}
 use Rattle.repair.proofs.mend as fn
 
 pub mend-spec : {M : Type 1} → fn.Statement.statement M
@@ -11,7 +13,19 @@ mend-spec = fn.Tie.close (fn.Tie.spec
     (λ c.
     let pre = c .before .before .before .before .before .before .before .before .before .before .pre in
     refused-walk _ (pre .0) (pre .1) _ (fault-of _ (c .before .before .before .before .before .own-pages .ensures) (c .before .walked .given .1)))
-    (λ c. search needs) (λ c. search needs) (λ c. search needs) (λ c. search needs)
+    (λ c. search needs)
+    (λ c κs.
+    let told = c .before .before in
+    let own-pages = told .before .before .before .before in
+    let start = own-pages .before .before .before .before .before in
+    let pre = start .pre in
+    let sized = valid-sized (start .args .image .now) (of-true (pre .0)) in (
+      omega (arith, own-pages .own-pages .kept, pre .2 .low),
+      omega (arith, own-pages .own-pages .kept, pre .2 .high),
+      omega (arith, sized .low, sized .whole),
+      walk-shown _ _ (clean-of (own-pages .own-pages .ensures) (told .enum-told .given .1)) (omega (arith, own-pages .own-pages .kept, pre .2 .each)),
+    ))
+    (λ c. search needs) (λ c. search needs)
     (λ c.
     let told = c .before .before .before .before .before in
     let own-pages = told .before .before .before .before in

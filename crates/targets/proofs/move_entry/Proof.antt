@@ -8,15 +8,15 @@ use Rattle.targets.proofs.move_entry.Tie as tie
 returns : tie.Need-returns
 returns c =
     let if1 = c .before .before in
-    let copy-in = if1 .before .before .before .before in
-    let start = copy-in .before .before .before .before .before .before in
-    entry-follows _ _ _ _ _ _ _ refl (start .pre .0) (start .pre .1) (copy-in .copy-in .ensures) (if1 .if1 .taken) _ (c .new-place .ensures)
+    let copy-entry = if1 .before .before .before .before in
+    let start = copy-entry .before .before .before .before .before .before in
+    entry-follows _ _ _ _ _ _ _ refl (start .pre .0) (start .pre .1) (copy-entry .copy-entry .ensures) (if1 .if1 .taken) _ (c .new-place .ensures)
 
 returns-2 : tie.Need-returns-2
 returns-2 c =
-    let copy-in = c .before .before .before .before in
-    let start = copy-in .before .before .before .before .before .before in
-    entry-stays _ _ _ _ _ _ _ refl (start .pre .0) (start .pre .1) (copy-in .copy-in .ensures) (c .if1 .left)
+    let copy-entry = c .before .before .before .before in
+    let start = copy-entry .before .before .before .before .before .before in
+    entry-stays _ _ _ _ _ _ _ refl (start .pre .0) (start .pre .1) (copy-entry .copy-entry .ensures) (c .if1 .left)
 
 pub move-entry-spec : {M : Type 1} → statement M
 move-entry-spec =

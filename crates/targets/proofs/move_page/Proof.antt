@@ -1,57 +1,104 @@
--- `move_page` goes by the kind of the owner's entry, as `movedAs` does.
 use Rattle.proposals.proofs.Owned.{kind, sized}
 use Rattle.targets.proofs.Laid.{page-free, page-file, page-directory}
 use native.Mathlib.Omega.{arith}
+use mathlib.Core.Path.{_≡_, refl, sym, ap, subst, _∙_}
+use mathlib.Core.Bool.{Bool, true, false, not}
+use mathlib.Core.List.{List, [], _∷_, _++_}
+use mathlib.Core.Logic.{⊎-elim}
+use borrow.Author.Tests.{lt-ltb, le-ltb, le-leb, lt-leb, eq-eqb, ne-eqb}
+use Prim.Native.Nat.{ℕ, zero, suc, _+_, _*_, _-_, _/_, _%_, _<_, _≤_}
+use lib.ListN.{length, getD, set, take, drop, replicate, length-set, length-take, length-drop, length-append}
 use borrow.Author.Needs.{needs}
 use Rattle.targets.proofs.move_page.Statement.{statement}
 use Rattle.targets.proofs.move_page.Tie as tie
+use Rattle.targets.proofs.move_page.Reads as reads
+use Rattle.targets.proofs.move_page.Lts as lts
+use Rattle.proposals.proofs.new_place.Reads as new-place-reads
+use Rattle.proposals.proofs.owner_entry.Reads as owner-entry-reads
+use Rattle.targets.proofs.copy_page.Reads as copy-page-reads
+use Rattle.targets.proofs.move_entries.Reads as move-entries-reads
 
+-- src/lib.rt:90:11
+owner-entry-requires : tie.Need-owner-entry-requires
+owner-entry-requires c κs = search needs
+
+-- src/lib.rt:91:49
+enum-told : tie.Need-enum-told
+enum-told c = search needs
+
+-- src/lib.rt:91:26
+copy-page-requires : tie.Need-copy-page-requires
+copy-page-requires c κs = search needs
+
+-- src/lib.rt:92:21
+enum-known-start : tie.Need-enum-known-start
+enum-known-start c = search needs
+
+-- src/lib.rt:93:13
+copy-page-requires-2 : tie.Need-copy-page-requires-2
+copy-page-requires-2 c κs = search needs
+
+-- src/lib.rt:94:55
+slice-read-new-place : tie.Need-slice-read-new-place
+slice-read-new-place c = search needs
+
+-- src/lib.rt:94:26
+new-place-requires : tie.Need-new-place-requires
+new-place-requires c κs = search needs
+
+-- src/lib.rt:94:13
+slice-write-stretch : tie.Need-slice-write-stretch
+slice-write-stretch c = search needs
+
+-- src/lib.rt:96:26
+enum-known-start-2 : tie.Need-enum-known-start-2
+enum-known-start-2 c = search needs
+
+-- src/lib.rt:96:42
 move-entries-requires : tie.Need-move-entries-requires
-move-entries-requires c κs =
-    let copy-page = c .before .before .before .before .before .before .before in
-    let start = copy-page .before .before .before .before .before .before in
-    let s = sized (start .pre .0) in
-    (start .pre .2, omega (arith, copy-page .copy-page .kept .1 .1 .0, start .pre .3), s .high)
+move-entries-requires c κs = (c .before .before .before .before .before .before .before .before .before .pre .2, c .before .before .before .before .before .before .before .before .before .pre .3, sized (c .before .before .before .before .before .before .before .before .before .pre .0) .high)
 
+-- src/lib.rt:86:1
+same-length : tie.Need-same-length
+same-length c = search needs
+
+-- src/lib.rt:86:1
 returns : tie.Need-returns
-returns c =
-    let owner-entry = c .before .before in
-    let copy-page = owner-entry .before .before .before in
-    page-free _ _ _ _ (kind _ _ _ (owner-entry .owner-entry .ensures .0) (c .enum-told .given .1)) (copy-page .copy-page .ensures)
+returns c = page-free _ _ _ _ (kind _ _ _ (c .before .before .before .before .before .before .owner-entry .ensures .0) (c .before .before .before .before .enum-told .given .1)) (c .before .before .copy-page .ensures)
 
+-- src/lib.rt:86:1
+same-length-2 : tie.Need-same-length-2
+same-length-2 c = search needs
+
+-- src/lib.rt:86:1
 returns-2 : tie.Need-returns-2
-returns-2 c =
-    let start = c .before .before .before in
-    let owner-entry = start .before .before in
-    let copy-page = owner-entry .before .before .before in
-    let start′ = copy-page .before .before .before .before .before .before in
-    page-file _ _ _ _ _ _ _ _ _ _ (kind _ _ _ (owner-entry .owner-entry .ensures .0) (start .start .given .1))
-    (start′ .pre .2) (copy-page .copy-page .ensures) (c .new-place .ensures)
+returns-2 c = page-file _ _ _ _ _ _ _ _ _ _ (kind _ _ _ (c .before .before .before .before .before .before .before .before .before .owner-entry .ensures .0) (c .before .before .before .before .before .before .before .start .given .1)) (c .before .before .before .before .before .before .before .before .before .before .before .before .before .before .pre .2) (c .before .before .before .before .copy-page2 .ensures) (c .new-place .ensures)
 
+-- src/lib.rt:86:1
+same-length-3 : tie.Need-same-length-3
+same-length-3 c = search needs
+
+-- src/lib.rt:86:1
 returns-3 : tie.Need-returns-3
-returns-3 c =
-    let move-entries = c .before .before in
-    let start2 = move-entries .before .before .before in
-    let owner-entry = start2 .before .before in
-    let start = owner-entry .before .before .before .before .before .before .before .before .before in
-    page-directory _ _ _ _ _ _ _ _ _ (kind _ _ _ (owner-entry .owner-entry .ensures .0) (start2 .start2 .given .1)) (start .pre .1) (move-entries .move-entries .ensures)
+returns-3 c = page-directory _ _ _ _ _ _ _ _ _ (kind _ _ _ (c .before .before .before .before .before .before .before .owner-entry .ensures .0) (c .before .before .before .before .before .start2 .given .1)) (c .before .before .before .before .before .before .before .before .before .before .before .before .pre .1) (c .before .before .move-entries .ensures)
 
 pub move-page-spec : {M : Type 1} → statement M
 move-page-spec =
     tie.close
     (tie.spec
-    (λ c κs. search needs)
-    (λ c κs. search needs)
-    (λ c. search needs)
-    (λ c. search needs)
-    (λ c. search needs)
-    (λ c κs. search needs)
-    (λ c. search needs)
-    (λ c. search needs)
+    owner-entry-requires
+    enum-told
+    copy-page-requires
+    enum-known-start
+    copy-page-requires-2
+    slice-read-new-place
+    new-place-requires
+    slice-write-stretch
+    enum-known-start-2
     move-entries-requires
-    (λ c. search needs)
+    same-length
     returns
-    (λ c. search needs)
+    same-length-2
     returns-2
-    (λ c. search needs)
+    same-length-3
     returns-3)

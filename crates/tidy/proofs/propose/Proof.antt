@@ -1,31 +1,25 @@
--- `propose` passes the verdict's refusal on; a granted verdict says that the image is sound.
+-- `propose` asks the second judge, and passes on what the first refuses an image that is not sound with: both say yes to the same images.
 use Rattle.answers.specs.Answers.{verdictAnswer}
 use Rattle.moves.proofs.Answers.{verdict-sound, propose-stops}
-use mathlib.Core.Path.{sym, ap, _∙_}
+use mathlib.Core.Path.{sym, ap, subst, _∙_}
+use mathlib.Core.Bool.{Bool}
+use lib.Dec.{T}
 use borrow.Author.Needs.{needs}
-use Rattle.tidy.proofs.propose.Statement.{statement}
-use Rattle.tidy.proofs.propose.Tie as tie
-
-verdict-requires : tie.Need-verdict-requires
-verdict-requires c κs = tt
-
-propose-sound-requires : tie.Need-propose-sound-requires
-propose-sound-requires c κs =
-    let pages = c .before .before in
-    let verdict = pages .before .before in
-    verdict-sound _ (sym (verdict .verdict .ensures) ∙ ap verdictAnswer (pages .pages .given .1))
-
-returns-2 : tie.Need-returns-2
-returns-2 c = propose-stops _ _ (sym (c .before .before .before .verdict .ensures) ∙ ap verdictAnswer (c .before .r .given .1))
+use Rattle.tidy.proofs.propose.{Statement.statement, Tie.close, Tie.spec}
 
 pub propose-spec : {M : Type 1} → statement M
-propose-spec =
-    tie.close
-    (tie.spec
-    verdict-requires
+propose-spec = close (spec
+    (λ c κs. search needs)
     (λ c. search needs)
-    propose-sound-requires
-    (λ c. search needs)
-    (λ c. search needs)
-    (λ c. search needs)
-    returns-2)
+    (λ c κs.
+    let audit = c .before .before .before .before in
+    record { isSound = subst (λ (x : Bool). T x) (sym (c .before .before .before .if1 .taken) ∙ audit .audit .ensures .0) tt; named = audit .audit .ensures .1 })
+    (λ c. search needs) (λ c. search needs)
+    (λ c κs. search needs)
+    (λ c. search needs) (λ c. search needs)
+    (λ c.
+    let verdict = c .before .before .before in
+    let test = verdict .before in
+    absurd (subst (λ (x : Bool). T x) (sym (test .before .audit .ensures .0) ∙ test .if1 .left)
+    (verdict-sound _ (sym (verdict .verdict .ensures) ∙ ap verdictAnswer (c .before .pages .given .1)))))
+    (λ c. propose-stops _ _ (sym (c .before .before .before .verdict .ensures) ∙ ap verdictAnswer (c .before .r .given .1))))
