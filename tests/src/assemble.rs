@@ -3,7 +3,7 @@
 
 use crate::plain::tree::{Directory, Entry, Node, Tree};
 use crate::plain::{
-    pages_of_file, BITMAP_AT, CONTENT, DIRECTORY_ENTRIES, ENTRY, PAGE, ROOT_ENTRIES_AT,
+    pages_of_file, BITMAP_AT, CONTENT, DIRECTORY_ENTRIES, ENTRY, PAGE, ROOT_ENTRIES_AT, VERSION_1,
 };
 use crate::random::Random;
 
@@ -102,7 +102,7 @@ impl Assembly<'_> {
         bytes[0] = 0x80 | reserved_flags | kind_bit;
         bytes[1..17].copy_from_slice(&entry.padded_name());
         bytes[17] = start as u8;
-        bytes[18..20].copy_from_slice(&(entry.node.size() as u16).to_le_bytes());
+        bytes[18..20].copy_from_slice(&(entry.node.size(&VERSION_1) as u16).to_le_bytes());
         bytes[20..28].copy_from_slice(&entry.date);
     }
 

@@ -14,17 +14,17 @@ use crate::calls::{
 
 const PAGE: usize = 256;
 const CONTENT: usize = 255;
-const ENTRY: usize = 32;
+pub(crate) const ENTRY: usize = 32;
 const ROOT_AT: usize = 64;
 const BITMAP_AT: usize = 4;
-const OCCUPIED: u8 = 0x80;
-const DIRECTORY: u8 = 0x01;
-const LOCKED: u8 = 0x40;
+pub(crate) const OCCUPIED: u8 = 0x80;
+pub(crate) const DIRECTORY: u8 = 0x01;
+pub(crate) const LOCKED: u8 = 0x40;
 const START: usize = 17;
 const SIZE: usize = 18;
 const DATE: usize = 20;
 
-type Padded = [u8; NAME_BYTES];
+pub(crate) type Padded = [u8; NAME_BYTES];
 
 /// The implementation on bytes.
 pub struct Direct;
@@ -36,7 +36,7 @@ struct Sound {
     free: usize,
 }
 
-fn refuse<T>(number: u8) -> Result<T, Refusal> {
+pub(crate) fn refuse<T>(number: u8) -> Result<T, Refusal> {
     Err(Refusal::number(number))
 }
 
@@ -220,7 +220,7 @@ fn pages_of_file(size: usize) -> usize {
     size.div_ceil(CONTENT).max(1)
 }
 
-fn is_padded_name(name: &[u8]) -> bool {
+pub(crate) fn is_padded_name(name: &[u8]) -> bool {
     let length = name
         .iter()
         .position(|&byte| byte == 0)
@@ -241,10 +241,10 @@ fn size_of(entry: &[u8]) -> usize {
 
 /// A well formed path; the root has no names.
 #[derive(Clone, Copy)]
-struct Path<'a>(&'a [u8]);
+pub(crate) struct Path<'a>(pub(crate) &'a [u8]);
 
 impl<'a> Path<'a> {
-    fn check(path: &'a [u8]) -> Result<Path<'a>, Refusal> {
+    pub(crate) fn check(path: &'a [u8]) -> Result<Path<'a>, Refusal> {
         match path {
             [b'/'] => Ok(Path(&[])),
             [b'/', rest @ ..] => {
@@ -263,20 +263,20 @@ impl<'a> Path<'a> {
     }
 
     /// The path without its last name, and where that name begins.
-    fn split_last(self) -> Option<(Path<'a>, usize, Padded)> {
+    pub(crate) fn split_last(self) -> Option<(Path<'a>, usize, Padded)> {
         let slash = self.0.iter().rposition(|&byte| byte == b'/')?;
         let name = pad(&self.0[slash + 1..]);
         Some((Path(&self.0[..slash]), slash + 1, name))
     }
 }
 
-fn pad(name: &[u8]) -> Padded {
+pub(crate) fn pad(name: &[u8]) -> Padded {
     let mut padded = [0; NAME_BYTES];
     padded[..name.len()].copy_from_slice(name);
     padded
 }
 
-fn check_date(date: &[u8]) -> Result<(), Refusal> {
+pub(crate) fn check_date(date: &[u8]) -> Result<(), Refusal> {
     let is_bcd = |byte: &u8| byte >> 4 <= 9 && byte & 15 <= 9;
     if date.len() != DATE_BYTES || !date.iter().all(is_bcd) {
         return refuse(11);
@@ -426,11 +426,11 @@ fn format(image: &mut [u8]) -> Result<(), Refusal> {
 
 /// What find and list tell of an entry.
 #[derive(Clone, Copy)]
-struct Told {
-    kind: Kind,
-    size: u64,
-    locked: bool,
-    date: [u8; DATE_BYTES],
+pub(crate) struct Told {
+    pub(crate) kind: Kind,
+    pub(crate) size: u64,
+    pub(crate) locked: bool,
+    pub(crate) date: [u8; DATE_BYTES],
 }
 
 fn told(entry: &[u8]) -> Told {
@@ -456,11 +456,11 @@ fn find(image: &[u8], path: &[u8]) -> Result<Told, Refusal> {
 }
 
 /// Whether the flags are those of a locked file.
-fn is_locked(flags: u8) -> bool {
+pub(crate) fn is_locked(flags: u8) -> bool {
     flags & (LOCKED | DIRECTORY) == LOCKED
 }
 
-fn kind_of(entry: &[u8]) -> Kind {
+pub(crate) fn kind_of(entry: &[u8]) -> Kind {
     match entry[0] & DIRECTORY {
         0 => Kind::File,
         _ => Kind::Directory,
@@ -827,7 +827,7 @@ fn audit(image: &[u8]) -> Audit {
 }
 
 /// The answer of a call that has nothing to tell.
-fn done(result: Result<(), Refusal>) -> Answer {
+pub(crate) fn done(result: Result<(), Refusal>) -> Answer {
     result.map(|()| Answer::granted()).into()
 }
 

@@ -6,8 +6,8 @@ use crate::calls::{Call, CALL_COUNT, DATE_BYTES};
 use crate::harness::Scenario;
 use crate::plain::links::{file_of, path_in, rows_of, Row};
 use crate::plain::path::days_in;
-use crate::plain::tree::{Entry, File, Node, Tree};
-use crate::plain::{pages_of_file, Replay, CONTENT, PAGE};
+use crate::plain::tree::{Entry, File, Node, Shape, Tree};
+use crate::plain::{Replay, CONTENT, PAGE};
 use crate::random::Random;
 use crate::rows::{numbers_of, random_row, rows_filling, sorted, spoil_file, spoil_list};
 
@@ -38,14 +38,32 @@ const NAMES: [&[u8]; 23] = [
     b"LINK",
 ];
 
-/// Lengths of content at which pages are gained.
-const LENGTHS: [usize; 14] = [
-    0, 1, 2, 253, 254, 255, 256, 257, 509, 510, 511, 512, 765, 1785,
-];
+/// Lengths at which pages are gained that carry so much content each.
+fn lengths(content: usize) -> [usize; 14] {
+    let (one, two) = (content, 2 * content);
+    [
+        0,
+        1,
+        2,
+        one - 2,
+        one - 1,
+        one,
+        one + 1,
+        one + 2,
+        two - 1,
+        two,
+        two + 1,
+        two + 2,
+        3 * content,
+        7 * content,
+    ]
+}
 
-/// What a list is mostly about: how often each of the calls comes, in the
-/// order of [`Call::index`].
-const PROFILES: [[usize; CALL_COUNT]; 6] = [
+/// How often each of the calls comes, in the order of [`Call::index`].
+pub type Weights = [usize; CALL_COUNT];
+
+/// What a list is mostly about.
+const PROFILES: [Weights; 6] = [
     // Everything.
     [1, 3, 6, 8, 10, 14, 10, 22, 8, 7, 5, 4, 12, 4, 6, 4, 4],
     // Filling up and making room.
@@ -133,7 +151,7 @@ pub fn random_tree(pages: usize, random: &mut Random) -> Tree {
 
 /// The verdict does not judge stored dates, so that any may stand there. A file
 /// may be locked from the beginning.
-fn scramble(entries: &mut [Option<Entry>], random: &mut Random) {
+pub fn scramble(entries: &mut [Option<Entry>], random: &mut Random) {
     for entry in entries.iter_mut().flatten() {
         if random.chance(1, 3) {
             random.fill(&mut entry.date);
@@ -148,18 +166,32 @@ fn scramble(entries: &mut [Option<Entry>], random: &mut Random) {
 /// Makes calls that suit the tree so far, and replays them on it.
 pub struct Generator<'r> {
     pub replay: Replay,
-    random: &'r mut Random,
-    weights: [usize; CALL_COUNT],
+    pub random: &'r mut Random,
+    weights: Weights,
 }
 
 impl<'r> Generator<'r> {
     pub fn new(replay: Replay, random: &'r mut Random) -> Generator<'r> {
         let weights = PROFILES[random.weighted(&[5, 3, 2, 2, 1, 2])];
+        Generator::weighted(replay, random, weights)
+    }
+
+    pub fn weighted(replay: Replay, random: &'r mut Random, weights: Weights) -> Generator<'r> {
         Generator {
             replay,
             random,
             weights,
         }
+    }
+
+    /// What the tree's pages carry.
+    fn shape(&self) -> Shape {
+        self.replay.tree.shape
+    }
+
+    /// A length at which a page is gained, or one about it.
+    fn length(&mut self) -> usize {
+        *self.random.pick(&lengths(self.replay.tree.shape.content))
     }
 
     /// The next call; the tree follows it.
@@ -209,7 +241,7 @@ impl<'r> Generator<'r> {
             2 => rest.saturating_sub(1),
             3 => self.random.below(600),
             4 if self.random.chance(1, 8) => 66_000,
-            _ => *self.random.pick(&LENGTHS),
+            _ => self.length(),
         };
         Call::Read(path, position, self.random.bytes(room))
     }
@@ -218,7 +250,7 @@ impl<'r> Generator<'r> {
         let path = self.new_path();
         let date = self.date();
         let length = self.write_length(0, 0);
-        let stores = pages_of_file(length) as u64;
+        let stores = self.shape().pages_of_file(length) as u64;
         let number = match self.random.below(8) {
             0 => 0,
             1 => stores,
@@ -298,7 +330,7 @@ impl<'r> Generator<'r> {
         if self.random.chance(1, 6) {
             let tree = &self.replay.tree;
             let old = tree.find(&path_in(directory)).map_or(0, |found| {
-                pages_of_file(found.values[1] as usize)
+                tree.shape.pages_of_file(found.values[1] as usize)
             });
             let free = tree.free() + old;
             // A long list takes its time.
@@ -306,7 +338,7 @@ impl<'r> Generator<'r> {
             let length = match self.random.below(3) {
                 0 if !is_far => free * CONTENT,
                 1 if !is_far => free * CONTENT + 1,
-                _ => *self.random.pick(&LENGTHS),
+                _ => self.length(),
             };
             return rows_filling(length);
         }
@@ -363,10 +395,11 @@ impl<'r> Generator<'r> {
     /// Lengths at page boundaries, and those that fill the image exactly or
     /// want one page more.
     fn write_length(&mut self, size: usize, position: u64) -> usize {
-        let pages = pages_of_file(size) + self.replay.tree.free();
-        let room = (pages * CONTENT).saturating_sub(position as usize);
+        let shape = self.shape();
+        let pages = shape.pages_of_file(size) + self.replay.tree.free();
+        let room = (pages * shape.content).saturating_sub(position as usize);
         match self.random.weighted(&[60, 14, 12, 4, 4, 6, 1]) {
-            0 => *self.random.pick(&LENGTHS),
+            0 => self.length(),
             1 => self.random.below(1200),
             2 => room,
             3 => room + 1,
@@ -380,11 +413,12 @@ impl<'r> Generator<'r> {
     fn position(&mut self, size: usize) -> u64 {
         let inside = self.random.below(size + 1) as u64;
         let size = size as u64;
+        let content = self.shape().content as u64;
         match self.random.weighted(&[24, 20, 10, 8, 12, 3, 3]) {
             0 => size,
             1 => 0,
             2 => inside,
-            3 => inside / CONTENT as u64 * CONTENT as u64,
+            3 => inside / content * content,
             4 => size.saturating_sub(1),
             5 => size + 1,
             _ => self.far_position(inside),
@@ -406,10 +440,17 @@ impl<'r> Generator<'r> {
     }
 
     fn entry_number(&mut self) -> u64 {
-        let near = self.random.below(9) as u64;
+        let shape = self.shape();
+        let most = shape.page_entries;
+        let near = self.random.below(most + 1) as u64;
+        // A directory that grows may have more pages.
+        let past = match shape.grows {
+            true => (most * *self.random.pick(&[0, 0, 0, 1, 1, 2, 3])) as u64,
+            false => 0,
+        };
         match self.random.weighted(&[40, 30, 2, 2, 2, 2]) {
-            0 => near,
-            1 => self.random.between(5, 8) as u64,
+            0 => near + past,
+            1 => self.random.between(shape.root_entries - 1, most) as u64 + past,
             2 => near + 256,
             3 => near + (1 << 32),
             4 => u64::MAX - near,
@@ -636,7 +677,7 @@ fn row_named(name: &[u8], figure: u64) -> Option<Row> {
 }
 
 /// The path of `name` in the directory `parent`.
-fn below(parent: &[u8], name: &[u8]) -> Vec<u8> {
+pub fn below(parent: &[u8], name: &[u8]) -> Vec<u8> {
     match parent {
         b"/" => [b"/", name].concat(),
         _ => [parent, b"/", name].concat(),
@@ -664,7 +705,7 @@ const FIELDS: [(usize, usize); DATE_BYTES] = [
 const YEARS: [usize; 12] = [0, 1, 4, 100, 400, 1600, 1900, 2000, 2023, 2024, 2100, 9999];
 
 /// Any good date, often of February and often the last day of its month.
-fn good_date(random: &mut Random) -> [u8; DATE_BYTES] {
+pub fn good_date(random: &mut Random) -> [u8; DATE_BYTES] {
     let mut date = FIELDS.map(|(low, high)| bcd(near_an_end(low, high, random)));
     if random.chance(1, 2) {
         let year = *random.pick(&YEARS);

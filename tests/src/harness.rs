@@ -3,14 +3,14 @@
 
 use crate::calls::{Answer, Call, Calls, OWNERS};
 use crate::plain::reader::{is_allocated, judge};
-use crate::plain::Replay;
+use crate::plain::{Replay, PAGE};
 use std::fmt::Write;
 
-/// A starting image and a list of calls.
+/// A starting image and a list of calls, of version 1 unless said otherwise.
 #[derive(Clone, Debug, PartialEq, Eq)]
-pub struct Scenario {
+pub struct Scenario<C = Call> {
     pub image: Vec<u8>,
-    pub calls: Vec<Call>,
+    pub calls: Vec<C>,
 }
 
 /// Tells where a list comes from if an implementation panics in it.
@@ -34,7 +34,7 @@ pub struct Difference {
 
 /// Bytes or numbers between two stretches that nobody may change. The first
 /// byte lies at any place of a word.
-struct Guarded<T = u8> {
+pub(crate) struct Guarded<T = u8> {
     all: Vec<T>,
     from: usize,
     length: usize,
@@ -44,7 +44,7 @@ const GUARD: usize = 64;
 const GUARD_BYTE: u8 = 0xC3;
 
 impl<T: Copy + PartialEq + From<u8>> Guarded<T> {
-    fn new(items: &[T], shift: usize) -> Guarded<T> {
+    pub(crate) fn new(items: &[T], shift: usize) -> Guarded<T> {
         let from = GUARD + shift % 8;
         let length = items.len();
         let mut all = vec![T::from(GUARD_BYTE); from + length + GUARD];
@@ -52,15 +52,15 @@ impl<T: Copy + PartialEq + From<u8>> Guarded<T> {
         Guarded { all, from, length }
     }
 
-    fn bytes(&self) -> &[T] {
+    pub(crate) fn bytes(&self) -> &[T] {
         &self.all[self.from..self.from + self.length]
     }
 
-    fn bytes_mut(&mut self) -> &mut [T] {
+    pub(crate) fn bytes_mut(&mut self) -> &mut [T] {
         &mut self.all[self.from..self.from + self.length]
     }
 
-    fn check(&self, what: &mut String) {
+    pub(crate) fn check(&self, what: &mut String) {
         let (before, rest) = self.all.split_at(self.from);
         let mut around = before.iter().chain(&rest[self.length..]);
         if around.any(|&item| item != T::from(GUARD_BYTE)) {
@@ -134,7 +134,7 @@ pub fn compare(
         let got = perform_guarded(&mut actual_call, actual, &mut actual_image, &mut what);
         describe_answers(&mut what, &wanted, &got);
         describe_lent(&mut what, &expected_call, &actual_call);
-        describe_images(&mut what, &expected_image, actual_image.bytes());
+        describe_images(&mut what, PAGE, &expected_image, actual_image.bytes());
         advance_replay(&mut replay, call, &expected_image, &wanted, &mut what);
         if !what.is_empty() {
             return Some(Difference { step, what });
@@ -206,7 +206,7 @@ fn describe_end(what: &mut String, replay: &Replay, calls: &dyn Calls, image: &[
     }
 }
 
-fn describe_answers(what: &mut String, wanted: &Answer, got: &Answer) {
+pub(crate) fn describe_answers(what: &mut String, wanted: &Answer, got: &Answer) {
     if wanted != got {
         let _ = writeln!(what, "expected {wanted}\n     got {got}");
     }
@@ -252,16 +252,16 @@ fn describe_tidies(what: &mut String, expected: &dyn Calls, actual: &dyn Calls, 
     }
 }
 
-fn describe_lent(what: &mut String, wanted: &Call, got: &Call) {
+pub(crate) fn describe_lent(what: &mut String, wanted: &Call, got: &Call) {
     if wanted == got {
         return;
     }
     match (wanted, got) {
         (Call::Read(_, _, wanted), Call::Read(_, _, got)) if wanted != got => {
-            describe_bytes(what, "buffer", wanted, got);
+            describe_bytes(what, "buffer", PAGE, wanted, got);
         }
         (Call::Store(.., wanted), Call::Store(.., got)) if wanted != got => {
-            describe_bytes(what, "page", wanted, got);
+            describe_bytes(what, "page", PAGE, wanted, got);
         }
         (Call::LinksRead(_, wanted), Call::LinksRead(_, got)) if wanted != got => {
             describe_numbers(what, wanted, got);
@@ -270,9 +270,10 @@ fn describe_lent(what: &mut String, wanted: &Call, got: &Call) {
     }
 }
 
-fn describe_images(what: &mut String, wanted: &[u8], got: &[u8]) {
+/// The first bytes of an image that differ, by its pages.
+pub(crate) fn describe_images(what: &mut String, page: usize, wanted: &[u8], got: &[u8]) {
     if wanted != got {
-        describe_bytes(what, "image", wanted, got);
+        describe_bytes(what, "image", page, wanted, got);
     }
 }
 
@@ -291,13 +292,13 @@ fn describe_numbers(what: &mut String, wanted: &[u64], got: &[u64]) {
 }
 
 /// The first bytes that differ.
-fn describe_bytes(what: &mut String, name: &str, wanted: &[u8], got: &[u8]) {
+fn describe_bytes(what: &mut String, name: &str, page: usize, wanted: &[u8], got: &[u8]) {
     let different: Vec<usize> = (0..wanted.len())
         .filter(|&at| wanted[at] != got[at])
         .collect();
     let _ = writeln!(what, "{name}: {} bytes differ", different.len());
     for &at in different.iter().take(12) {
-        let (page, place) = (at / 256, at % 256);
+        let (page, place) = (at / page, at % page);
         let (wanted, got) = (wanted[at], got[at]);
         let _ = writeln!(
             what,

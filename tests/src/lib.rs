@@ -10,6 +10,7 @@
 //!   the benchmark has `direct` behind the same.
 //! * [`harness`] runs a list of calls on two implementations and shrinks a
 //!   list that shows a difference.
+//! * [`v2`] is all that for version 2 cartridges.
 
 pub mod above;
 pub mod assemble;
@@ -31,6 +32,7 @@ pub mod settings;
 pub mod shrink;
 pub mod subjects;
 pub mod tidy;
+pub mod v2;
 pub mod workloads;
 pub mod wrong;
 pub mod wrong_links;

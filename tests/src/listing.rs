@@ -20,7 +20,7 @@ pub fn plain(image: &[u8]) -> Vec<u8> {
             Node::File(_) => "F",
             Node::Directory(_) => "D",
         };
-        text.extend(line(letter, entry.node.size(), &path));
+        text.extend(line(letter, entry.node.size(&tree.shape), &path));
     }
     text
 }

@@ -14,6 +14,17 @@ pub fn lists() -> u64 {
     number("ZEALFS_LISTS", 100_000)
 }
 
+/// How many random lists of version 2 are run: as many as version 1's where that
+/// is asked for.
+pub fn lists_of_version_2() -> u64 {
+    number("ZEALFS_LISTS", 24_000)
+}
+
+/// How many randomly damaged images of version 2 are tried.
+pub fn damaged_images_of_version_2() -> u64 {
+    number("ZEALFS_DAMAGED", 100_000)
+}
+
 /// How many randomly damaged images are tried.
 pub fn damaged_images() -> u64 {
     number("ZEALFS_DAMAGED", 200_000)

@@ -4,23 +4,69 @@
 use crate::calls::{Call, Calls};
 use crate::harness::{compare, Difference, Scenario};
 use crate::plain::{Plain, PAGE};
-use std::fmt::Write;
+use std::fmt::{Debug, Write};
 
 /// Comparisons that one shrinking may cost.
 const TRIALS: usize = 30_000;
 
-struct Shrinker<'a> {
+/// What a list is tried by: two implementations of one version's calls.
+pub trait Trial {
+    type Call: Clone + Debug + PartialEq;
+
+    /// Where the two part.
+    fn compare(&self, scenario: &Scenario<Self::Call>) -> Option<Difference>;
+    /// Calls that are a little simpler than this one.
+    fn simpler(&self, call: &Self::Call) -> Vec<Self::Call>;
+    /// Images that hold nothing, to be tried in the place of one of that length.
+    fn fresh(&self, length: usize) -> Vec<Vec<u8>>;
+    fn call_text(&self, call: &Self::Call) -> String;
+}
+
+/// Two implementations of version 1.
+struct Pair<'a> {
     expected: &'a dyn Calls,
     actual: &'a dyn Calls,
-    best: Scenario,
+}
+
+impl Trial for Pair<'_> {
+    type Call = Call;
+
+    fn compare(&self, scenario: &Scenario) -> Option<Difference> {
+        compare(scenario, self.expected, self.actual, &mut |_, _| {})
+    }
+
+    fn simpler(&self, call: &Call) -> Vec<Call> {
+        simpler(call)
+    }
+
+    fn fresh(&self, length: usize) -> Vec<Vec<u8>> {
+        let formatted = |length| {
+            let mut image = vec![0; length];
+            Plain.format(&mut image).is_granted().then_some(image)
+        };
+        [2048, length].into_iter().filter_map(formatted).collect()
+    }
+
+    fn call_text(&self, call: &Call) -> String {
+        call_text(call)
+    }
+}
+
+struct Shrinker<'a, T: Trial> {
+    trial: &'a T,
+    best: Scenario<T::Call>,
     trials: usize,
 }
 
 /// A list, as short as is found, on which the two implementations differ.
 pub fn shrink(scenario: &Scenario, expected: &dyn Calls, actual: &dyn Calls) -> Scenario {
+    shrink_by(&Pair { expected, actual }, scenario)
+}
+
+/// The same, of either version.
+pub fn shrink_by<T: Trial>(trial: &T, scenario: &Scenario<T::Call>) -> Scenario<T::Call> {
     let mut shrinker = Shrinker {
-        expected,
-        actual,
+        trial,
         best: scenario.clone(),
         trials: 0,
     };
@@ -36,14 +82,14 @@ pub fn shrink(scenario: &Scenario, expected: &dyn Calls, actual: &dyn Calls) -> 
     }
 }
 
-impl Shrinker<'_> {
+impl<T: Trial> Shrinker<'_, T> {
     /// Takes the scenario if it still shows a difference.
-    fn accept(&mut self, scenario: Scenario) -> bool {
+    fn accept(&mut self, scenario: Scenario<T::Call>) -> bool {
         if self.trials >= TRIALS || scenario == self.best {
             return false;
         }
         self.trials += 1;
-        let difference = compare(&scenario, self.expected, self.actual, &mut |_, _| {});
+        let difference = self.trial.compare(&scenario);
         if difference.is_some() {
             self.best = scenario;
         }
@@ -52,7 +98,7 @@ impl Shrinker<'_> {
 
     /// Nothing after the call that shows the difference is needed.
     fn cut_tail(&mut self) {
-        let difference = compare(&self.best, self.expected, self.actual, &mut |_, _| {});
+        let difference = self.trial.compare(&self.best);
         if let Some(difference) = difference {
             let mut scenario = self.best.clone();
             scenario.calls.truncate(difference.step + 1);
@@ -79,9 +125,7 @@ impl Shrinker<'_> {
 
     /// A fresh image, a smaller fresh one, or the same with stretches zeroed.
     fn simplify_image(&mut self) {
-        for length in [2048, self.best.image.len()] {
-            let mut fresh = vec![0; length];
-            Plain.format(&mut fresh);
+        for fresh in self.trial.fresh(self.best.image.len()) {
             if self.accept_image(fresh) {
                 return;
             }
@@ -90,9 +134,11 @@ impl Shrinker<'_> {
             let mut from = 0;
             while from < self.best.image.len() {
                 let to = (from + length).min(self.best.image.len());
-                let mut image = self.best.image.clone();
-                image[from..to].fill(0);
-                self.accept_image(image);
+                if self.best.image[from..to].iter().any(|&byte| byte != 0) {
+                    let mut image = self.best.image.clone();
+                    image[from..to].fill(0);
+                    self.accept_image(image);
+                }
                 from = to;
             }
         }
@@ -105,14 +151,13 @@ impl Shrinker<'_> {
 
     fn simplify_calls(&mut self) {
         for index in 0..self.best.calls.len() {
-            while simpler(&self.best.calls[index])
-                .into_iter()
+            while (self.trial.simpler(&self.best.calls[index]).into_iter())
                 .any(|call| self.accept_call(index, call))
             {}
         }
     }
 
-    fn accept_call(&mut self, index: usize, call: Call) -> bool {
+    fn accept_call(&mut self, index: usize, call: T::Call) -> bool {
         let mut scenario = self.best.clone();
         scenario.calls[index] = call;
         self.accept(scenario)
@@ -120,7 +165,7 @@ impl Shrinker<'_> {
 }
 
 /// Calls that are a little simpler than this one.
-fn simpler(call: &Call) -> Vec<Call> {
+pub fn simpler(call: &Call) -> Vec<Call> {
     match call {
         Call::Format | Call::Verdict | Call::Repair => Vec::new(),
         Call::Find(path) => shorter(path).map(Call::Find).collect(),
@@ -232,7 +277,7 @@ fn plainer(bytes: &[u8]) -> Option<Vec<u8>> {
 }
 
 /// Some smaller numbers, the smallest first.
-fn smaller(number: u64) -> impl Iterator<Item = u64> {
+pub fn smaller(number: u64) -> impl Iterator<Item = u64> {
     let candidates = [0, 1, 255, 256, number / 2, number.saturating_sub(1)];
     candidates.into_iter().filter(move |&other| other < number)
 }
@@ -245,8 +290,13 @@ pub fn report(
     expected: &dyn Calls,
     actual: &dyn Calls,
 ) -> String {
-    let shortest = shrink(scenario, expected, actual);
-    let difference = compare(&shortest, expected, actual, &mut |_, _| {});
+    report_by(&Pair { expected, actual }, origin, scenario)
+}
+
+/// The same, of either version.
+pub fn report_by<T: Trial>(trial: &T, origin: &str, scenario: &Scenario<T::Call>) -> String {
+    let shortest = shrink_by(trial, scenario);
+    let difference = trial.compare(&shortest);
     let Difference { step, what } = difference.expect("shrinking keeps a difference");
     let mut text = format!("{origin}\n");
     let _ = writeln!(
@@ -255,18 +305,17 @@ pub fn report(
         scenario.calls.len(),
         shortest.calls.len()
     );
-    text += &image_text(&shortest.image);
+    text += &image_text(trial, &shortest.image);
     for (index, call) in shortest.calls.iter().enumerate() {
         let mark = if index == step { ">" } else { " " };
-        let _ = writeln!(text, "{mark} {}", call_text(call));
+        let _ = writeln!(text, "{mark} {}", trial.call_text(call));
     }
     text + &what
 }
 
 /// An image as its length and the lines of 16 bytes that aren't all zero.
-fn image_text(image: &[u8]) -> String {
-    let mut fresh = vec![0; image.len()];
-    if Plain.format(&mut fresh).is_granted() && fresh == image {
+fn image_text<T: Trial>(trial: &T, image: &[u8]) -> String {
+    if trial.fresh(image.len()).iter().any(|fresh| fresh == image) {
         return format!("  a fresh image of {} bytes\n", image.len());
     }
     let mut text = format!("  an image of {} bytes, zero but for:\n", image.len());
@@ -278,7 +327,7 @@ fn image_text(image: &[u8]) -> String {
     text
 }
 
-fn call_text(call: &Call) -> String {
+pub fn call_text(call: &Call) -> String {
     let name = call.name();
     match call {
         Call::Format | Call::Verdict | Call::Repair => name.to_string(),

@@ -228,8 +228,8 @@ fn random_calls(pair: &Pair, changes: bool, random: &mut Random) -> Vec<Call> {
     let held = contents(tree, &pair.names);
     let mut replay = Replay::formatted(tree.pages * PAGE);
     replay.tree = Tree {
-        pages: 1 + needs(held) + room(tree).expect("it fits"),
         root: held.clone(),
+        ..Tree::empty(1 + needs(held) + room(tree).expect("it fits"))
     };
     let count = random.between(1, 30);
     let mut generator = Generator::new(replay, random);
@@ -383,8 +383,8 @@ fn works_are_alike() {
 fn look_at_all(pair: &Pair) -> Vec<Call> {
     let family = pair.path();
     let held = Tree {
-        pages: 256,
         root: contents(&pair.trees[0], &pair.names).clone(),
+        ..Tree::empty(256)
     };
     let at = |relative: &[u8]| below(&family, relative).expect("a name");
     let entries = |path: Vec<u8>| (0..8).map(move |entry| Call::List(path.clone(), entry));

@@ -1,9 +1,9 @@
 //! The link list (document 02 §4) on the tree: the file LINKS of a directory,
 //! from accessions to figures.
 
-use super::pages_of_file;
 use super::path::{good_date, parse, Name};
 use super::tree::{Directory, Entry, File, Node, Tree};
+use super::{pages_of_file, VERSION_1};
 use crate::calls::{Answer, Refusal};
 
 const NAME: &[u8] = b"LINKS";
@@ -222,7 +222,7 @@ impl Tree {
                 Node::Directory(_) => return Err(Refusal::number(7)),
                 Node::File(file) => file.check_unlocked()?,
             }
-            free += old.node.pages();
+            free += old.node.pages(&VERSION_1);
         }
         let content = file_of(&rows_to_write(numbers)?);
         let lowest_empty = entries.iter().position(Option::is_none);

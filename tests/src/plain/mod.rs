@@ -8,7 +8,7 @@ pub mod tree;
 pub mod writer;
 
 use crate::calls::{Answer, Audit, Call, Calls, Kind, Refusal};
-use tree::Tree;
+use tree::{Shape, Tree};
 
 /// Bytes of a page.
 pub const PAGE: usize = 256;
@@ -23,9 +23,19 @@ pub const DIRECTORY_ENTRIES: usize = 8;
 /// Where the bitmap begins in the header page.
 pub const BITMAP_AT: usize = 4;
 
+/// The shape of version 1's trees.
+pub const VERSION_1: Shape = Shape {
+    aside: 1,
+    page: PAGE,
+    content: CONTENT,
+    root_entries: ROOT_ENTRIES,
+    page_entries: DIRECTORY_ENTRIES,
+    grows: false,
+};
+
 /// The pages that a file of `size` bytes has; an empty one has a page too.
 pub fn pages_of_file(size: usize) -> usize {
-    size.div_ceil(CONTENT).max(1)
+    VERSION_1.pages_of_file(size)
 }
 
 /// N of an image of `length` bytes, or refusal 1.
@@ -234,6 +244,11 @@ impl Replay {
         })
     }
 
+    /// A tree to begin with, of an image of that length.
+    pub fn from(tree: Tree, length: usize) -> Replay {
+        Replay { tree, length }
+    }
+
     /// An image of an allowed length, right after format.
     pub fn formatted(length: usize) -> Replay {
         let pages = pages_of_image(length).expect("an allowed length");
@@ -251,17 +266,6 @@ impl Replay {
                 *tree = Tree::empty(pages);
                 Answer::granted()
             }),
-            Call::Verdict => Ok(tree.verdict()),
-            Call::Find(path) => tree.find(path),
-            Call::List(path, entry) => tree.list(path, *entry),
-            Call::Read(path, position, buffer) => tree.read(path, *position, buffer),
-            Call::MakeFile(path, date) => tree.make(path, date, Kind::File),
-            Call::MakeDirectory(path, date) => tree.make(path, date, Kind::Directory),
-            Call::Write(path, position, bytes) => tree.write(path, *position, bytes),
-            Call::RemoveFile(path) => tree.remove(path, Kind::File),
-            Call::RemoveDirectory(path) => tree.remove(path, Kind::Directory),
-            Call::Lock(path) => tree.set_lock(path, true),
-            Call::Unlock(path) => tree.set_lock(path, false),
             // Which page and which bytes is nothing that the tree knows.
             Call::Store(path, date, content, number, page) => {
                 check_page(page).and_then(|()| tree.store(path, date, content, *number))
@@ -274,6 +278,7 @@ impl Replay {
             Call::LinksCheck(directory) => tree.links_check(directory),
             // On a sound image there is nothing to mend.
             Call::Repair => Ok(Answer::granted()),
+            _ => tree.step(call),
         };
         result.into()
     }

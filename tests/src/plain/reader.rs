@@ -3,7 +3,7 @@
 
 use super::path::is_legal_name;
 use super::tree::{Directory, Entry, File, Node, Tree};
-use super::{pages_of_file, pages_of_image};
+use super::{pages_of_file, pages_of_image, VERSION_1};
 use super::{BITMAP_AT, CONTENT, DIRECTORY_ENTRIES, ENTRY, PAGE, ROOT_ENTRIES, ROOT_ENTRIES_AT};
 use crate::calls::{Refusal, NAME_BYTES, OWNERS};
 
@@ -52,7 +52,8 @@ fn walk(image: &[u8]) -> Result<(Tree, Reader<'_>), Refusal> {
         owners: vec![None; pages],
     };
     let root = reader.directory(0)?;
-    Ok((Tree { pages, root }, reader))
+    let shape = VERSION_1;
+    Ok((Tree { pages, shape, root }, reader))
 }
 
 /// Whether the page is allocated by the bitmap.

@@ -1,14 +1,43 @@
-//! The plain tree and the calls on it. It knows N but no page numbers.
+//! The plain tree and the calls on it. It knows N but no page numbers. Trees of
+//! both versions are here; in what they differ is said by [`Shape`].
 
 use super::path::{good_date, parse, Name};
-use super::{pages_of_file, DIRECTORY_ENTRIES, ROOT_ENTRIES};
-use crate::calls::{Answer, Kind, Refusal, DATE_BYTES, DIRECTORY_SIZE, NAME_BYTES};
+use super::VERSION_1;
+use crate::calls::{Answer, Call, Kind, Refusal, DATE_BYTES, NAME_BYTES};
+
+/// The numbers that a version, and in version 2 the page code, gives a tree.
+#[derive(Clone, Copy, Debug, PartialEq, Eq)]
+pub struct Shape {
+    /// The header page, and the pages of a table of links.
+    pub aside: usize,
+    /// Bytes of a page, which is the size that a directory answers.
+    pub page: usize,
+    /// Bytes of content that a page of a file carries.
+    pub content: usize,
+    /// Entries of the root, before it grows.
+    pub root_entries: usize,
+    /// Entries of a page of any directory.
+    pub page_entries: usize,
+    /// Whether a directory without an empty entry gets a page more (02 §12).
+    pub grows: bool,
+}
+
+impl Shape {
+    /// The pages that a file of `size` bytes has; an empty one has a page too.
+    pub const fn pages_of_file(&self, size: usize) -> usize {
+        match size {
+            0 => 1,
+            _ => size.div_ceil(self.content),
+        }
+    }
+}
 
 /// What a sound image means.
 #[derive(Clone, Debug, PartialEq, Eq)]
 pub struct Tree {
     /// N, with the header page.
     pub pages: usize,
+    pub shape: Shape,
     pub root: Directory,
 }
 
@@ -80,8 +109,8 @@ impl Directory {
     }
 
     /// The pages that everything in the directory needs, without its own.
-    fn pages_below(&self) -> usize {
-        self.occupied().map(|entry| entry.node.pages()).sum()
+    fn pages_below(&self, shape: &Shape) -> usize {
+        self.occupied().map(|entry| entry.node.pages(shape)).sum()
     }
 }
 
@@ -102,10 +131,11 @@ impl Node {
         }
     }
 
-    pub fn size(&self) -> u64 {
+    /// The size that is told of it; a directory's is that of a page.
+    pub fn size(&self, shape: &Shape) -> u64 {
         match self {
             Node::File(file) => file.content.len() as u64,
-            Node::Directory(_) => DIRECTORY_SIZE,
+            Node::Directory(_) => shape.page as u64,
         }
     }
 
@@ -115,29 +145,41 @@ impl Node {
     }
 
     /// The pages that the node and all below it need.
-    pub(super) fn pages(&self) -> usize {
+    pub fn pages(&self, shape: &Shape) -> usize {
         match self {
-            Node::File(file) => pages_of_file(file.content.len()),
-            Node::Directory(directory) => 1 + directory.pages_below(),
+            Node::File(file) => shape.pages_of_file(file.content.len()),
+            Node::Directory(directory) => {
+                directory.entries.len() / shape.page_entries + directory.pages_below(shape)
+            }
         }
     }
 }
 
 impl Tree {
+    /// A tree of version 1 that holds nothing.
     pub fn empty(pages: usize) -> Tree {
+        Tree::shaped(pages, VERSION_1)
+    }
+
+    /// A tree of that shape that holds nothing.
+    pub fn shaped(pages: usize, shape: Shape) -> Tree {
         Tree {
             pages,
-            root: Directory::empty(ROOT_ENTRIES),
+            shape,
+            root: Directory::empty(shape.root_entries),
         }
     }
 
     /// The free number.
     pub fn free(&self) -> usize {
-        self.pages - 1 - self.root.pages_below()
+        let shape = &self.shape;
+        // Those that the root has beside the header page.
+        let pages_of_root = (self.root.entries.len() - shape.root_entries) / shape.page_entries;
+        self.pages - shape.aside - pages_of_root - self.root.pages_below(shape)
     }
 
     /// The directory at the end of the walk over all `names`.
-    pub(super) fn directory(&self, names: &[Name]) -> Result<&Directory, Refusal> {
+    pub(crate) fn directory(&self, names: &[Name]) -> Result<&Directory, Refusal> {
         let mut directory = &self.root;
         for &name in names {
             directory = match &directory.entry(name)?.node {
@@ -148,7 +190,7 @@ impl Tree {
         Ok(directory)
     }
 
-    pub(super) fn directory_mut(&mut self, names: &[Name]) -> Result<&mut Directory, Refusal> {
+    pub(crate) fn directory_mut(&mut self, names: &[Name]) -> Result<&mut Directory, Refusal> {
         let mut directory = &mut self.root;
         for &name in names {
             directory = match &mut directory.entry_mut(name)?.node {
@@ -169,7 +211,7 @@ impl Tree {
             let no_date = [0; DATE_BYTES];
             return Ok(Answer::found(
                 Kind::Directory,
-                DIRECTORY_SIZE,
+                self.shape.page as u64,
                 false,
                 no_date,
             ));
@@ -178,7 +220,7 @@ impl Tree {
         let node = &entry.node;
         Ok(Answer::found(
             node.kind(),
-            node.size(),
+            node.size(&self.shape),
             node.is_locked(),
             entry.date,
         ))
@@ -195,7 +237,7 @@ impl Tree {
             Some(entry) => Answer::occupied(
                 entry.node.kind(),
                 entry.padded_name(),
-                entry.node.size(),
+                entry.node.size(&self.shape),
                 entry.node.is_locked(),
                 entry.date,
             ),
@@ -237,7 +279,7 @@ impl Tree {
     pub fn make(&mut self, path: &[u8], date: &[u8], kind: Kind) -> Result<Answer, Refusal> {
         let names = parse(path)?;
         let date = good_date(date)?;
-        let free = self.free();
+        let (free, shape) = (self.free(), self.shape);
         let there_already = Refusal::number(8);
         let (last, parents) = names.split_last().ok_or(there_already)?;
         let parent = self.directory_mut(parents)?;
@@ -245,13 +287,21 @@ impl Tree {
             return Err(there_already);
         }
         let lowest_empty = parent.entries.iter().position(Option::is_none);
-        let position = lowest_empty.ok_or(Refusal::number(9))?;
+        let position = match lowest_empty {
+            Some(position) => position,
+            None if shape.grows => parent.entries.len(),
+            None => return Err(Refusal::number(9)),
+        };
         let node = match kind {
             Kind::File => Node::File(File::default()),
-            Kind::Directory => Node::Directory(Directory::empty(DIRECTORY_ENTRIES)),
+            Kind::Directory => Node::Directory(Directory::empty(shape.page_entries)),
         };
-        if node.pages() > free {
+        let pages_of_parent = usize::from(lowest_empty.is_none());
+        if node.pages(&shape) + pages_of_parent > free {
             return Err(Refusal::number(10));
+        }
+        if lowest_empty.is_none() {
+            parent.entries.resize(position + shape.page_entries, None);
         }
         parent.entries[position] = Some(Entry {
             name: last.bytes.to_vec(),
@@ -268,10 +318,11 @@ impl Tree {
         if position > size as u64 {
             return Err(Refusal::number(12));
         }
-        // No wrap: the position is at most a size, and sizes are below 65,536.
+        // No wrap: the position is at most a size, and sizes are below those of images.
         let position = position as usize;
         let end = position + bytes.len();
         let new_size = size.max(end);
+        let pages_of_file = |size| self.shape.pages_of_file(size);
         if pages_of_file(new_size) - pages_of_file(size) > self.free() {
             return Err(Refusal::number(10));
         }
@@ -300,7 +351,7 @@ impl Tree {
         if parent.entries.iter().all(Option::is_some) {
             return Err(Refusal::number(9));
         }
-        let pages = pages_of_file(content.len());
+        let pages = self.shape.pages_of_file(content.len());
         if pages > self.free() {
             return Err(Refusal::number(10));
         }
@@ -336,6 +387,24 @@ impl Tree {
     pub fn set_lock(&mut self, path: &[u8], locked: bool) -> Result<Answer, Refusal> {
         self.file_mut(path)?.locked = locked;
         Ok(Answer::granted())
+    }
+
+    /// Performs a call that is the same in both versions; format is not.
+    pub fn step(&mut self, call: &mut Call) -> Result<Answer, Refusal> {
+        match call {
+            Call::Verdict => Ok(self.verdict()),
+            Call::Find(path) => self.find(path),
+            Call::List(path, entry) => self.list(path, *entry),
+            Call::Read(path, position, buffer) => self.read(path, *position, buffer),
+            Call::MakeFile(path, date) => self.make(path, date, Kind::File),
+            Call::MakeDirectory(path, date) => self.make(path, date, Kind::Directory),
+            Call::Write(path, position, bytes) => self.write(path, *position, bytes),
+            Call::RemoveFile(path) => self.remove(path, Kind::File),
+            Call::RemoveDirectory(path) => self.remove(path, Kind::Directory),
+            Call::Lock(path) => self.set_lock(path, true),
+            Call::Unlock(path) => self.set_lock(path, false),
+            _ => unreachable!("{} is a version's own", call.name()),
+        }
     }
 
     /// The paths of all entries, in the order of the listing.

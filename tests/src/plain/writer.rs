@@ -184,7 +184,7 @@ fn entry_of(image: &[u8], names: &[Name]) -> usize {
 }
 
 /// Whether the 16 name bytes are that name and its padding.
-fn has_name(stored: &[u8], name: &Name) -> bool {
+pub fn has_name(stored: &[u8], name: &Name) -> bool {
     let (begin, padding) = stored.split_at(name.bytes.len());
     begin == name.bytes && padding.iter().all(|&byte| byte == 0)
 }
