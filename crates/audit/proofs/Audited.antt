@@ -18,7 +18,7 @@ use Rattle.volume.proofs.Flat.{occ-flatMap-le}
 use Rattle.volume.proofs.Marks.{bit-low}
 use Rattle.model.specs.Layout.{version1, pageCount, validLength, validHeader, freeCount, pageBit, zeroBits}
 use Rattle.model.specs.Version1.{view}
-use Rattle.model.specs.Sound.{pagesAt, goodDirectory, reached, owned, sound, reachedEntries, ownedPages, owners}
+use Rattle.model.specs.Sound.{pagesAt, goodDirectory, reached, owned, sound, reachedEntries, ownedPages, owners, ownersIn}
 use Rattle.model.specs.Demands.{Owned, isFree, isOwned}
 use Rattle.laws.proofs.Facts.{valid-sized, Facts, sound-facts, facts-sound}
 use Rattle.laws.proofs.Counting.{count-owned}
@@ -247,7 +247,7 @@ audit-sound b = go (audit b) (audit-told b) (audit-done b)
 
 -- nobody owns a page past N
 pub past-nobody : (b : Bytes) → Facts b → (q : ℕ) → pageCount b ≤ q → 1 ≤ q → ownerOf b q ≡ nobody
-unfolding owners
+unfolding ownersIn
 past-nobody b f zero l k = absurd (omega arith)
 past-nobody b f (suc q) l k = owner-suc b q ∙ go (owners b (suc q)) refl
   where

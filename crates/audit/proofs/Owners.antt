@@ -14,7 +14,7 @@ use Rattle.volume.proofs.Tests.{occ-member}
 use Rattle.volume.proofs.Flat.{occ-flatMap-le}
 use Rattle.model.specs.Layout.{pageCount}
 use Rattle.model.specs.Version1.{view}
-use Rattle.model.specs.Sound.{pagesAt, reachedEntries, owners}
+use Rattle.model.specs.Sound.{pagesAt, reachedEntries, owners, ownersIn}
 use Rattle.model.specs.Demands.{Owned, isFree, isOwned}
 use Rattle.laws.proofs.Facts.{Facts}
 use Rattle.laws.proofs.Lists.{page-owned}
@@ -60,7 +60,7 @@ only-one at x m = elim (mem-cons at x [] m) [ inl e ↦ e | inr k ↦ absurd (om
 
 -- the owner of a page of a reached entry is that entry
 pub owner-is : (b : Bytes) → Facts b → (at q : ℕ) → Mem at (reachedEntries b) → Mem q (pagesAt (view b) at) → (1 ≤ q) × (q < pageCount b) × (owners b q ≡ at ∷ [])
-unfolding owners
+unfolding ownersIn
 owner-is b f at q m k =
     let i = f .inside q (omega (arith, occ-flatMap-le (pagesAt (view b)) (reachedEntries b) at q m)) in
     (i .0, i .1, go (page-owned f q (i .0) (i .1)))

@@ -16,7 +16,7 @@ use Rattle.volume.proofs.Flat.{mem-flatMap}
 use Rattle.model.specs.Layout.{pageCount}
 use Rattle.model.specs.Entry.{entries, Entry, vacant, aFile, aDirectory, entryAt}
 use Rattle.model.specs.Version1.{view}
-use Rattle.model.specs.Sound.{sound, pagesAt, reachedBy, reached, reachedEntries, owners}
+use Rattle.model.specs.Sound.{sound, pagesAt, reachedBy, reached, reachedEntries, owners, ownersIn}
 use Rattle.model.specs.Image.{treeOf}
 use Rattle.model.specs.Call.{verdict}
 use Rattle.model.specs.Refusal.{settle}
@@ -63,7 +63,7 @@ row-at b h p l =
 -- ---- the pages
 
 named : (b : Bytes) → Facts b → (p : ℕ) → 1 ≤ p → p < pageCount b → Named b p (ownerOf b p)
-unfolding owners
+unfolding ownersIn
 named b f zero low high = absurd (omega arith)
 named b f (suc q) low high = subst (Named b (suc q)) (sym (owner-suc b q)) (go (page-owned f (suc q) low high))
   where

@@ -16,7 +16,6 @@ use Rattle.volume.proofs.Entries.{edited-is, made-room}
 use Rattle.model.specs.Layout.{version1, pageCount, zeroBits}
 use Rattle.model.specs.Entry.{entriesStart, entries, newEntry}
 use Rattle.model.specs.Path.{Name, below}
-use Rattle.model.specs.Effect.{lowestVacant, made}
 use Rattle.model.proofs.Version1.{home}
 use Rattle.laws.proofs.Facts.{Facts}
 use Rattle.laws.proofs.Walks.{Parent}

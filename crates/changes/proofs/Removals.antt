@@ -18,6 +18,7 @@ use Rattle.model.specs.Version1.{view}
 use Rattle.model.specs.Sound.{pagesOf, owned}
 use Rattle.model.specs.Path.{Path}
 use Rattle.model.specs.Effect.{removed}
+use Rattle.model.specs.EffectOf
 use Rattle.laws.proofs.Facts.{Facts}
 use Rattle.laws.proofs.Owns.{own}
 use Rattle.laws.proofs.Slots.{size, Owned, entry-owned}
@@ -56,9 +57,9 @@ module _ (b : Bytes) (f : Facts b) (p : Path) (at begins : ℕ) (x : EntryOf b p
 
   -- what a remove makes of the bytes
   pub file-removed : {locked : Bool} → entryAt b at ≡ aFile locked name date start k → set (foldl (On.released version1) b (chain (link b) (pagesFor k) start)) at 0 ≡ removed p b
-  unfolding removed pagesOf
+  unfolding EffectOf.removed pagesOf
   file-removed is = sym (rw (entry-position b p at begins x, is))
 
   pub directory-removed : entryAt b at ≡ aDirectory name date start k → set (foldl (On.released version1) b (chain (link b) 1 start)) at 0 ≡ removed p b
-  unfolding removed pagesOf chain
+  unfolding EffectOf.removed pagesOf chain
   directory-removed is = sym (rw (entry-position b p at begins x, is))

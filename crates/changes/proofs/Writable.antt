@@ -22,6 +22,7 @@ use Rattle.model.specs.Version1.{view}
 use Rattle.model.specs.Sound.{pagesOf, goodEntry}
 use Rattle.model.specs.Path.{Path}
 use Rattle.model.specs.Effect.{rewritten, written}
+use Rattle.model.specs.EffectOf
 use Rattle.model.proofs.Version1.{home}
 use Rattle.laws.proofs.Facts.{Facts}
 use Rattle.laws.proofs.Owns.{own}
@@ -93,9 +94,9 @@ module _ (b : Bytes) (f : Facts b) (p : Path) (at begins : ℕ) (x : EntryOf b p
 
 -- what a write makes of the bytes: a write of none changes nothing
 pub bytes-written : (b : Bytes) (p : Path) (at begins : ℕ) → EntryOf b p at begins → (from : ℕ) (v : Bytes) → 0 < length v → rewritten at from v b ≡ written p from v b
-unfolding written
+unfolding EffectOf.written
 bytes-written b p at begins x from v h = sym (rw (ne-eqb (length v) 0 (λ e. omega arith), entry-position b p at begins x))
 
 pub none-written : (b : Bytes) (p : Path) (from : ℕ) (v : Bytes) → length v ≡ 0 → b ≡ written p from v b
-unfolding written
+unfolding EffectOf.written
 none-written b p from v h = sym (rw (eq-eqb (length v) 0 h))

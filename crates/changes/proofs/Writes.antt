@@ -21,6 +21,7 @@ use Rattle.model.specs.Entry.{startAt, sizeAt}
 use Rattle.model.specs.Version1.{view}
 use Rattle.model.specs.Sound.{pagesOf, pagesAt}
 use Rattle.model.specs.Effect.{rewritten}
+use Rattle.model.specs.EffectOf
 use Rattle.model.proofs.Version1.{home, version1-lawful}
 use Rattle.chains.specs.Asked.{Inside, Growing}
 use Rattle.changes.specs.Asked.{Writing}
@@ -85,7 +86,7 @@ module _ {at start size from : ℕ} {v b : Bytes} (w : Writing at start size fro
 
   -- the model's effect
   effect : spread (On.content version1) room (chain (link b₂) (pagesFor s) (byteAt b₂ (at + 17))) from v b₂ ≡ rewritten at from v b
-  unfolding rewritten On.written pagesOf
+  unfolding EffectOf.rewritten On.written pagesOf
   effect =
       let image : List ℕ → ℕ → ℕ → Bytes = λ ps m z. On.written version1 N entry ps (pagesFor z - m) (at + 18) (le16 z) from v b in
       let held : pagesAt (view b) at ≡ chainAt version1 b entry j = ap (pagesOf (view b)) (w .is) ∙ ap (chain (link b) j) (sym (fields .0)) in

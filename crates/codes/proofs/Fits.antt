@@ -13,10 +13,12 @@ use Rattle.volume.proofs.Tests.{and-both, both-and}
 use Rattle.model.specs.Layout.{pageCount, validLength, validHeader}
 use Rattle.model.specs.Judge.{Fault, badEntry, badChain, ownedTwice, markedFree, lostPage, badCount, Judged, fault, clean, judge}
 use Rattle.model.specs.Path.{Path, pathOf, noPath, root, below, parents, names}
-use Rattle.model.specs.Image.{treeOf}
-use Rattle.model.specs.Call.{Call, format, verdict, find, list, read, makeFile, makeDirectory, write, removeFile, removeDirectory, setLock, store, Told, Refusal, refusal, Answer, refused, granted}
-use Rattle.model.specs.Refusal.{Line, bufferLines, stoppedAt, walked, walkedParent, walkedDirectory, makeLines, earlier, later, refusals, settle}
+use Rattle.model.specs.Image.{treeOf, treeIn}
+use Rattle.model.specs.Call.{Call, formatAs, verdict, find, list, read, makeFile, makeDirectory, write, removeFile, removeDirectory, setLock, storeAs, Told, Refusal, refusal, Answer, refused, granted}
+use Rattle.model.specs.Refusal.{Line, bufferLines, stoppedAt, walked, walkedParent, walkedDirectory, refusals, settle}
 use Rattle.model.specs.Meaning.{toldOn, firstFault, soundLine, isFormat, lines, answer}
+use Rattle.model.specs.MeaningOf
+use Rattle.model.specs.RefusalOf
 use Rattle.laws.proofs.Lines.{settle-append}
 use Rattle.judge.proofs.Image.{allowed}
 use Rattle.judge.proofs.Placed.{InPlace, fault-placed}
@@ -27,7 +29,7 @@ use Rattle.codes.proofs.Stops.{height, height-at, Spaced, spaced-left, 
 
 module _ (b : Bytes) (n : pageCount b ≤ 256) (path : Bytes) where
   height-tree : height (treeOf b .root) ≤ 256
-  unfolding treeOf
+  unfolding treeIn
   height-tree = omega (arith, height-at (pageCount b) b 0)
 
   pub to-stops : stoppedAt (walked path (treeOf b)) < 65536
@@ -98,8 +100,8 @@ image-in b low few ls h = both-and (inCode (firstFault (judge b))) (all (λ (l :
 
 -- a call's own lines
 pub own-in : (c : Call) (b : Bytes) → pageCount b ≤ 256 → AllIn (refusals c (treeOf b))
-unfolding refusals earlier later makeLines all inCode
-own-in format b n = tt
+unfolding RefusalOf.refusals RefusalOf.earlier RefusalOf.later RefusalOf.makeLines all inCode
+own-in (formatAs new) b n = tt
 own-in verdict b n = tt
 own-in (find path) b n = rw (lt-ltb _ _ (to-stops b n path)) tt
 own-in (list path i) b n = rw (lt-ltb _ _ (directory-stops b n path)) tt
@@ -110,7 +112,7 @@ own-in (write path at v) b n = rw (lt-ltb _ _ (to-stops b n path)) tt
 own-in (removeFile path) b n = rw (lt-ltb _ _ (to-stops b n path)) tt
 own-in (removeDirectory path) b n = rw (lt-ltb _ _ (directory-stops b n path)) tt
 own-in (setLock locked path) b n = rw (lt-ltb _ _ (to-stops b n path)) tt
-own-in (store path date v k buffer) b n = rw (lt-ltb _ _ (parent-stops b n path)) tt
+own-in (storeAs has path date v k buffer) b n = rw (lt-ltb _ _ (parent-stops b n path)) tt
 
 -- the lines below the first, which judges the length
 abbrev further : Bool → Call → Bytes → List Line
@@ -123,7 +125,7 @@ further-in false c b low few = image-in b low few (refusals c (treeOf b)) (own-i
 
 buffer-in : (c : Call) → AllIn (bufferLines c)
 unfolding all inCode
-buffer-in format = tt
+buffer-in (formatAs new) = tt
 buffer-in verdict = tt
 buffer-in (find path) = tt
 buffer-in (list path i) = tt
@@ -134,10 +136,10 @@ buffer-in (write path at v) = tt
 buffer-in (removeFile path) = tt
 buffer-in (removeDirectory path) = tt
 buffer-in (setLock locked path) = tt
-buffer-in (store path date v k buffer) = tt
+buffer-in (storeAs has path date v k buffer) = tt
 
 pub answer-in : (c : Call) (b : Bytes) → T (answerPasses inCode (answer c b))
-unfolding answer lines settle inCode all
+unfolding MeaningOf.answer MeaningOf.lines settle inCode all
 answer-in c b =
     subst (λ (a : Answer (Told c)). T (answerPasses inCode a)) (sym (settle-append refused (bufferLines c) _ (granted (toldOn c b))))
     (settle-in inCode (bufferLines c) _ (buffer-in c) (go (validLength (length b)) refl))

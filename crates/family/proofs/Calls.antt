@@ -11,8 +11,10 @@ use Rattle.model.specs.Tree.{Row, Tree, needs, freeNumber, lookup}
 use Rattle.model.specs.Path.{Name, Path, pathOf, isNoPath, parents, names}
 use Rattle.model.specs.Walk.{Walked, arrived, walk, nodeNamed, inWalked, walkTo, changeAt}
 use Rattle.model.specs.Call.{Call, find, list, read, makeFile, makeDirectory, write, removeFile, removeDirectory, setLock, Told, bufferBefore, Refusal, refusal, Answer, refused, granted}
-use Rattle.model.specs.Refusal.{Line, pathLine, makeLines, earlier, later, wanted, refusals, settle, walkedDirectory}
+use Rattle.model.specs.Refusal.{Line, pathLine, refusals, settle, walkedDirectory}
 use Rattle.model.specs.Meaning.{shown, lentShown, told, filled, inParent, changed, treeAnswer, treeBuffer, treeAfter}
+use Rattle.model.specs.MeaningOf
+use Rattle.model.specs.RefusalOf
 use Rattle.laws.proofs.Lines.{settle-holds, settle-both}
 use Rattle.family.specs.Family.{Below, Looks, finds, reads, lists, listsBelow, Works, looks, makesFile, makesDirectory, writes, removesFile, removesDirectory, locks}
 use Rattle.family.proofs.Onward.{Goes, nowhere, on, goes-on}
@@ -92,7 +94,7 @@ module _ (family : Bytes) (isPath : T (not (isNoPath (pathOf family)))) (s : Row
 
   -- by the same lines
   agrees : (c : Call) → refusals c t ≡ refusals c u → told c t ≡ told c u → filled c t ≡ filled c u → Moved (changed c t) (changed c u) → Agrees c
-  unfolding treeAnswer treeBuffer treeAfter
+  unfolding MeaningOf.treeAnswer MeaningOf.treeBuffer MeaningOf.treeAfter
   agrees c e₁ e₂ e₃ m = record {
     answered = λ i. settle (e₁ i) refused (granted (e₂ i));
     lent = λ i. settle (e₁ i) (λ f. lentShown c (bufferBefore c)) (e₃ i);
@@ -102,7 +104,7 @@ module _ (family : Bytes) (isPath : T (not (isNoPath (pathOf family)))) (s : Row
 
   -- by line 4
   no-path : (c : Call) (path : Bytes) (ls ms : List Line) → T (isNoPath (pathOf path)) → refusals c t ≡ pathLine path ∷ ls → refusals c u ≡ pathLine path ∷ ms → Agrees c
-  unfolding treeAnswer treeBuffer treeAfter
+  unfolding MeaningOf.treeAnswer MeaningOf.treeBuffer MeaningOf.treeAfter
   no-path c path ls ms h e₁ e₂ = record {
     answered = stopped refused (granted (told c t)) (granted (told c u));
     lent = stopped (λ f. lentShown c (bufferBefore c)) (filled c t) (filled c u);
@@ -123,7 +125,7 @@ module _ (family : Bytes) (isPath : T (not (isNoPath (pathOf family)))) (s : Row
   none-wanted = leb·suc-zero (freeNumber t) ∙ sym (leb·suc-zero (freeNumber u))
 
   pub look : (c : Call) → Looks family c → Agrees c
-  unfolding refusals earlier later wanted told filled changed
+  unfolding RefusalOf.refusals RefusalOf.earlier RefusalOf.later RefusalOf.wanted MeaningOf.told MeaningOf.filled MeaningOf.changed
   look c (finds path b) = elim (below-same path b) [
     | inl k ↦ no-path (find path) path _ _ k refl refl
     | inr k ↦ agrees (find path) (rw (k .reached) (rw none-wanted refl)) (rw (k .reached) refl) refl stays
@@ -139,7 +141,7 @@ module _ (family : Bytes) (isPath : T (not (isNoPath (pathOf family)))) (s : Row
   ]
 
   pub work : freeNumber t ≡ freeNumber u → (c : Call) → Works family c → Agrees c
-  unfolding refusals earlier later wanted makeLines told filled changed
+  unfolding RefusalOf.refusals RefusalOf.earlier RefusalOf.later RefusalOf.wanted RefusalOf.makeLines MeaningOf.told MeaningOf.filled MeaningOf.changed
   work w c (looks d l) = look d l
   work w c (makesFile path date b) = elim (below-same path b) [
     | inl k ↦ no-path (makeFile path date) path _ _ k refl refl

@@ -9,7 +9,7 @@ use lib.ListN.{length}
 use lib.Dec.{T}
 use Rattle.volume.specs.Bytes.{Bytes, same, if_then_else_}
 use Rattle.model.specs.Layout.{pagesFor}
-use Rattle.model.specs.Tree.{Row, end, free, file, dir, needs, Node, fileNode, directoryNode, lookup, inside}
+use Rattle.model.specs.Tree.{Row, end, free, file, dir, needs, Node, fileNode, directoryNode, lookup, inside, needsOf}
 use Rattle.model.specs.Path.{Name}
 use Rattle.model.specs.Walk.{Walked, arrived, enter, walk, changeAt}
 use Rattle.model.specs.Refusal.{isMissing, isBlocked, isDirectoryNode}
@@ -64,7 +64,7 @@ lookup-inside n f (dir m k s r) d u e = go (same m n) refl e (lookup-inside n f 
     go false h q next = rw h (next q)
 
 needs-inside : (n : Bytes) (f : Row → Row) (r : Row) (d : Bytes) (u : Row) → lookup n r ≡ some (directoryNode d u) → needs (inside n f r) + needs u ≡ needs r + needs (f u)
-unfolding lookup inside needs
+unfolding lookup inside needsOf
 needs-inside n f end d u e = absurd (Option·none-ne-some _ e)
 needs-inside n f (free r) d u e = needs-inside n f r d u e
 needs-inside n f (file l m k v r) d u e = go (same m n) e (needs-inside n f r d u)

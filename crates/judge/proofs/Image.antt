@@ -9,12 +9,15 @@ use lib.Dec.{T, eqb, leb, leb→le}
 use Rattle.volume.specs.Bytes.{Bytes}
 use Rattle.volume.proofs.Tests.{conditions-cons}
 use Rattle.model.specs.Layout.{pageCount, validLength, validHeader, freeCount}
-use Rattle.model.specs.Judge.{Judged, fault, thenJudge, judgeDirectory, judgeRest, judgeWalk, judge}
+use Rattle.model.specs.Version1.{view}
+use Rattle.model.specs.Judge.{Judged, fault, thenJudge, judgeDirectory, judgeRest, judgeWalk, judge, judgeView}
+use Rattle.view_laws.specs.Marks.{unowned}
+use Rattle.view_laws.proofs.Comes.{unowned-all}
 use Rattle.judge.specs.declared.Check.{Check}
 use Rattle.judge.specs.declared.Check.the-variants.{Clean, Faulty}
 use Rattle.judge.specs.declared.Fault.{Fault}
 use Rattle.judge.specs.Answers.{faultOf, outcome, badLength, badHeader, unsound, isSound, concluded, judgedAs}
-use Rattle.judge.specs.Walk.{Marked, zeros, unowned}
+use Rattle.judge.specs.Walk.{Marked}
 use Rattle.judge.proofs.Marks.{told, untold, clean-of, fault-of}
 
 -- ---- the length
@@ -51,34 +54,25 @@ module _ (b : Bytes) (n : ℕ) (pages : n ≡ pageCount b) (valid : validLength 
       let e = marks-length in
       (record { each = sym e ∙ pages; low = omega arith; high = omega arith }, take-zeros n 256 few ∙ ap (λ (k : ℕ). replicate k 0) pages)
 
-zeros-all : (n : ℕ) → zeros (replicate n 0) ≡ n
-unfolding zeros
-zeros-all zero = refl
-zeros-all (suc n) = omega (arith, zeros-all n)
-
-pub unowned-all : (n : ℕ) → unowned (replicate (suc n) 0) ≡ n
-unfolding unowned
-unowned-all n = zeros-all n
-
 -- ---- the whole walk
 
 -- j is what the judge of the root came to, from marks of no owner
 pub judge-root : (b : Bytes) (m : List ℕ) (j : Judged) → 1 ≤ pageCount b → m ≡ replicate (pageCount b) 0
-    → ((f : ℕ) → unowned m ≤ f → j ≡ judgeDirectory (suc f) b 0 m) → j ≡ judgeDirectory (pageCount b) b 0 (replicate (pageCount b) 0)
+    → ((f : ℕ) → unowned m ≤ f → j ≡ judgeDirectory (suc f) (view b) 0 m) → j ≡ judgeDirectory (pageCount b) (view b) 0 (replicate (pageCount b) 0)
 judge-root b m j low start post = go (pageCount b) low start
   where
-    go : (n : ℕ) → 1 ≤ n → m ≡ replicate n 0 → j ≡ judgeDirectory n b 0 (replicate n 0)
+    go : (n : ℕ) → 1 ≤ n → m ≡ replicate n 0 → j ≡ judgeDirectory n (view b) 0 (replicate n 0)
     go zero l e = absurd (omega arith)
-    go (suc n) l e = let u = ap unowned e ∙ unowned-all n in post n (omega arith) ∙ ap (judgeDirectory (suc n) b 0) e
+    go (suc n) l e = let u = ap unowned e ∙ unowned-all n in post n (omega arith) ∙ ap (judgeDirectory (suc n) (view b) 0) e
 
 -- a walk that ended clean is followed by the rest, and one that did not is all; its answer is q
 module _ (b : Bytes) (q : Check) (m : List ℕ) (walked : outcome q m ≡ judgeWalk b) where
   pub walk-faulty : (x : Fault) → q ≡ Faulty x → fault (faultOf x) ≡ judge b
-  unfolding judge thenJudge
+  unfolding judgeView thenJudge
   walk-faulty x e = rw (← fault-of m walked e)
 
-  pub walk-clean : q ≡ Clean → (j : Judged) → j ≡ judgeRest b m → j ≡ judge b
-  unfolding judge thenJudge
+  pub walk-clean : q ≡ Clean → (j : Judged) → j ≡ judgeRest (view b) m → j ≡ judge b
+  unfolding judgeView thenJudge
   walk-clean e j rest = rw (← clean-of walked e) rest
 
 -- ---- what any bytes are found to be

@@ -2,7 +2,6 @@ pub mod Marks
 pub mod Names
 pub mod Image
 pub mod Placed
-pub mod Depth
 pub mod Walk
 pub mod Rest
 pub mod Owned

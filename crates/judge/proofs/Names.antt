@@ -7,6 +7,7 @@ use Rattle.volume.specs.Bytes.{Bytes, byteAt}
 use Rattle.volume.specs.Lists.{all}
 use Rattle.model.specs.Entry.{nameAt, entryAt}
 use Rattle.model.specs.Name.{legalName}
+use Rattle.model.specs.Version1.{view}
 use Rattle.model.specs.Judge.{freshName}
 use Rattle.model.specs.Sound.{isNamed}
 use Rattle.judge.specs.Walk.{position, earlier}
@@ -23,7 +24,7 @@ flags-here b d i at here h = rw here h
 
 -- the name of entry i of the directory on page d, which stands at `at`; it is legal or not, and so far apart from those before entry j
 module _ (b : Bytes) (d i j at : ℕ) (legal : Bool) (here : at ≡ position d i) (tested : legal ≡ legalName (nameAt b at)) where
-  pub illegal-name : not legal ≡ true → false ≡ freshName b (earlier d i) (nameAt b (position d i))
+  pub illegal-name : not legal ≡ true → false ≡ freshName (view b) (earlier d i) (nameAt b (position d i))
   unfolding freshName
   illegal-name t = rw (← here, untold tested t)
 
@@ -35,13 +36,13 @@ module _ (b : Bytes) (d i j at : ℕ) (legal : Bool) (here : at ≡ position d i
 
     -- one turn: the entry before j stands at `place`, and has the name or not
     module _ (more : 0 < j) (place : ℕ) (there : place ≡ position d (j - 1)) (has : Bool) (asked : has ≡ isNamed (nameAt b at) (entryAt b place)) where
-      pub name-taken : not legal ≡ false → has ≡ true → false ≡ freshName b (earlier d i) (nameAt b (position d i))
+      pub name-taken : not legal ≡ false → has ≡ true → false ≡ freshName (view b) (earlier d i) (nameAt b (position d i))
       unfolding freshName
       name-taken t e = sym (rw (next more, ← there, ← asked, e, ← here, told tested t))
 
       pub still-apart : has ≡ false → apart b (nameAt b (position d i)) d i ≡ apart b (nameAt b (position d i)) d (j - 1)
       still-apart e = next more ∙ rw (← there, ← asked, e)
 
-    pub name-fresh : not legal ≡ false → j ≤ 0 → true ≡ freshName b (earlier d i) (nameAt b (position d i))
+    pub name-fresh : not legal ≡ false → j ≤ 0 → true ≡ freshName (view b) (earlier d i) (nameAt b (position d i))
     unfolding freshName all earlier
     name-fresh t h = let e : j ≡ 0 = omega arith in sym (rw (so-far, e, ← here, told tested t))

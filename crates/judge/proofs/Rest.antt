@@ -15,6 +15,7 @@ use borrow.Author.Tests.{eq-eqb, ne-eqb}
 use Rattle.volume.specs.Bytes.{Bytes, if_then_else_}
 use Rattle.volume.specs.Lists.{first, countFrom}
 use Rattle.model.specs.Layout.{pageCount, freeCount, pageBit, zeroBits}
+use Rattle.model.specs.Version1.{view}
 use Rattle.model.specs.Judge as Model
 use Rattle.model.specs.Judge.{badCount, lostPage, Judged, fault, clean, lostOr, judgeRest}
 use Rattle.bitmap.specs.Words.{Clear}
@@ -144,22 +145,22 @@ module _ (b : Bytes) (m : List ℕ) where
 
   -- the rest of the judge, where the answer of the search is q: bit 0 and the count
   module _ (q : Check) (lost : outcome q m ≡ lostOr (clean m) (lostFrom b m (pageCount b) 1)) where
-    pub rest-faulty : (x : Fault) → q ≡ Faulty x → fault (faultOf x) ≡ judgeRest b m
+    pub rest-faulty : (x : Fault) → q ≡ Faulty x → fault (faultOf x) ≡ judgeRest (view b) m
     unfolding judgeRest
     rest-faulty x e = lost-faulty _ (lostFrom b m (pageCount b) 1) (fault-of m lost e)
 
     module _ (e : q ≡ Clean) (set : ℕ) (marked : set ≡ pageBit b 0) where
-      pub rest-unmarked : set ≢ 1 → fault badCount ≡ judgeRest b m
+      pub rest-unmarked : set ≢ 1 → fault badCount ≡ judgeRest (view b) m
       unfolding judgeRest
       rest-unmarked h = rw (← lost-clean _ (lostFrom b m (pageCount b) 1) (clean-of lost e), ← marked, ne-eqb _ _ h)
 
       module _ (one : set ≡ 1) (each : length m ≡ pageCount b) (zeros : ℕ) (bits : zeros ≡ zeroBits b (length m)) (free : ℕ) (byte : free ≡ freeCount b) where
-        pub rest-miscounted : free ≢ zeros → fault badCount ≡ judgeRest b m
+        pub rest-miscounted : free ≢ zeros → fault badCount ≡ judgeRest (view b) m
         unfolding judgeRest
         rest-miscounted h =
             rw (← lost-clean _ (lostFrom b m (pageCount b) 1) (clean-of lost e), ← marked, eq-eqb _ _ one, ← each, ← bits, ← byte, ne-eqb _ _ h)
 
-        pub rest-clean : free ≡ zeros → clean m ≡ judgeRest b m
+        pub rest-clean : free ≡ zeros → clean m ≡ judgeRest (view b) m
         unfolding judgeRest
         rest-clean h =
             rw (← lost-clean _ (lostFrom b m (pageCount b) 1) (clean-of lost e), ← marked, eq-eqb _ _ one, ← each, ← bits, ← byte, eq-eqb _ _ h)

@@ -9,15 +9,17 @@ use native.Mathlib.Decide.{decLt}
 use mathlib.Core.Bool.{Bool, true, false, not, false≢true}
 use mathlib.Core.List.{List, map}
 use lib.ListN.{length}
-use lib.Dec.{eqb}
 use borrow.Author.Tests.{eq-eqb, ne-eqb}
-use Rattle.volume.specs.Bytes.{Bytes, byteAt, if_then_else_}
+use Rattle.volume.specs.Bytes.{Bytes, byteAt}
 use Rattle.volume.specs.Lists.{countFrom}
 use Rattle.model.specs.Layout.{pageCount, pagesFor}
 use Rattle.model.specs.Entry.{isLocked, entryCount, entries, nameAt, dateAt, entryAt}
+use Rattle.model.specs.Version1.{view}
 use Rattle.model.specs.Effect.{isVacant}
 use Rattle.model.specs.Judge.{Judged, fault, clean, badEntry, badChain}
 use Rattle.model.specs.Judge.{thenJudge, judgePage, judgeChain, freshName, judgeEntry, judgeEntries, judgeDirectory}
+use Rattle.view_laws.specs.Marks.{unowned}
+use Rattle.view_laws.proofs.Comes.{Kept, comes-entry, comes-directory, Any, any-tellable}
 use Rattle.fields.specs.declared.Page.{Page}
 use Rattle.fields.specs.declared.Entry.{Entry}
 use Rattle.fields.specs.declared.Entry.the-variants.{Vacant, File, Directory}
@@ -27,9 +29,9 @@ use Rattle.judge.specs.declared.Check.{Check}
 use Rattle.judge.specs.declared.Check.the-variants.{Clean, Faulty}
 use Rattle.judge.specs.declared.Fault.{Fault}
 use Rattle.judge.specs.Answers.{faultOf, outcome}
-use Rattle.judge.specs.Walk.{Marked, unowned, position, earlier}
+use Rattle.judge.specs.Walk.{Marked, position, earlier}
 use Rattle.judge.proofs.Marks.{told, untold, clean-of, fault-of, page-made}
-use Rattle.judge.proofs.Placed.{Kept, comes-entry, comes-directory}
+use Rattle.judge.proofs.Placed.{paged}
 
 -- ---- a directory, entry by entry
 
@@ -38,20 +40,13 @@ pub record Stands (b : Bytes) (p : ℕ) (m₀ : List ℕ) (i : ℕ) (m : List �
   pub here : p < pageCount b
   pub each : length m ≡ pageCount b
   pub few : unowned m ≤ unowned m₀
-  pub comes : (f : ℕ) → unowned m₀ ≤ f → judgeDirectory (suc f) b p m₀
-      ≡ judgeEntries (judgeDirectory f b) b p i (earlier p i) (map (position p) (countFrom i (entryCount p - i))) m
-
-count-few : (p : ℕ) → entryCount p ≤ 8
-count-few p = go (eqb p 0)
-  where
-    go : (c : Bool) → (if c then 6 else 8) ≤ 8
-    go true = omega arith
-    go false = omega arith
+  pub comes : (f : ℕ) → unowned m₀ ≤ f → judgeDirectory (suc f) (view b) p m₀
+      ≡ judgeEntries (judgeDirectory f (view b)) (view b) p i (earlier p i) (map (position p) (countFrom i (entryCount p - i))) m
 
 turn : (b : Bytes) (p : ℕ) (below : ℕ → List ℕ → Judged) (i : ℕ) (m : List ℕ) → i < entryCount p
-    → judgeEntries below b p i (earlier p i) (map (position p) (countFrom i (entryCount p - i))) m
-    ≡ thenJudge (judgeEntry below b p i (earlier p i) (entryAt b (position p i)) m)
-    (judgeEntries below b p (i + 1) (earlier p (i + 1)) (map (position p) (countFrom (i + 1) (entryCount p - (i + 1)))))
+    → judgeEntries below (view b) p i (earlier p i) (map (position p) (countFrom i (entryCount p - i))) m
+    ≡ thenJudge (judgeEntry below (view b) p i (earlier p i) (entryAt b (position p i)) m)
+    (judgeEntries below (view b) p (i + 1) (earlier p (i + 1)) (map (position p) (countFrom (i + 1) (entryCount p - (i + 1)))))
 unfolding judgeEntries countFrom earlier
 turn b p below i m h = let e : entryCount p - i ≡ suc (entryCount p - (i + 1)) = omega arith in rw (e, add-one i)
 
@@ -61,31 +56,33 @@ module _ {b : Bytes} {p : ℕ} {m₀ : List ℕ} where
   stands-first marked h = record { here = omega arith; each = marked .each; few = le-refl _; comes = λ f u. rw (sub-zero (entryCount p)) }
 
   module _ {n i : ℕ} {m : List ℕ} (count : n ≡ entryCount p) (at : Stands b p m₀ i m) where
-    pub stands-last : n ≤ i → (f : ℕ) → unowned m₀ ≤ f → clean m ≡ judgeDirectory (suc f) b p m₀
+    pub stands-last : n ≤ i → (f : ℕ) → unowned m₀ ≤ f → clean m ≡ judgeDirectory (suc f) (view b) p m₀
     unfolding judgeEntries countFrom
     stands-last h f u = let e : entryCount p - i ≡ 0 = omega arith in sym (at .comes f u ∙ rw e)
 
     -- one turn: the answer for entry i is r, and it leaves the marks m′
     module _ (r : Check) (m′ : List ℕ) (more : i < n)
-        (post : (f : ℕ) → unowned m ≤ f → outcome r m′ ≡ judgeEntry (judgeDirectory f b) b p i (earlier p i) (entryAt b (position p i)) m) where
+        (post : (f : ℕ) → unowned m ≤ f → outcome r m′ ≡ judgeEntry (judgeDirectory f (view b)) (view b) p i (earlier p i) (entryAt b (position p i)) m) where
       pub stands-next : r ≡ Clean → Stands b p m₀ (i + 1) m′
       unfolding thenJudge
       stands-next e =
           let u = unowned m in
-          let k : Kept (pageCount b) m (clean m′) = subst (Kept (pageCount b) m) (sym (clean-of (post u (le-refl _)) e))
-          (comes-entry b (judgeDirectory u b) (judgeDirectory u b) u (λ q l qn long less. comes-directory b u u q l qn long less less)
-          p i (earlier p i) (entryAt b (position p i)) m (at .here) (omega (arith, count-few p)) (at .each) (le-refl _) .kept) in
+          let any = any-tellable (view b) in
+          let k : Kept Any (pageCount b) m (clean m′) = subst (Kept Any (pageCount b) m) (sym (clean-of (post u (le-refl _)) e))
+          (comes-entry (paged b) any (judgeDirectory u (view b)) (judgeDirectory u (view b)) u
+          (λ q l inside long less. comes-directory (paged b) any u u q l inside long less less)
+          p i (earlier p i) (entryAt b (position p i)) m tt (λ j l. tt) (at .each) (le-refl _) .kept) in
           record {
             here = at .here;
             each = k .0;
             few = le-trans (k .1) (at .few);
-            comes = λ f h. at .comes f h ∙ turn b p (judgeDirectory f b) i m (omega arith) ∙ rw (← clean-of (post f (le-trans (at .few) h)) e);
+            comes = λ f h. at .comes f h ∙ turn b p (judgeDirectory f (view b)) i m (omega arith) ∙ rw (← clean-of (post f (le-trans (at .few) h)) e);
           }
 
-      pub stands-faulty : {x : Fault} → r ≡ Faulty x → (f : ℕ) → unowned m₀ ≤ f → fault (faultOf x) ≡ judgeDirectory (suc f) b p m₀
+      pub stands-faulty : {x : Fault} → r ≡ Faulty x → (f : ℕ) → unowned m₀ ≤ f → fault (faultOf x) ≡ judgeDirectory (suc f) (view b) p m₀
       unfolding thenJudge
       stands-faulty e f h =
-          sym (at .comes f h ∙ turn b p (judgeDirectory f b) i m (omega arith) ∙ rw (← fault-of m′ (post f (le-trans (at .few) h)) e))
+          sym (at .comes f h ∙ turn b p (judgeDirectory f (view b)) i m (omega arith) ∙ rw (← fault-of m′ (post f (le-trans (at .few) h)) e))
 
 -- ---- an entry, by what was read at its position
 
@@ -95,7 +92,7 @@ module _ (b : Bytes) (d i at : ℕ) (r : Entry) (m : List ℕ) (here : at ≡ po
       → entryOf s (isLocked b (position d i)) (nameAt b (position d i)) (dateAt b (position d i)) ≡ entryAt b (position d i)
   seen e = rw (← here, ← e) read
 
-  pub vacant-entry : (below : ℕ → List ℕ → Judged) → r ≡ Vacant → clean m ≡ judgeEntry below b d i (earlier d i) (entryAt b (position d i)) m
+  pub vacant-entry : (below : ℕ → List ℕ → Judged) → r ≡ Vacant → clean m ≡ judgeEntry below (view b) d i (earlier d i) (entryAt b (position d i)) m
   unfolding judgeEntry
   vacant-entry below e = rw (← seen e)
 
@@ -116,37 +113,37 @@ module _ (b : Bytes) (d i at : ℕ) (r : Entry) (m : List ℕ) (here : at ≡ po
   directory-flags start size e = flags-of (rw (← seen e))
 
   pub sized-directory : (start : Page) (size : ℕ) (below : ℕ → List ℕ → Judged) → r ≡ Directory start size → size ≢ 0x0100
-      → fault (badEntry d i) ≡ judgeEntry below b d i (earlier d i) (entryAt b (position d i)) m
+      → fault (badEntry d i) ≡ judgeEntry below (view b) d i (earlier d i) (entryAt b (position d i)) m
   unfolding judgeEntry
   sized-directory start size below e s = rw (← seen e, ne-eqb _ _ s, and-false _)
 
-  module _ (start : Page) (size : ℕ) (fresh : Bool) (name : fresh ≡ freshName b (earlier d i) (nameAt b (position d i))) where
+  module _ (start : Page) (size : ℕ) (fresh : Bool) (name : fresh ≡ freshName (view b) (earlier d i) (nameAt b (position d i))) where
     module _ (below : ℕ → List ℕ → Judged) (file : r ≡ File start size) where
-      pub stale-file : not fresh ≡ true → fault (badEntry d i) ≡ judgeEntry below b d i (earlier d i) (entryAt b (position d i)) m
+      pub stale-file : not fresh ≡ true → fault (badEntry d i) ≡ judgeEntry below (view b) d i (earlier d i) (entryAt b (position d i)) m
       unfolding judgeEntry
       stale-file t = rw (← seen file, untold name t)
 
-      pub fresh-file : not fresh ≡ false → (k : ℕ) → k ≡ pagesFor size → (j : Judged) → j ≡ judgeChain b d i k 0 (start .0) m
-          → j ≡ judgeEntry below b d i (earlier d i) (entryAt b (position d i)) m
+      pub fresh-file : not fresh ≡ false → (k : ℕ) → k ≡ pagesFor size → (j : Judged) → j ≡ judgeChain (view b) d i k 0 (start .0) m
+          → j ≡ judgeEntry below (view b) d i (earlier d i) (entryAt b (position d i)) m
       unfolding judgeEntry
       fresh-file t k e j chain = rw (← seen file, told name t, ← e) chain
 
     module _ (directory : r ≡ Directory start size) where
       pub stale-directory : (below : ℕ → List ℕ → Judged) → not fresh ≡ true
-          → fault (badEntry d i) ≡ judgeEntry below b d i (earlier d i) (entryAt b (position d i)) m
+          → fault (badEntry d i) ≡ judgeEntry below (view b) d i (earlier d i) (entryAt b (position d i)) m
       unfolding judgeEntry
       stale-directory below t = rw (← seen directory, untold name t)
 
       -- its page: the answer for it is q, and it leaves the marks l
-      module _ (t : not fresh ≡ false) (s : size ≡ 0x0100) (q : Check) (l : List ℕ) (page : outcome q l ≡ judgePage b (badChain d i 0) (start .0) m) where
+      module _ (t : not fresh ≡ false) (s : size ≡ 0x0100) (q : Check) (l : List ℕ) (page : outcome q l ≡ judgePage (view b) (badChain d i 0) (start .0) m) where
         pub faulty-page : (below : ℕ → List ℕ → Judged) (x : Fault) → q ≡ Faulty x
-            → fault (faultOf x) ≡ judgeEntry below b d i (earlier d i) (entryAt b (position d i)) m
+            → fault (faultOf x) ≡ judgeEntry below (view b) d i (earlier d i) (entryAt b (position d i)) m
         unfolding judgeEntry thenJudge
         faulty-page below x e = rw (← seen directory, told name t, eq-eqb _ _ s, ← fault-of l page e)
 
         -- the directory on a page that got its owner is judged with one unit of fuel less
-        pub directory-below : q ≡ Clean → length m ≡ pageCount b → (j : Judged) → ((f : ℕ) → unowned l ≤ f → j ≡ judgeDirectory (suc f) b (start .0) l)
-            → (f : ℕ) → unowned m ≤ f → j ≡ judgeEntry (judgeDirectory f b) b d i (earlier d i) (entryAt b (position d i)) m
+        pub directory-below : q ≡ Clean → length m ≡ pageCount b → (j : Judged) → ((f : ℕ) → unowned l ≤ f → j ≡ judgeDirectory (suc f) (view b) (start .0) l)
+            → (f : ℕ) → unowned m ≤ f → j ≡ judgeEntry (judgeDirectory f (view b)) (view b) d i (earlier d i) (entryAt b (position d i)) m
         unfolding judgeEntry thenJudge
         directory-below e each j post zero h = absurd (let k = page-made b (badChain d i 0) (start .0) m l each (clean-of page e) in omega arith)
         directory-below e each j post (suc f) h =
@@ -159,4 +156,4 @@ pub stands-vacant : {b : Bytes} {p : ℕ} {m₀ : List ℕ} {n i : ℕ} {m : Lis
     → (at : ℕ) (r : Entry) → at ≡ position p i → entryOf r (isLocked b at) (nameAt b at) (dateAt b at) ≡ entryAt b at → r ≡ Vacant
     → Stands b p m₀ (i + 1) m
 stands-vacant {b} {p} {m₀} {n} {i} {m} count at₀ more at r here read e =
-    stands-next count at₀ Clean m more (λ f h. vacant-entry b p i at r m here read (judgeDirectory f b) e) refl
+    stands-next count at₀ Clean m more (λ f h. vacant-entry b p i at r m here read (judgeDirectory f (view b)) e) refl

@@ -1,6 +1,6 @@
 -- What the judges' contracts name besides the model's definitions: the owner marks that are lent, and the entries before one.
 use mathlib.Core.Path.{_≡_}
-use Prim.Native.Nat.{ℕ, zero, suc, _+_, _-_, _*_, _≤_}
+use Prim.Native.Nat.{ℕ, zero, suc, _+_, _*_, _≤_}
 use mathlib.Core.Bool.{Bool, true, not, _&&_}
 use mathlib.Core.List.{List, [], _∷_}
 use lib.ListN.{length, getD}
@@ -14,16 +14,6 @@ pub record Marked (b : Bytes) (marks : List ℕ) : Type 0 where
   pub each : length marks ≡ pageCount b
   pub low : 1 ≤ length marks
   pub high : length marks ≤ 256
-
--- how many marks are 0
-unfoldable pub zeros : List ℕ → ℕ
-zeros [] = 0
-zeros (mark ∷ marks) = 1 - mark + zeros marks
-
--- How many pages have no owner yet. Page 0 is the header and never gets one, so it does not count.
-unfoldable pub unowned : List ℕ → ℕ
-unowned [] = 0
-unowned (header ∷ marks) = zeros marks
 
 -- the position of entry i of the directory on page p
 abbrev pub position : (page i : ℕ) → ℕ

@@ -10,10 +10,12 @@ ghost use Rattle.volume.specs.Bytes.{byteAt};
 ghost use Rattle.volume.specs.Lists.{first, countFrom};
 ghost use Rattle.model.specs.Layout.{pageCount};
 ghost use Rattle.model.specs.Entry.{entryCount, nameAt, entryAt};
+ghost use Rattle.model.specs.Version1.{view};
 ghost use Rattle.model.specs.Sound.{isNamed};
 ghost use Rattle.model.specs.Judge.{clean, judgePage, judgeChain, freshName, judgeEntry, judgeDirectory, lostOr, judgeRest, judgeWalk, judge};
+ghost use Rattle.view_laws.specs.Marks.{unowned};
 ghost use Rattle.judge.specs.Answers.{faultOf, outcome, findingOf, judgedAs};
-ghost use Rattle.judge.specs.Walk.{Marked, unowned, isLost, ownedFrom, position, earlier};
+ghost use Rattle.judge.specs.Walk.{Marked, isLost, ownedFrom, position, earlier};
 
 // The first fault of an image, with its place; in brackets the number of paper 02 §2, which `refusals` tells.
 pub enum Fault {
@@ -51,7 +53,7 @@ pub enum Judgement {
 // A page gets its owner. `range` is the fault of a page that an entry cannot own, for only the entry knows its place.
 fn own_page(image: &[u8], marks: &mut [u8], page: Page, range: Fault) -> Check
     requires { ⌜ Marked (now image) (now marks) ⌝ }
-    ensures { λ r. ⌜ outcome r (now (marks .exit)) ≡ judgePage (now (image .entry)) (faultOf range) (page .0) (now (marks .entry)) ⌝ }
+    ensures { λ r. ⌜ outcome r (now (marks .exit)) ≡ judgePage (view (now (image .entry))) (faultOf range) (page .0) (now (marks .entry)) ⌝ }
 {
     let p = page.0;
     if p < 1 {
@@ -81,7 +83,7 @@ fn own_chain(
     start: Page,
 ) -> Check
     requires { ⌜ Marked (now image) (now marks) ⌝ }
-    ensures { λ r. ⌜ outcome r (now (marks .exit)) ≡ judgeChain (now (image .entry)) (directory .0) i k 0 (start .0) (now (marks .entry)) ⌝ }
+    ensures { λ r. ⌜ outcome r (now (marks .exit)) ≡ judgeChain (view (now (image .entry))) (directory .0) i k 0 (start .0) (now (marks .entry)) ⌝ }
 {
     let mut page = start;
     let mut passed = 0;
@@ -121,7 +123,7 @@ fn has_name_of(image: &[u8], at: usize, other: usize) -> bool
 // from the last to the first, so the loop runs down.
 fn name_is_fresh(image: &[u8], directory: Page, i: usize) -> bool
     requires { ⌜ (directory .0 < pageCount (now image)) × (i < entryCount (directory .0)) × (1 ≤ byteAt (now image) (position (directory .0) i)) ⌝ }
-    ensures { λ r. ⌜ r ≡ freshName (now (image .entry)) (earlier (directory .0) i) (nameAt (now (image .entry)) (position (directory .0) i)) ⌝ }
+    ensures { λ r. ⌜ r ≡ freshName (view (now (image .entry))) (earlier (directory .0) i) (nameAt (now (image .entry)) (position (directory .0) i)) ⌝ }
 {
     let at = fields::entry_position(directory, i);
     if !names::name_is_legal(image, at) {
@@ -145,7 +147,7 @@ fn judge_entry(image: &[u8], marks: &mut [u8], directory: Page, i: usize) -> Che
     requires { ⌜ Marked (now image) (now marks) × (directory .0 < length (now marks)) × (i < entryCount (directory .0)) ⌝ }
     ensures { λ r. ⌜ ((f : ℕ) → unowned (now (marks .entry)) ≤ f →
         outcome r (now (marks .exit))
-        ≡ judgeEntry (judgeDirectory f (now (image .entry))) (now (image .entry)) (directory .0) i (earlier (directory .0) i)
+        ≡ judgeEntry (judgeDirectory f (view (now (image .entry)))) (view (now (image .entry))) (directory .0) i (earlier (directory .0) i)
         (entryAt (now (image .entry)) (position (directory .0) i)) (now (marks .entry))) ⌝ }
 {
     match fields::entry_at(image, fields::entry_position(directory, i)) {
@@ -176,7 +178,7 @@ fn judge_entry(image: &[u8], marks: &mut [u8], directory: Page, i: usize) -> Che
 fn judge_directory(image: &[u8], marks: &mut [u8], directory: Page) -> Check
     requires { ⌜ Marked (now image) (now marks) × (directory .0 < length (now marks)) ⌝ }
     ensures { λ r. ⌜ ((f : ℕ) → unowned (now (marks .entry)) ≤ f →
-        outcome r (now (marks .exit)) ≡ judgeDirectory (suc f) (now (image .entry)) (directory .0) (now (marks .entry))) ⌝ }
+        outcome r (now (marks .exit)) ≡ judgeDirectory (suc f) (view (now (image .entry))) (directory .0) (now (marks .entry))) ⌝ }
 {
     let count = fields::entry_count(directory);
     for i in 0..count {
@@ -268,7 +270,7 @@ fn lost_page(image: &[u8], marks: &[u8]) -> Check
 // After a clean walk: the lost pages, then bit 0, then the count. Byte 3 is not trusted; the zero bits are counted.
 fn judge_rest(image: &[u8], marks: &[u8]) -> Check
     requires { ⌜ Marked (now image) (now marks) ⌝ }
-    ensures { λ r. ⌜ outcome r (now (marks .entry)) ≡ judgeRest (now (image .entry)) (now (marks .entry)) ⌝ }
+    ensures { λ r. ⌜ outcome r (now (marks .entry)) ≡ judgeRest (view (now (image .entry))) (now (marks .entry)) ⌝ }
 {
     let lost = lost_page(image, marks);
     if let Check::Faulty(fault) = lost {

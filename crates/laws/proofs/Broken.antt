@@ -20,7 +20,7 @@ use Rattle.model.specs.Version1.{view}
 use Rattle.model.specs.Sound.{pagesOf, pagesAt, goodEntry, isNamed, inDirectory, goodDirectory, reachedBy, reached, reachedEntries, inRange}
 use Rattle.model.specs.Tree.{Row, Node, fileNode, directoryNode}
 use Rattle.model.specs.Path.{Name, Path, noPath, root, below, isRoot}
-use Rattle.model.specs.Image.{rowAt, treeOf}
+use Rattle.model.specs.Image.{rowAt, treeOf, treeIn}
 use Rattle.model.specs.Walk.{Walked, arrived, walkTo, arrivedOr, entryPosition}
 use Rattle.model.specs.Refusal.{isMissing, isBlocked, isDirectoryNode, isLockedNode, contentIn}
 use Rattle.model.specs.Demands.{Unbroken, WholeFile, WholeDirectory, Chains}
@@ -82,7 +82,7 @@ dateIn (directoryNode date r) = date
 
 module _ (b : Bytes) (f : Facts b) where
   -- a page that a reached entry owns is in range
-  pages-inside : (at q : ℕ) → T (member at (reachedEntries b)) → Mem q (pagesAt (view b) at) → T (inRange (pageCount b) q)
+  pages-inside : (at q : ℕ) → T (member at (reachedEntries b)) → Mem q (pagesAt (view b) at) → T (inRange (view b) q)
   pages-inside at q m o =
       let r = f .inside q (omega (arith, o, occ-flatMap-le (pagesAt (view b)) (reachedEntries b) at q (member-occ at (reachedEntries b) m))) in
       both-and (leb 1 q) (ltb q (pageCount b)) (le→leb 1 q (r .0)) (lt→ltb q (pageCount b) (r .1))
@@ -92,13 +92,13 @@ module _ (b : Bytes) (f : Facts b) where
   every-file at m locked name date start size e =
       let good = subst (λ (x : Entry). T (goodEntry (view b) x)) e (reached-good (pageCount b) b 0 at (f .formed) (member-occ at (reachedEntries b) m)) in
       record {
-        inside = occ-all (inRange (pageCount b)) (chain (link b) (pagesFor size) start)
+        inside = occ-all (inRange (view b)) (chain (link b) (pagesFor size) start)
             (λ q o. pages-inside at q m (subst (λ (x : Entry). Mem q (pagesOf (view b) x)) (sym e) o));
         ends = eqb→eq (beyond (link b) (pagesFor size) start) 0 (and-both (legalName name) (eqb (beyond (link b) (pagesFor size) start) 0) good .1);
       }
 
   every-directory : (at : ℕ) → T (member at (reachedEntries b)) → (name date : Bytes) (start size : ℕ) → entryAt b at ≡ aDirectory name date start size
-      → T (inRange (pageCount b) start)
+      → T (inRange (view b) start)
   unfolding pagesOf
   every-directory at m name date start size e = pages-inside at start m (subst (λ (x : Entry). Mem start (pagesOf (view b) x)) (sym e) (mem-head start []))
 
@@ -111,7 +111,7 @@ module _ (b : Bytes) (f : Facts b) where
     node : nodeOf (view b) rows (entryAt b at) ≡ x
 
   led : (path : Path) {x : Node} → walkTo path (treeOf b .root) ≡ arrived x → T (not (isRoot path)) → Led x (entryPosition b path)
-  unfolding walkTo treeOf isMissing isBlocked isRoot arrivedOr
+  unfolding walkTo treeIn isMissing isBlocked isRoot arrivedOr
   led noPath e h = absurd (subst (λ (w : Walked Node). T (isMissing w)) e tt)
   led root e h = absurd h
   led (below ns n) {x} e h =

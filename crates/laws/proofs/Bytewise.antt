@@ -26,10 +26,13 @@ use Rattle.model.specs.Sound.{pagesAt, ownedPages, sound}
 use Rattle.model.specs.Path.{Name, Path, pathOf}
 use Rattle.model.specs.Image.{treeOf}
 use Rattle.model.specs.Walk.{entryPosition}
-use Rattle.model.specs.Effect.{formatted, made, rewritten, written, removed, withLock, relocked}
-use Rattle.model.specs.Call.{Call, format, verdict, find, list, read, makeFile, makeDirectory, write, removeFile, removeDirectory, setLock, store, refusal}
-use Rattle.model.specs.Refusal.{wanted, earlier, later, refusals, size, Passes}
+use Rattle.model.specs.Effect.{formatted, made, rewritten, written, removed, withLock}
+use Rattle.model.specs.Call.{Call, format, formatAs, verdict, find, list, read, makeFile, makeDirectory, write, removeFile, removeDirectory, setLock, storeAs, refusal}
+use Rattle.model.specs.Refusal.{refusals, size, Passes}
 use Rattle.model.specs.Meaning.{isFormat, lines, effect, after}
+use Rattle.model.specs.EffectOf
+use Rattle.model.specs.MeaningOf
+use Rattle.model.specs.RefusalOf
 use Rattle.model.proofs.Version1.{home}
 use Rattle.laws.proofs.Facts.{Facts, sound-facts, valid-sized}
 use Rattle.laws.proofs.Owns.{own-le, pages-own}
@@ -123,7 +126,7 @@ numbers-fit {b} f i p l = omega (arith, sized f .high)
 -- ---- remove
 
 small-removed : {b : Bytes} → Facts b → {path : Bytes} → Removes b path → Small b → Small (removed (pathOf path) b)
-unfolding removed
+unfolding EffectOf.removed
 small-removed {b} f r s =
     let tg = target f (r .reached) (r .entered) in
     let freed : ℕ → Bytes = λ at. set (foldl (On.released version1) b (pagesAt (view b) at)) at 0 in
@@ -165,7 +168,7 @@ module _ (b : Bytes) (f : Facts b) (path : Bytes) (from : ℕ) (v : Bytes) (w : 
       (small-size (max s₀ (from + length v)) (omega (arith, size-fits, same-size))) hv hb)
 
   small-write : Small v → Small b → Small (written (pathOf path) from v b)
-  unfolding written
+  unfolding EffectOf.written
   small-write hv hb = go (eqb (length v) 0)
     where
       go : (c : Bool) → Small (if c then b else rewritten (entryPosition b (pathOf path)) from v b)
@@ -212,7 +215,7 @@ module _ (b : Bytes) (f : Facts b) (path date : Bytes) (fl z k : ℕ) (m : Makes
 
 -- The bytes to be written are bytes. Of other arguments only a legal name and a good date are stored, and those are bytes.
 abbrev pub SmallCall : Call → Type 0
-SmallCall format = Unit {0}
+SmallCall (formatAs new) = Unit {0}
 SmallCall verdict = Unit {0}
 SmallCall (find path) = Unit {0}
 SmallCall (list path i) = Unit {0}
@@ -223,11 +226,11 @@ SmallCall (write path at v) = Small v
 SmallCall (removeFile path) = Unit {0}
 SmallCall (removeDirectory path) = Unit {0}
 SmallCall (setLock locked path) = Unit {0}
-SmallCall (store path date v k buffer) = Unit {0}
+SmallCall (storeAs has path date v k buffer) = Unit {0}
 
 small-effect : (c : Call) (b : Bytes) → Small b → SmallCall c → Passes (lines c b) → Small (effect c b)
-unfolding effect lines isFormat refusals earlier later wanted relocked
-small-effect format b s h e = small-formatted b (not-not (validLength (length b)) (passed _ _ e .0)) s
+unfolding MeaningOf.effect MeaningOf.lines isFormat RefusalOf.refusals RefusalOf.earlier RefusalOf.later RefusalOf.wanted EffectOf.relocked
+small-effect (formatAs new) b s h e = small-formatted b (not-not (validLength (length b)) (passed _ _ e .0)) s
 small-effect verdict b s h e = s
 small-effect (find path) b s h e = s
 small-effect (list path i) b s h e = s
@@ -254,8 +257,8 @@ small-effect (removeDirectory path) b s h e =
     small-removed f (remove-directory-passed f (g .1)) s
 small-effect (setLock locked path) b s h e =
     let at = entryPosition b (pathOf path) in small-set b at (withLock locked (byteAt b at)) (lock-small locked (byteAt b at) (s at)) s
-small-effect (store path date v k buffer) b s h e = s
+small-effect (storeAs has path date v k buffer) b s h e = s
 
 pub small-after : (c : Call) (b : Bytes) → Small b → SmallCall c → Small (after c b)
-unfolding after
+unfolding MeaningOf.after
 small-after c b s h = settle-both (λ (x y : Bytes). Small x) (lines c b) (λ r. b) (effect c b) (λ r. b) (effect c b) (λ r. s) (small-effect c b s h)

@@ -11,10 +11,9 @@ use Rattle.volume.proofs.Occ.{Mem}
 use Rattle.model.specs.Layout.{pageCount, pagesFor, freeCount, zeroBits, link}
 use Rattle.model.specs.Version1.{view}
 use Rattle.model.specs.Sound.{ownedPages, soundTo, sound}
-use Rattle.model.specs.Tree.{Row, end, free, file, dir, needs, freeNumber}
-use Rattle.model.specs.Image.{contentOf, rowAt, treeOf}
+use Rattle.model.specs.Tree.{needs, freeNumber, freeNumberOf}
+use Rattle.model.specs.Image.{contentOf, rowAt, treeOf, treeIn}
 use Rattle.view_laws.proofs.Counting as Any
-use Rattle.view_laws.proofs.Counting.{needsBy}
 use Rattle.laws.proofs.Facts.{Facts, viewed, of-view, once, soundTo-facts, facts-sound, valid-sized}
 use Rattle.laws.proofs.Frame.{headed}
 
@@ -44,27 +43,19 @@ InImage b ps = (q : ℕ) → Mem q ps → 256 * q + 256 ≤ length b
 pub content-length : (b : Bytes) (start size : ℕ) → InImage b (chain (link b) (pagesFor size) start) → length (contentOf (view b) size (chain (link b) (pagesFor size) start)) ≡ size
 content-length b start size h = Any.content-length (view b) start size (fill-up size) (λ q m. omega (arith, h q m))
 
-needs-by : (r : Row) → needs r ≡ needsBy (λ w. 1) pagesFor r
-unfolding needs needsBy
-needs-by end = refl
-needs-by (free r) = needs-by r
-needs-by (file l n d v r) = ap (λ (k : ℕ). pagesFor (length v) + k) (needs-by r)
-needs-by (dir n d s r) = omega (arith, needs-by s, needs-by r)
-
 pub owned-in : {b : Bytes} → Facts b → InImage b (ownedPages b)
 owned-in f q m = let r = f .inside q m in omega (arith, r .1)
 
 owned-needs : {b : Bytes} → Facts b → length (ownedPages b) ≡ needs (rowAt (pageCount b) (view b) 0)
 owned-needs {b} f =
-    Any.owned-needs (view b) (λ w. 1) (λ q. 256 * q + 256 ≤ length b) fill-up (λ q h. omega (arith, h)) (λ p u h. refl) (pageCount b) 0 (f .formed) (once f, owned-in f)
-    ∙ sym (needs-by (rowAt (pageCount b) (view b) 0))
+    Any.owned-needs (view b) (λ q. 256 * q + 256 ≤ length b) fill-up (λ q h. omega (arith, h)) (λ p u h. refl) (pageCount b) 0 (f .formed) (once f, owned-in f)
 
 -- ---- the free number
 
 pub free-sum : {b : Bytes} → Facts b → freeCount b + 1 + needs (treeOf b .root) ≡ pageCount b
-unfolding treeOf
+unfolding treeIn
 free-sum {b} f = omega (arith, count-owned f, owned-needs f, f .counted)
 
 pub free-number : {b : Bytes} → Facts b → freeNumber (treeOf b) ≡ freeCount b
-unfolding freeNumber treeOf
+unfolding freeNumberOf treeIn
 free-number {b} f = omega (arith, count-owned f, owned-needs f, f .counted)

@@ -22,12 +22,14 @@ use Rattle.model.specs.Version1.{view}
 use Rattle.model.specs.Sound.{isNamed, owned, sound}
 use Rattle.model.specs.Tree.{Row, end, free, file, dir, Node, fileNode, directoryNode, lookup}
 use Rattle.model.specs.Path.{Name, Path, noPath, root, below, before, texts, namesFrom, pathTo, pathOf, isNoPath, isRoot, names}
-use Rattle.model.specs.Image.{rowAt, treeOf}
+use Rattle.model.specs.Image.{rowAt, treeOf, treeIn}
 use Rattle.model.specs.Walk.{walkTo, entryNamed, walkOn, arrivedOr, entryPosition}
 use Rattle.model.specs.Call.{find, Found, granted}
-use Rattle.model.specs.Refusal.{isMissing, isBlocked, earlier, refusals, Passes}
+use Rattle.model.specs.Refusal.{isMissing, isBlocked, refusals, Passes}
 use Rattle.model.specs.Meaning.{isFormat, lines, told, answer}
 use Rattle.model.specs.Demands.{HeldAs, ExactNames}
+use Rattle.model.specs.MeaningOf
+use Rattle.model.specs.RefusalOf
 use Rattle.laws.proofs.Facts.{Facts, root-once, valid-sized, sound-facts}
 use Rattle.laws.proofs.Entries.{Within, entry-within}
 use Rattle.laws.proofs.Owns.{own-two}
@@ -228,7 +230,7 @@ module _ {b : Bytes} (f : Facts b) where
 
   -- where find is granted
   find-leads : (p : Bytes) → Passes (refusals (find p) (treeOf b)) → (pathOf p ≡ root) ⊎ ((ns : List Name) × (n : Name) × (pathOf p ≡ below ns n) × Target b ns n)
-  unfolding refusals earlier treeOf isNoPath
+  unfolding RefusalOf.refusals RefusalOf.earlier treeIn isNoPath
   find-leads p e =
       let p1 = passed _ _ e in
       let p2 = passed _ _ (p1 .1) in
@@ -259,7 +261,7 @@ module _ {b : Bytes} (f : Facts b) where
 
 paths-exact : (b : Bytes) → T (sound b) → (p q : Bytes) (x y : Found) → answer (find p) b ≡ granted x → answer (find q) b ≡ granted y
     → entryPosition b (pathOf p) ≡ entryPosition b (pathOf q) → p ≡ q
-unfolding answer isFormat
+unfolding MeaningOf.answer isFormat
 paths-exact b h p q x y u v e = elim (leads p x u) [
   | inl r ↦ elim (leads q y v) [
     | inl s ↦ root-bytes p r ∙ sym (root-bytes q s)

@@ -1,19 +1,16 @@
--- The tests of a sound image as facts. Range, "none is owned twice" and "marked exactly if owned" come to one equation for each page:
--- it is owned as often as its bit says.
+-- The tests of a sound image as facts: length and header, and then those of its view.
 use mathlib.Core.Path.{_≡_, refl, ap, _∙_}
-use Prim.Native.Nat.{ℕ, _-_, _*_, _%_, _≤_, _<_}
+use Prim.Native.Nat.{ℕ, _*_, _%_, _≤_, _<_}
 use native.Mathlib.Omega.{arith}
-use mathlib.Core.Bool.{Bool}
-use mathlib.Core.List.{List, [], _∷_}
+use mathlib.Core.List.{[], _∷_}
 use lib.ListN.{length}
-use lib.Dec.{T, eqb, leb, ltb, eqb→eq, leb→le, le→leb, ltb→lt, lt→ltb}
+use lib.Dec.{T, eqb, leb, eqb→eq, leb→le}
 use Rattle.volume.specs.Bytes.{Bytes}
-use Rattle.volume.specs.Lists.{all, distinct, countFrom}
 use Rattle.volume.proofs.Occ.{occ, Mem}
-use Rattle.volume.proofs.Tests.{and-both, both-and, no-conditions, conditions-cons, cons-conditions, distinct-occ, occ-distinct, all-occ, occ-all, occ-countFrom, countFrom-occ, eq-eqb}
+use Rattle.volume.proofs.Tests.{conditions-cons, cons-conditions}
 use Rattle.model.specs.Layout.{pageCount, validLength, validHeader, freeCount, pageBit, zeroBits}
 use Rattle.model.specs.Version1.{view}
-use Rattle.model.specs.Sound.{goodDirectory, owned, inRange, soundTo, sound}
+use Rattle.model.specs.Sound.{goodDirectory, owned, soundTo, sound, soundBy}
 use Rattle.view_laws.proofs.Facts as Any
 use Rattle.view_laws.proofs.Facts.{Rooted}
 
@@ -52,10 +49,6 @@ pub record FactsTo (depth : ℕ) (b : Bytes) : Type 0 where
 abbrev pub Facts : Bytes → Type 0
 Facts b = FactsTo (pageCount b) b
 
--- the test "marked exactly if owned"
-abbrev agrees : Bytes → List ℕ → ℕ → Bool
-agrees b pages p = Any.agrees (view b) pages p
-
 -- the same as facts of the view, and back
 pub viewed : {d : ℕ} {b : Bytes} → FactsTo d b → Any.FactsTo d (view b)
 viewed {d} {b} f = record {
@@ -91,49 +84,22 @@ root-once {b} f = Any.root-once (viewed f) (omega arith) (rooted b)
 
 module _ {depth : ℕ} {b : Bytes} where
   to-facts : T (soundTo depth b) → FactsTo depth b
-  unfolding soundTo
+  unfolding soundBy
   to-facts h =
       let t1 = conditions-cons (validLength (length b)) _ h in
       let t2 = conditions-cons (validHeader b) _ (t1 .1) in
-      let t3 = conditions-cons (eqb (pageBit b 0) 1) _ (t2 .1) in
-      let t4 = conditions-cons (eqb (freeCount b) (zeroBits b (pageCount b))) _ (t3 .1) in
-      let t5 = conditions-cons (goodDirectory depth (view b) 0) _ (t4 .1) in
-      let t6 = conditions-cons (all (inRange (pageCount b)) (owned depth (view b) 0)) _ (t5 .1) in
-      let t7 = conditions-cons (distinct (owned depth (view b) 0)) _ (t6 .1) in
-      let t8 = conditions-cons (all (agrees b (owned depth (view b) 0)) (countFrom 1 (pageCount b - 1))) [] (t7 .1) in
-      record {
-        fits = t1 .0;
-        headed = t2 .0;
-        bit-zero = eqb→eq (pageBit b 0) 1 (t3 .0);
-        counted = eqb→eq (freeCount b) (zeroBits b (pageCount b)) (t4 .0);
-        formed = t5 .0;
-        inside = λ q m.
-            let r = and-both (leb 1 q) (ltb q (pageCount b)) (all-occ (inRange (pageCount b)) (owned depth (view b) 0) (t6 .0) q m) in
-            (leb→le 1 q (r .0), ltb→lt q (pageCount b) (r .1));
-        exact = λ q l u. Any.agrees-exact (view b) (owned depth (view b) 0) q (distinct-occ (owned depth (view b) 0) (t7 .0))
-            (all-occ (agrees b (owned depth (view b) 0)) (countFrom 1 (pageCount b - 1)) (t8 .0) q (occ-countFrom 1 (pageCount b - 1) q l (omega arith)));
-      }
+      of-view (t1 .0) (t2 .0) (Any.to-facts (t2 .1))
 
   from-facts : FactsTo depth b → T (soundTo depth b)
-  unfolding soundTo
-  from-facts f =
-      cons-conditions _ _ (f .fits) (cons-conditions _ _ (f .headed)
-      (cons-conditions _ _ (eq-eqb (f .bit-zero)) (cons-conditions _ _ (eq-eqb (f .counted)) (cons-conditions _ _ (f .formed)
-      (cons-conditions _ _
-      (occ-all (inRange (pageCount b)) (owned depth (view b) 0) (λ q m.
-      let r = f .inside q m in both-and (leb 1 q) (ltb q (pageCount b)) (le→leb 1 q (r .0)) (lt→ltb q (pageCount b) (r .1))))
-      (cons-conditions _ _ (occ-distinct (owned depth (view b) 0) (once f))
-      (cons-conditions _ []
-      (occ-all (agrees b (owned depth (view b) 0)) (countFrom 1 (pageCount b - 1)) (λ q m.
-      let r = countFrom-occ 1 (pageCount b - 1) q m in Any.exact-agrees (view b) (owned depth (view b) 0) q (f .exact q (r .0) (omega (arith, r .0, r .1)))))
-      no-conditions)))))))
+  unfolding soundBy
+  from-facts f = cons-conditions _ _ (f .fits) (cons-conditions _ _ (f .headed) (Any.from-facts (viewed f)))
 
 pub sound-facts : {b : Bytes} → T (sound b) → Facts b
-unfolding sound
+unfolding soundBy
 sound-facts {b} h = to-facts h
 
 pub facts-sound : {b : Bytes} → Facts b → T (sound b)
-unfolding sound
+unfolding soundBy
 facts-sound {b} f = from-facts f
 
 pub soundTo-facts : {depth : ℕ} {b : Bytes} → T (soundTo depth b) → FactsTo depth b

@@ -20,7 +20,7 @@ use Rattle.model.specs.Entry.{entries, vacant, entryAt}
 use Rattle.model.specs.Version1.{view}
 use Rattle.model.specs.Sound.{owned, sound}
 use Rattle.model.specs.Tree.{Row, Tree}
-use Rattle.model.specs.Image.{rowAt, treeOf}
+use Rattle.model.specs.Image.{rowAt, treeOf, treeIn}
 use Rattle.model.specs.Effect.{formatted}
 use Rattle.model.specs.Meaning.{freshTree}
 use Rattle.laws.proofs.Facts.{valid-sized, FactsTo, facts-sound}
@@ -81,7 +81,7 @@ module _ (b : Bytes) (v : T (validLength (length b))) where
       (cons-conditions _ [] (eq-eqb (on-header 2 (omega arith) ∙ ap (λ (n : ℕ). n / 8) (sym pages))) no-conditions))
 
   pub fresh : T (sound (formatted b)) × (treeOf (formatted b) ≡ freshTree (pageCount b))
-  unfolding treeOf entries countFrom
+  unfolding treeIn entries countFrom
   fresh =
       let b′ : Bytes = formatted b in
       let s = valid-sized b v in
@@ -99,5 +99,5 @@ module _ (b : Bytes) (v : T (validLength (length b))) where
           inside = λ q m. absurd (omega (arith, none-owned q));
           exact = λ q l u. none-owned q ∙ sym (bits q (omega (arith, s .high, deep)) ∙ hit-ne q 0 (omega arith));
         })),
-        ap₂ {C = Tree} (λ (n : ℕ) (r : Row). record { pages = n; root = r }) pages (ap (λ (n : ℕ). rowAt n (view b′) 0) deep ∙ vacant-row b′ d 0 empty),
+        ap₂ {C = Tree} (λ (n : ℕ) (r : Row). record { pages = n; code = 0; root = r }) pages (ap (λ (n : ℕ). rowAt n (view b′) 0) deep ∙ vacant-row b′ d 0 empty),
       )

@@ -24,6 +24,8 @@ pub mod Lines
 pub mod Broken
 pub mod Grants
 pub mod Names
+pub mod Numbers
+pub mod Owed
 pub mod Steps
 -- Lists of calls, and the theorems.
 pub mod Lists

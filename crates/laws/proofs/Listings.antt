@@ -10,13 +10,14 @@ use Rattle.model.specs.Layout.{validLength}
 use Rattle.model.specs.Image.{treeOf}
 use Rattle.model.specs.Text.{text}
 use Rattle.model.specs.Call.{verdict, Verdict, refusal, Answer, refused}
-use Rattle.model.specs.Meaning.{lines, answer}
+use Rattle.model.specs.Meaning.{answer}
 use Rattle.model.specs.Listing.{digits, listingOf, listing}
+use Rattle.model.specs.MeaningOf
 use Rattle.laws.proofs.Facts.{valid-sized}
 use Rattle.laws.proofs.Lines.{settle-holds}
 
 length-refused : (b : Bytes) → T (not (validLength (length b))) → answer verdict b ≡ refused (refusal 1)
-unfolding answer lines
+unfolding MeaningOf.answer MeaningOf.lines
 length-refused b h = settle-holds refused (not (validLength (length b))) (refusal 1) _ _ h
 
 pub no-image-listed : (b : Bytes) → T (not (validLength (length b))) → listing b ≡ text "refused 1\n"

@@ -23,6 +23,7 @@ use Rattle.model.specs.Image.{rowAt, treeOf}
 use Rattle.model.specs.Walk.{arrived, walkTo, changeAt}
 use Rattle.model.specs.Effect.{withLock, relocked}
 use Rattle.model.specs.Refusal.{isMissing, isBlocked, isDirectoryNode}
+use Rattle.model.specs.EffectOf
 use Rattle.view_laws.proofs.Writing.{relocked-sound}
 use Rattle.laws.proofs.Facts.{Facts, viewed}
 use Rattle.laws.proofs.Focus.{named-found}
@@ -129,7 +130,7 @@ module _ (b : Bytes) (f : Facts b) (ns : List Name) (n : Name) (tg : Target b ns
       (other (at + 17) (omega arith))
       (ap₂ (λ (x y : ℕ). x + 256 * y) (other (at + 18) (omega arith)) (other (at + 19) (omega arith)))
 
-  locked-sound : T (sound b′) × (treeOf b′ ≡ record { pages = pageCount b; root = changeAt ns (relock (n .bytes) k) (rowAt (pageCount b) (view b) 0) })
+  locked-sound : T (sound b′) × (treeOf b′ ≡ record { pages = pageCount b; code = 0; root = changeAt ns (relock (n .bytes) k) (rowAt (pageCount b) (view b) 0) })
   unfolding On.pageBit
   locked-sound =
       let far = slot .within .far in
@@ -150,11 +151,11 @@ target-file {b} {n} tg isFile =
 pub locked-tree : {b : Bytes} → Facts b → (ns : List Name) (n : Name) (k : Bool)
     → T (not (isMissing (walkTo (below ns n) (rowAt (pageCount b) (view b) 0)))) → T (not (isBlocked (walkTo (below ns n) (rowAt (pageCount b) (view b) 0))))
     → ((x : Node) → walkTo (below ns n) (rowAt (pageCount b) (view b) 0) ≡ arrived x → T (not (isDirectoryNode x)))
-    → T (sound (relocked (below ns n) k b)) × (treeOf (relocked (below ns n) k b) ≡ record { pages = pageCount b; root = changeAt ns (relock (n .bytes) k) (rowAt (pageCount b) (view b) 0) })
-unfolding relocked
+    → T (sound (relocked (below ns n) k b)) × (treeOf (relocked (below ns n) k b) ≡ record { pages = pageCount b; code = 0; root = changeAt ns (relock (n .bytes) k) (rowAt (pageCount b) (view b) 0) })
+unfolding EffectOf.relocked
 locked-tree {b} f ns n k u v isFile =
     let tg = target f u v in
     let is = target-file tg isFile in
     subst (λ (at : ℕ). let b′ = set b at (withLock k (byteAt b at)) in
-    T (sound b′) × (treeOf b′ ≡ record { pages = pageCount b; root = changeAt ns (relock (n .bytes) k) (rowAt (pageCount b) (view b) 0) }))
+    T (sound b′) × (treeOf b′ ≡ record { pages = pageCount b; code = 0; root = changeAt ns (relock (n .bytes) k) (rowAt (pageCount b) (view b) 0) }))
     (sym (tg .position)) (locked-sound b f ns n tg is k)

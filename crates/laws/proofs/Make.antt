@@ -33,6 +33,7 @@ use Rattle.model.specs.Image.{contentOf, entryRow, rowAt, treeOf}
 use Rattle.model.specs.Walk.{Walked, arrived, walk, arrivedOr, changeAt}
 use Rattle.model.specs.Effect.{isVacant, lowestVacant, made, fileMade, directoryMade}
 use Rattle.model.specs.Refusal.{isMissing, isBlocked, isThere}
+use Rattle.model.specs.EffectOf
 use Rattle.model.proofs.Version1.{home}
 use Rattle.model.proofs.Bounds.{eight-entries}
 use Rattle.view_laws.proofs.Owns as Owns
@@ -116,7 +117,7 @@ module _ {b : Bytes} (f : Facts b) (ns : List Name) (name date : Bytes) (fl z k 
       → Owns.own (w .above .e) v′ x ≡ On.gained version1 (pageCount b) k b → T (goodEntry v′ x) → T (inDirectory true (goodDirectory (w .above .e) v′) x)
       → ((y : Entry) → T (not (isNamed name y)) → T (not (sameName x y)))
       → ((rest : Row) → h rest ≡ entryRow v′ (rowAt (w .above .e) v′) x rest)
-      → T (sound b′) × (treeOf b′ ≡ record { pages = pageCount b; root = changeAt ns (fill h) (rowAt (pageCount b) (view b) 0) })
+      → T (sound b′) × (treeOf b′ ≡ record { pages = pageCount b; code = 0; root = changeAt ns (fill h) (rowAt (pageCount b) (view b) 0) })
   made-sound h x is mine good sub apart means =
       let m = made-bytes in
       let qs : List ℕ = On.gained version1 (pageCount b) k b in
@@ -131,7 +132,7 @@ module _ {b : Bytes} (f : Facts b) (ns : List Name) (name date : Bytes) (fl z k 
 
 module _ {b : Bytes} (f : Facts b) {ns : List Name} {name date : Bytes} (w : Place b ns name date (pagesFor 0)) where
   file-sound : let b′ = madeAt 0x80 0 (pagesFor 0) name date (w .at) b in
-      T (sound b′) × (treeOf b′ ≡ record { pages = pageCount b; root = changeAt ns (fill (file false name date [])) (rowAt (pageCount b) (view b) 0) })
+      T (sound b′) × (treeOf b′ ≡ record { pages = pageCount b; code = 0; root = changeAt ns (fill (file false name date [])) (rowAt (pageCount b) (view b) 0) })
   unfolding Owns.own pagesOf goodEntry sameName entryRow contentOf
   file-sound =
       let b′ : Bytes = madeAt 0x80 0 (pagesFor 0) name date (w .at) b in
@@ -155,7 +156,7 @@ leads-many b (n ∷ ns) (suc d) p e t l =
 
 module _ {b : Bytes} (f : Facts b) {ns : List Name} {name date : Bytes} (w : Place b ns name date 1) where
   directory-sound : let b′ = madeAt 0x81 0x0100 1 name date (w .at) b in
-      T (sound b′) × (treeOf b′ ≡ record { pages = pageCount b; root = changeAt ns (fill (dir name date (emptyRow 8))) (rowAt (pageCount b) (view b) 0) })
+      T (sound b′) × (treeOf b′ ≡ record { pages = pageCount b; code = 0; root = changeAt ns (fill (dir name date (emptyRow 8))) (rowAt (pageCount b) (view b) 0) })
   unfolding Owns.own goodEntry sameName entryRow chain beyond
   directory-sound = go (w .above .e) refl
     where
@@ -195,7 +196,7 @@ module _ {b : Bytes} (f : Facts b) {ns : List Name} {name date : Bytes} (w : Pla
         w .space,
       )
 
-      go : (e : ℕ) → w .above .e ≡ e → T (sound b′) × (treeOf b′ ≡ record { pages = pageCount b; root = changeAt ns (fill (dir name date (emptyRow 8))) (rowAt (pageCount b) (view b) 0) })
+      go : (e : ℕ) → w .above .e ≡ e → T (sound b′) × (treeOf b′ ≡ record { pages = pageCount b; code = 0; root = changeAt ns (fill (dir name date (emptyRow 8))) (rowAt (pageCount b) (view b) 0) })
       go zero q = absurd (omega (arith, q, deep))
       go (suc e) q =
           let is = is-directory 0x81 name 0x0100 date (w .long) (w .dated) b′ (w .at) (made-inside f ns name date 0x81 0x0100 1 w) (made-there f ns name date 0x81 0x0100 1 w) refl in
@@ -220,7 +221,7 @@ pub record Clear (b : Bytes) (ns : List Name) (n : Name) (date : Bytes) (k : ℕ
   pub space : k ≤ zeroBits b (pageCount b)
 
 pub place-of : {b : Bytes} → Facts b → {ns : List Name} {n : Name} {date : Bytes} {k : ℕ} → Clear b ns n date k → Place b ns (n .bytes) date k
-unfolding lowestVacant
+unfolding EffectOf.lowestVacant
 place-of {b} f {ns} {n} c =
     let p = parent f (c .reached) (c .entered) in
     let r = c .new (rowAt (suc (p .e)) (view b) (p .t)) (p .row) in
@@ -237,23 +238,23 @@ place-of {b} f {ns} {n} c =
 
 pub made-position : {b : Bytes} {ns : List Name} (n : Name) (date : Bytes) (fl z k : ℕ) (p : Parent b ns)
     → made fl z k (below ns n) date b ≡ madeAt fl z k (n .bytes) date (lowestVacant b (p .t)) b
-unfolding made arrivedOr
+unfolding EffectOf.made arrivedOr
 made-position {b} n date fl z k p = ap (λ (v : Walked ℕ). madeAt fl z k (n .bytes) date (lowestVacant b (arrivedOr 0 v)) b) (p .page)
 
 pub file-tree : {b : Bytes} → Facts b → {ns : List Name} {n : Name} {date : Bytes} → Clear b ns n date (pagesFor 0)
     → T (sound (fileMade (below ns n) date b))
-    × (treeOf (fileMade (below ns n) date b) ≡ record { pages = pageCount b; root = changeAt ns (fill (file false (n .bytes) date [])) (rowAt (pageCount b) (view b) 0) })
+    × (treeOf (fileMade (below ns n) date b) ≡ record { pages = pageCount b; code = 0; root = changeAt ns (fill (file false (n .bytes) date [])) (rowAt (pageCount b) (view b) 0) })
 unfolding place-of
 file-tree {b} f {ns} {n} {date} c =
-    subst (λ (b′ : Bytes). T (sound b′) × (treeOf b′ ≡ record { pages = pageCount b; root = changeAt ns (fill (file false (n .bytes) date [])) (rowAt (pageCount b) (view b) 0) }))
+    subst (λ (b′ : Bytes). T (sound b′) × (treeOf b′ ≡ record { pages = pageCount b; code = 0; root = changeAt ns (fill (file false (n .bytes) date [])) (rowAt (pageCount b) (view b) 0) }))
     (sym (made-position n date 0x80 0 (pagesFor 0) (parent f (c .reached) (c .entered))))
     (file-sound f (place-of f c))
 
 pub directory-tree : {b : Bytes} → Facts b → {ns : List Name} {n : Name} {date : Bytes} → Clear b ns n date 1
     → T (sound (directoryMade (below ns n) date b))
-    × (treeOf (directoryMade (below ns n) date b) ≡ record { pages = pageCount b; root = changeAt ns (fill (dir (n .bytes) date (emptyRow 8))) (rowAt (pageCount b) (view b) 0) })
+    × (treeOf (directoryMade (below ns n) date b) ≡ record { pages = pageCount b; code = 0; root = changeAt ns (fill (dir (n .bytes) date (emptyRow 8))) (rowAt (pageCount b) (view b) 0) })
 unfolding place-of
 directory-tree {b} f {ns} {n} {date} c =
-    subst (λ (b′ : Bytes). T (sound b′) × (treeOf b′ ≡ record { pages = pageCount b; root = changeAt ns (fill (dir (n .bytes) date (emptyRow 8))) (rowAt (pageCount b) (view b) 0) }))
+    subst (λ (b′ : Bytes). T (sound b′) × (treeOf b′ ≡ record { pages = pageCount b; code = 0; root = changeAt ns (fill (dir (n .bytes) date (emptyRow 8))) (rowAt (pageCount b) (view b) 0) }))
     (sym (made-position n date 0x81 0x0100 1 (parent f (c .reached) (c .entered))))
     (directory-sound f (place-of f c))

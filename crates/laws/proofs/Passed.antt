@@ -1,5 +1,4 @@
--- What a granted call has passed: none of its lines holds, so its path leads where the call works, a new name is legal and not there, and there are
--- pages enough.
+-- What a granted call of version 1 has passed: the laws of `version_laws`, which say it of the tree, and what follows for the bytes.
 use mathlib.Core.Path.{_≡_, refl, sym, ap, _∙_, subst}
 use Prim.Native.Nat.{ℕ, _+_, _-_, _≤_, max}
 use native.Mathlib.Omega.{arith}
@@ -17,12 +16,17 @@ use Rattle.model.specs.Version1.{view}
 use Rattle.model.specs.Sound.{sound}
 use Rattle.model.specs.Tree.{Row, end, width, held, freeNumber, Node, fileNode, directoryNode, lookup}
 use Rattle.model.specs.Path.{Name, Path, noPath, root, below, pathOf, isNoPath, isRoot, parents, names, lastName}
-use Rattle.model.specs.Image.{rowAt, treeOf}
+use Rattle.model.specs.Image.{rowAt, treeOf, treeIn}
 use Rattle.model.specs.Walk.{Walked, arrived, missing, blocked, walk, walkTo, arrivedOr, parentPage, entryPosition}
 use Rattle.model.specs.Effect.{lowestVacant, made}
 use Rattle.model.specs.Call.{Call, write, removeFile, removeDirectory, setLock, Refusal, refusal}
-use Rattle.model.specs.Refusal.{Line, isMissing, isBlocked, isThere, isDirectoryNode, contentIn, rowIn, node, size, wanted, bufferLines, makeLines, earlier, later, refusals, Passes}
+use Rattle.model.specs.Refusal.{Line, isMissing, isBlocked, isThere, isDirectoryNode, contentIn, rowIn, node, size, wanted, bufferLines, makeLines, refusals, Passes}
 use Rattle.model.specs.Meaning.{soundLine, imageLines, isFormat, lines}
+use Rattle.model.specs.EffectOf
+use Rattle.model.specs.MeaningOf
+use Rattle.model.specs.RefusalOf
+use Rattle.model.specs.Version.{v1}
+use Rattle.version_laws.proofs.Passed as Any
 use Rattle.laws.proofs.Facts.{Facts}
 use Rattle.laws.proofs.Counting.{free-number}
 use Rattle.laws.proofs.Focus.{named-found}
@@ -33,19 +37,10 @@ use Rattle.laws.proofs.Lines.{passed, passes-right}
 use Rattle.laws.proofs.Names.{last-legal, date-length}
 
 pub image-passed : (b : Bytes) (ls : List Line) → Passes (imageLines b ++ ls) → T (sound b) × Passes ls
-image-passed b ls e =
-    let p1 = passed (not (validLength (length b)), refusal 1) _ e in
-    let p2 = passed (not (validHeader b), refusal 2) _ (p1 .1) in
-    let p3 = passed (soundLine b) ls (p2 .1) in
-    (not-not (sound b) (p3 .0), p3 .1)
+image-passed = Any.image-passed v1
 
 pub sound-passed : (c : Call) (b : Bytes) → T (not (isFormat c)) → Passes (lines c b) → T (sound b) × Passes (refusals c (treeOf b))
-unfolding lines
-sound-passed c b h e =
-    let p1 = passed _ _ (passes-right (bufferLines c) _ e) in
-    let p2 = passed _ _ (subst Passes (if-no (isFormat c) [] _ h) (p1 .1)) in
-    let p3 = passed _ _ (p2 .1) in
-    (not-not (sound b) (p3 .0), p3 .1)
+sound-passed = Any.sound-passed v1
 
 -- ---- the calls that change an image: what their lines say, where the path leads to a last name
 
@@ -83,162 +78,58 @@ pub record Removes (b path : Bytes) : Type 0 where
   pub entered : T (not (isBlocked (walkTo (below ns n) (rowAt (pageCount b) (view b) 0))))
   pub empty : (x : Node) → walkTo (below ns n) (rowAt (pageCount b) (view b) 0) ≡ arrived x → held (rowIn x) ≤ 0
 
-last-name : (p : Path) → T (not (isNoPath p)) → T (not (isRoot p)) → (ns : List Name) × (n : Name) × (p ≡ below ns n)
-unfolding isNoPath isRoot
-last-name noPath h k = absurd h
-last-name root h k = absurd k
-last-name (below ns n) h k = (ns, n, refl)
-
-neither : (c d : Bool) → T (not (c || d)) → T (not c) × T (not d)
-neither true d h = absurd h
-neither false d h = (tt, h)
-
-not-root : (p : Path) (r : Row) → T (not (isDirectoryNode (arrivedOr (directoryNode [] end) (walkTo p r)))) → T (not (isRoot p))
-unfolding isDirectoryNode arrivedOr walkTo isRoot
-not-root noPath r h = tt
-not-root root r h = h
-not-root (below ns n) r h = tt
-
 arrives : {A : Type 0} (d : A) (w : Walked A) → T (not (isMissing w)) → T (not (isBlocked w)) → w ≡ arrived (arrivedOr d w)
 unfolding isMissing isBlocked arrivedOr
 arrives d (arrived x) u v = refl
 arrives d (missing i) u v = absurd u
 arrives d (blocked i) u v = absurd v
 
--- a file holds no entries
-file-empty : (x : Node) → T (not (isDirectoryNode x)) → held (rowIn x) ≤ 0
-unfolding isDirectoryNode rowIn held
-file-empty (fileNode l d v) h = omega arith
-file-empty (directoryNode d r) h = absurd h
-
 module _ {b : Bytes} (f : Facts b) where
   -- the free number is the number of zero bits
-  space-free : (k : ℕ) → T (not (ltb (freeNumber (treeOf b)) k)) → k ≤ zeroBits b (pageCount b)
-  space-free k h = omega (arith, nltb→le (freeNumber (treeOf b)) k h, free-number f, f .counted)
+  pub space-free : {k : ℕ} → k ≤ freeNumber (treeOf b) → k ≤ zeroBits b (pageCount b)
+  space-free h = omega (arith, h, free-number f, f .counted)
+
+  -- what the lines of a granted make say, of the bytes
+  pub clear-of : {ns : List Name} {n : Name} {date : Bytes} {k : ℕ} → Any.Clear v1 (treeOf b) ns n date k → Clear b ns n date k
+  unfolding treeIn
+  clear-of {ns} c = record {
+    reached = c .reached;
+    entered = c .entered;
+    new = λ r a. (c .new r a, passed _ _ (c .room r a) .0);
+    legal = c .legal;
+    long = c .long;
+    dated = c .dated;
+    space = space-free (c .space (arrivedOr end (walk ns (treeOf b .root))) (arrives end (walk ns (treeOf b .root)) (c .reached) (c .entered)));
+  }
 
   pub make-passed : {path date : Bytes} {k : ℕ} (r : Refusal) → Passes (makeLines path date (treeOf b) ++ ((ltb (freeNumber (treeOf b)) k, r) ∷ [])) → Makes b path date k
-  unfolding makeLines treeOf arrivedOr
-  make-passed {path} {date} {k} r e =
-      let p1 = passed _ _ e in
-      let p2 = passed _ _ (p1 .1) in
-      let p3 = passed _ _ (p2 .1) in
-      let p4 = passed _ _ (p3 .1) in
-      let p5 = passed _ _ (p4 .1) in
-      let p6 = passed _ _ (p5 .1) in
-      let p7 = passed _ _ (p6 .1) in
-      let o = neither (isRoot (pathOf path)) _ (p5 .0) in
-      let w = last-name (pathOf path) (p1 .0) (o .0) in
-      let top : Row = rowAt (pageCount b) (view b) 0 in
-      let good = not-not (goodDate date) (p2 .0) in
-      let name = last-legal path (w .0) (w .1) (w .2) in
-      record {
-        ns = w .0;
-        n = w .1;
-        is = w .2;
-        good = good;
-        clear = record {
-          reached = subst (λ (p : Path). T (not (isMissing (walk (parents p) top)))) (w .2) (p3 .0);
-          entered = subst (λ (p : Path). T (not (isBlocked (walk (parents p) top)))) (w .2) (p4 .0);
-          new = λ s a. (
-            subst (λ (v : Walked Row). T (not (isThere (lookup (w .1 .bytes) (arrivedOr end v))))) a
-                (subst (λ (p : Path). T (not (isThere (lookup (lastName p) (arrivedOr end (walk (parents p) top)))))) (w .2) (o .1)),
-            subst (λ (v : Walked Row). T (not (eqb (held (arrivedOr end v)) (width (arrivedOr end v))))) a
-                (subst (λ (p : Path). T (not (eqb (held (arrivedOr end (walk (parents p) top))) (width (arrivedOr end (walk (parents p) top)))))) (w .2) (p6 .0)),
-          );
-          legal = name .0;
-          long = name .1;
-          dated = date-length date good;
-          space = space-free k (p7 .0);
-        };
-      }
+  make-passed r e = let m = Any.make-passed v1 r e in record { ns = m .ns; n = m .n; is = m .is; good = m .good; clear = clear-of (m .clear) }
 
   pub write-passed : {path : Bytes} {from : ℕ} (v : Bytes) → Passes (refusals (write path from v) (treeOf b)) → Writes b path from v
-  unfolding refusals earlier later wanted treeOf
-  write-passed {path} {from} v e =
-      let p1 = passed _ _ e in
-      let p2 = passed _ _ (p1 .1) in
-      let p3 = passed _ _ (p2 .1) in
-      let p4 = passed _ _ (p3 .1) in
-      let p5 = passed _ _ (p4 .1) in
-      let p6 = passed _ _ (p5 .1) in
-      let p7 = passed _ _ (p6 .1) in
-      let top : Row = rowAt (pageCount b) (view b) 0 in
-      let w = last-name (pathOf path) (p1 .0) (not-root (pathOf path) top (p4 .0)) in
-      record {
-        ns = w .0;
-        n = w .1;
-        is = w .2;
-        reached = subst (λ (p : Path). T (not (isMissing (walkTo p top)))) (w .2) (p2 .0);
-        entered = subst (λ (p : Path). T (not (isBlocked (walkTo p top)))) (w .2) (p3 .0);
-        leads = subst (λ (p : Path). walkTo p top ≡ arrived (node path (treeOf b))) (w .2) (arrives (directoryNode [] end) (walkTo (pathOf path) top) (p2 .0) (p3 .0));
-        isFile = p4 .0;
-        begins = nltb→le (size path (treeOf b)) from (p6 .0);
-        space = space-free (wanted (write path from v) (treeOf b)) (p7 .0);
-      }
+  unfolding treeIn
+  write-passed v e =
+      let w = Any.write-passed v1 v e in
+      let l = w .at in
+      record { ns = l .ns; n = l .n; is = l .is; reached = l .reached; entered = l .entered; leads = w .leads; isFile = w .isFile; begins = w .begins; space = space-free (w .space) }
+
+  removes-of : {path : Bytes} (l : Any.Leads (treeOf b) path) → ((x : Node) → walkTo (below (l .ns) (l .n)) (treeOf b .root) ≡ arrived x → held (rowIn x) ≤ 0) → Removes b path
+  unfolding treeIn
+  removes-of l h = record { ns = l .ns; n = l .n; is = l .is; reached = l .reached; entered = l .entered; empty = h }
 
   pub remove-file-passed : {path : Bytes} → Passes (refusals (removeFile path) (treeOf b)) → Removes b path
-  unfolding refusals earlier later treeOf arrivedOr
-  remove-file-passed {path} e =
-      let p1 = passed _ _ e in
-      let p2 = passed _ _ (p1 .1) in
-      let p3 = passed _ _ (p2 .1) in
-      let p4 = passed _ _ (p3 .1) in
-      let p5 = passed _ _ (p4 .1) in
-      let top : Row = rowAt (pageCount b) (view b) 0 in
-      let w = last-name (pathOf path) (p1 .0) (p2 .0) in
-      record {
-        ns = w .0;
-        n = w .1;
-        is = w .2;
-        reached = subst (λ (p : Path). T (not (isMissing (walkTo p top)))) (w .2) (p3 .0);
-        entered = subst (λ (p : Path). T (not (isBlocked (walkTo p top)))) (w .2) (p4 .0);
-        empty = λ x a. file-empty x
-            (subst (λ (y : Walked Node). T (not (isDirectoryNode (arrivedOr (directoryNode [] end) y)))) a
-            (subst (λ (p : Path). T (not (isDirectoryNode (arrivedOr (directoryNode [] end) (walkTo p top))))) (w .2) (p5 .0)));
-      }
+  unfolding treeIn
+  remove-file-passed e = let r = Any.remove-file-passed v1 e in removes-of (r .0) (r .1)
 
   pub remove-directory-passed : {path : Bytes} → Passes (refusals (removeDirectory path) (treeOf b)) → Removes b path
-  unfolding refusals earlier later treeOf isMissing isBlocked rowIn
-  remove-directory-passed {path} e =
-      let p1 = passed _ _ e in
-      let p2 = passed _ _ (p1 .1) in
-      let p3 = passed _ _ (p2 .1) in
-      let p4 = passed _ _ (p3 .1) in
-      let p5 = passed _ _ (p4 .1) in
-      let p6 = passed _ _ (p5 .1) in
-      let top : Row = rowAt (pageCount b) (view b) 0 in
-      let w = last-name (pathOf path) (p1 .0) (p2 .0) in
-      let come = arrives end (walk (names (pathOf path)) top) (p3 .0) (p4 .0) in
-      let s : Row = arrivedOr end (walk (names (pathOf path)) top) in
-      let last = last-entered (w .0) (w .1) top s (subst (λ (p : Path). walk (names p) top ≡ arrived s) (w .2) come) in
-      record {
-        ns = w .0;
-        n = w .1;
-        is = w .2;
-        reached = subst (λ (x : Walked Node). T (not (isMissing x))) (sym (last .1)) tt;
-        entered = subst (λ (x : Walked Node). T (not (isBlocked x))) (sym (last .1)) tt;
-        empty = λ x a. let q : directoryNode (last .0) s ≡ x = cc (sym (last .1) ∙ a) in
-            subst (λ (y : Node). held (rowIn y) ≤ 0) q (nltb→le 0 (held s) (p6 .0));
-      }
+  unfolding treeIn
+  remove-directory-passed e = let r = Any.remove-directory-passed v1 e in removes-of (r .0) (r .1)
 
   pub lock-passed : (locked : Bool) {path : Bytes} → Passes (refusals (setLock locked path) (treeOf b)) → Locks b path
-  unfolding refusals earlier later treeOf arrivedOr
-  lock-passed locked {path} e =
-      let p1 = passed _ _ e in
-      let p2 = passed _ _ (p1 .1) in
-      let p3 = passed _ _ (p2 .1) in
-      let p4 = passed _ _ (p3 .1) in
-      let top : Row = rowAt (pageCount b) (view b) 0 in
-      let w = last-name (pathOf path) (p1 .0) (not-root (pathOf path) top (p4 .0)) in
-      record {
-        ns = w .0;
-        n = w .1;
-        is = w .2;
-        reached = subst (λ (p : Path). T (not (isMissing (walkTo p top)))) (w .2) (p2 .0);
-        entered = subst (λ (p : Path). T (not (isBlocked (walkTo p top)))) (w .2) (p3 .0);
-        isFile = λ x a. subst (λ (y : Walked Node). T (not (isDirectoryNode (arrivedOr (directoryNode [] end) y)))) a
-            (subst (λ (p : Path). T (not (isDirectoryNode (arrivedOr (directoryNode [] end) (walkTo p top))))) (w .2) (p4 .0));
-      }
+  unfolding treeIn
+  lock-passed locked e =
+      let r = Any.lock-passed v1 locked e in
+      let l = r .0 in
+      record { ns = l .ns; n = l .n; is = l .is; reached = l .reached; entered = l .entered; isFile = r .1 }
 
 -- ---- where make and write work
 
@@ -247,13 +138,13 @@ module _ {b : Bytes} (f : Facts b) (path : Bytes) {date : Bytes} {k : ℕ} (m : 
   make-place = place-of f (m .clear)
 
   pub make-position : lowestVacant b (parentPage b (pathOf path)) ≡ make-place .at
-  unfolding lowestVacant arrivedOr
+  unfolding EffectOf.lowestVacant arrivedOr
   make-position =
       ap (λ (p : Path). lowestVacant b (parentPage b p)) (m .is)
       ∙ ap (λ (u : Walked ℕ). lowestVacant b (arrivedOr 0 u)) (make-place .above .page) ∙ ap (λ (o : Option ℕ). Option·getD o 0) (make-place .found)
 
   pub make-image : (fl z : ℕ) → made fl z k (pathOf path) date b ≡ madeAt fl z k (m .n .bytes) date (make-place .at) b
-  unfolding made
+  unfolding EffectOf.made
   make-image fl z =
       ap (λ (p : Path). madeAt fl z k (lastName p) date (lowestVacant b (parentPage b (pathOf path))) b) (m .is)
       ∙ ap (λ (at : ℕ). madeAt fl z k (m .n .bytes) date at b) make-position

@@ -19,6 +19,7 @@ use Rattle.model.specs.Image.{rowAt, treeOf}
 use Rattle.model.specs.Walk.{arrived, walkTo, changeAt}
 use Rattle.model.specs.Effect.{removed}
 use Rattle.model.specs.Refusal.{isMissing, isBlocked, rowIn}
+use Rattle.model.specs.EffectOf
 use Rattle.view_laws.proofs.Removing as Any
 use Rattle.laws.proofs.Entries.{entry-within}
 use Rattle.laws.proofs.Facts.{Facts, viewed}
@@ -33,7 +34,7 @@ module _ {b : Bytes} (f : Facts b) {ns : List Name} {n : Name} (tg : Target b ns
   removed-bytes = Any.removed-bytes (shelved f) (size f .whole) (viewed f) ns (tg .above .e) (tg .above .t) (tg .at) (n .bytes) (tg .above .leads) (tg .above .good) tt (tg .found) empty
 
   removed-sound : let b′ = set (foldl (On.released version1) b (pagesAt (view b) (tg .at))) (tg .at) 0 in
-      T (sound b′) × (treeOf b′ ≡ record { pages = pageCount b; root = changeAt ns (vacate (n .bytes)) (rowAt (pageCount b) (view b) 0) })
+      T (sound b′) × (treeOf b′ ≡ record { pages = pageCount b; code = 0; root = changeAt ns (vacate (n .bytes)) (rowAt (pageCount b) (view b) 0) })
   removed-sound =
       let w = entry-within (tg .above .t) (tg .at) (named-found b (tg .above .t) (n .bytes) (tg .at) (tg .found) .0) in
       afterwards f (removed-bytes .size) (λ i l. removed-bytes .rest i (head-kept f i l) (omega (arith, w .far)))
@@ -42,10 +43,10 @@ module _ {b : Bytes} (f : Facts b) {ns : List Name} {n : Name} (tg : Target b ns
 pub removed-tree : {b : Bytes} → Facts b → (ns : List Name) (n : Name)
     → T (not (isMissing (walkTo (below ns n) (rowAt (pageCount b) (view b) 0)))) → T (not (isBlocked (walkTo (below ns n) (rowAt (pageCount b) (view b) 0))))
     → ((x : Node) → walkTo (below ns n) (rowAt (pageCount b) (view b) 0) ≡ arrived x → held (rowIn x) ≤ 0)
-    → T (sound (removed (below ns n) b)) × (treeOf (removed (below ns n) b) ≡ record { pages = pageCount b; root = changeAt ns (vacate (n .bytes)) (rowAt (pageCount b) (view b) 0) })
-unfolding removed
+    → T (sound (removed (below ns n) b)) × (treeOf (removed (below ns n) b) ≡ record { pages = pageCount b; code = 0; root = changeAt ns (vacate (n .bytes)) (rowAt (pageCount b) (view b) 0) })
+unfolding EffectOf.removed
 removed-tree {b} f ns n u v empty =
     let tg = target f u v in
     subst (λ (at : ℕ). let b′ = set (foldl (On.released version1) b (pagesAt (view b) at)) at 0 in
-    T (sound b′) × (treeOf b′ ≡ record { pages = pageCount b; root = changeAt ns (vacate (n .bytes)) (rowAt (pageCount b) (view b) 0) }))
+    T (sound b′) × (treeOf b′ ≡ record { pages = pageCount b; code = 0; root = changeAt ns (vacate (n .bytes)) (rowAt (pageCount b) (view b) 0) }))
     (sym (tg .position)) (removed-sound f tg (empty _ (tg .node)))

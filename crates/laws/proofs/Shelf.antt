@@ -10,11 +10,12 @@ use Rattle.volume.specs.Bytes.{Bytes, byteAt}
 use Rattle.volume.proofs.Occ.{mem-head}
 use Rattle.volume.proofs.Puts.{part-bytes}
 use Rattle.volume.proofs.Lawful.{Kept}
-use Rattle.model.specs.Layout.{version1, pageCount, pagesFor, validLength, validHeader}
+use Rattle.model.specs.Layout.{version1, pageCount, validLength, validHeader}
 use Rattle.model.specs.Entry.{entries, entryAt}
+use Rattle.model.specs.Numbers.{numbers1}
 use Rattle.model.specs.Sound.{sound}
 use Rattle.model.specs.Tree.{Row, Tree}
-use Rattle.model.specs.Image.{rowAt, treeOf}
+use Rattle.model.specs.Image.{rowAt, treeOf, treeIn}
 use Rattle.model.proofs.Version1.{home, version1-lawful}
 use Rattle.view_laws.proofs.Facts as Any
 use Rattle.view_laws.proofs.Shelf.{Shelf, seen, Shelved}
@@ -27,11 +28,12 @@ shelf N = record {
   geometry = version1;
   home = home;
   pages = N;
-  pagesFor = pagesFor;
+  numbers = numbers1;
   directoryPages = λ b p. p ∷ [];
   directoryEnds = λ b p. true;
   entries = λ b p. entries p;
   entryAt = entryAt;
+  placeOf = λ b d i. (d, i);
 }
 
 far-kept : (N i : ℕ) → N ≤ 256 → 36 ≤ i → Kept version1 N i
@@ -87,11 +89,11 @@ header-same b b′ e h v = rw (h 0 (omega arith), h 1 (omega arith), h 2 (omega 
 -- what is true afterwards of the image on the shelf is true of it as version 1's
 pub afterwards : {b b′ : Bytes} → Facts b → length b′ ≡ length b → ((i : ℕ) → i < 3 → byteAt b′ i ≡ byteAt b i) → {r : Row}
     → Any.Facts (seen (shelf (pageCount b)) b′) × (rowAt (pageCount b) (seen (shelf (pageCount b)) b′) 0 ≡ r)
-    → T (sound b′) × (treeOf b′ ≡ record { pages = pageCount b; root = r })
-unfolding treeOf
+    → T (sound b′) × (treeOf b′ ≡ record { pages = pageCount b; code = 0; root = r })
+unfolding treeIn
 afterwards {b} {b′} f len head {r} h =
     let pages : pageCount b′ ≡ pageCount b = ap (λ (m : ℕ). m / 256) len in
     let s = subst (λ (n : ℕ). Any.Facts (seen (shelf n) b′) × (rowAt n (seen (shelf n) b′) 0 ≡ r)) (sym pages) h in (
       facts-sound (of-view (subst (λ (m : ℕ). T (validLength m)) (sym len) (f .fits)) (header-same b b′ len head (f .headed)) (s .0)),
-      ap₂ {C = Tree} (λ (n : ℕ) (x : Row). record { pages = n; root = x }) pages (s .1),
+      ap₂ {C = Tree} (λ (n : ℕ) (x : Row). record { pages = n; code = 0; root = x }) pages (s .1),
     )

@@ -30,11 +30,14 @@ use Rattle.model.specs.Path.{pathOf}
 use Rattle.model.specs.Image.{treeOf}
 use Rattle.model.specs.Walk.{parentPage, entryPosition}
 use Rattle.model.specs.Effect.{lowestVacant, made, rewritten, written, removed, withLock, relocked}
-use Rattle.model.specs.Call.{Call, format, verdict, find, list, read, makeFile, makeDirectory, write, removeFile, removeDirectory, setLock, store, refusal}
-use Rattle.model.specs.Refusal.{node, size, wanted, earlier, later, refusals, Passes}
+use Rattle.model.specs.Call.{Call, format, formatAs, verdict, find, list, read, makeFile, makeDirectory, write, removeFile, removeDirectory, setLock, storeAs, refusal}
+use Rattle.model.specs.Refusal.{node, size, wanted, Passes}
 use Rattle.model.specs.Meaning.{isFormat, lines, effect, after}
 use Rattle.model.specs.Touched.{moved, account, bytesOn, lastLink, byMake, byWrite, byRemoval, touched}
 use Rattle.model.specs.Demands.{OnlyTouched}
+use Rattle.model.specs.EffectOf
+use Rattle.model.specs.MeaningOf
+use Rattle.model.specs.RefusalOf
 use Rattle.laws.proofs.Facts.{Facts, sound-facts}
 use Rattle.laws.proofs.Focus.{named-found}
 use Rattle.laws.proofs.Entries.{entry-within}
@@ -193,7 +196,7 @@ module _ (b : Bytes) (f : Facts b) (path : Bytes) (from : ℕ) (v : Bytes) (w : 
   written-stayed : Stayed b (written (pathOf path) from v b)
       (byWrite (entryPosition b (pathOf path)) from (length v) (pagesAt (view b) (entryPosition b (pathOf path))) (On.gained version1 (pageCount b) (wanted (write path from v) (treeOf b)) b))
       (On.gained version1 (pageCount b) (wanted (write path from v) (treeOf b)) b)
-  unfolding written wanted
+  unfolding EffectOf.written RefusalOf.wanted
   written-stayed = go (eqb (length v) 0)
     where
       go : (c : Bool) → Stayed b (if c then b else rewritten (entryPosition b (pathOf path)) from v b)
@@ -212,7 +215,7 @@ module _ (b : Bytes) (f : Facts b) (path : Bytes) (from : ℕ) (v : Bytes) (w : 
 
 removed-stayed : {b : Bytes} → Facts b → {path : Bytes} → Removes b path
     → Stayed b (removed (pathOf path) b) (byRemoval (entryPosition b (pathOf path)) (pagesAt (view b) (entryPosition b (pathOf path)))) (pagesAt (view b) (entryPosition b (pathOf path)))
-unfolding removed byRemoval
+unfolding EffectOf.removed byRemoval
 removed-stayed {b} f {path} r =
     let tg : Target b (r .ns) (r .n) = target f (r .reached) (r .entered) in
     let position : entryPosition b (pathOf path) ≡ tg .at = ap (entryPosition b) (r .is) ∙ tg .position in
@@ -234,7 +237,7 @@ removed-stayed {b} f {path} r =
 -- ---- lock
 
 locked-stayed : {b : Bytes} → Facts b → {path : Bytes} (locked : Bool) → Locks b path → Stayed b (relocked (pathOf path) locked b) (countFrom (entryPosition b (pathOf path)) 1) []
-unfolding relocked On.pageBit
+unfolding EffectOf.relocked On.pageBit
 locked-stayed {b} f {path} locked r =
     let tg : Target b (r .ns) (r .n) = target f (r .reached) (r .entered) in
     let position : entryPosition b (pathOf path) ≡ tg .at = ap (entryPosition b) (r .is) ∙ tg .position in
@@ -250,8 +253,8 @@ locked-stayed {b} f {path} locked r =
 -- ---- every call, on any image
 
 effect-stayed : (c : Call) {b : Bytes} → T (not (isFormat c)) → Passes (lines c b) → Stayed b (effect c b) (touched c b) (moved c b)
-unfolding effect isFormat refusals earlier later wanted touched moved written
-effect-stayed format n e = absurd n
+unfolding MeaningOf.effect isFormat RefusalOf.refusals RefusalOf.earlier RefusalOf.later RefusalOf.wanted touched moved EffectOf.written
+effect-stayed (formatAs new) n e = absurd n
 effect-stayed verdict {b} n e = unchanged
 effect-stayed (find path) {b} n e = unchanged
 effect-stayed (list path entry) {b} n e = unchanged
@@ -281,15 +284,15 @@ effect-stayed (setLock locked path) {b} n e =
     let g = sound-passed (setLock locked path) b tt e in
     let f = sound-facts (g .0) in
     locked-stayed f locked (lock-passed f locked (g .1))
-effect-stayed (store path date v k buffer) {b} n e = unchanged
+effect-stayed (storeAs has path date v k buffer) {b} n e = unchanged
 
 stayed : (c : Call) (b : Bytes) → T (not (isFormat c)) → Stayed b (after c b) (touched c b) (moved c b)
-unfolding after
+unfolding MeaningOf.after
 stayed c b n = settle-both (λ (x y : Bytes). Stayed b x (touched c b) (moved c b)) (lines c b) (λ r. b) (effect c b) (λ r. b) b (λ r. unchanged) (effect-stayed c n)
 
 -- format writes page 0
 format-bytes : (b : Bytes) (i : ℕ) → occ i (touched format b) ≡ 0 → byteAt (after format b) i ≡ byteAt b i
-unfolding after lines isFormat effect touched bytesOn
+unfolding MeaningOf.after MeaningOf.lines isFormat MeaningOf.effect touched bytesOn
 format-bytes b i z =
     let far : 256 ≤ i = omega (arith, off-count i 0 256 (omega (arith, z, occ-flatMap-le (λ p. countFrom (256 * p) 256) (0 ∷ []) 0 i (mem-head 0 []))) (omega arith)) in
     settle-both (λ (x y : Bytes). byteAt x i ≡ byteAt b i) (lines format b) (λ r. b) (effect format b) (λ r. b) b (λ r. refl)
@@ -302,7 +305,7 @@ format-bits b p l z = omega (arith, z, occ-countFrom 0 (pageCount b) p (omega ar
 -- a call is format or is not
 format-or : (c : Call) → (c ≡ format) ⊎ T (not (isFormat c))
 unfolding isFormat
-format-or format = inl refl
+format-or (formatAs new) = inl refl
 format-or verdict = inr tt
 format-or (find path) = inr tt
 format-or (list path entry) = inr tt
@@ -313,7 +316,7 @@ format-or (write path from v) = inr tt
 format-or (removeFile path) = inr tt
 format-or (removeDirectory path) = inr tt
 format-or (setLock locked path) = inr tt
-format-or (store path date v k buffer) = inr tt
+format-or (storeAs has path date v k buffer) = inr tt
 
 pub only-touched : (c : Call) (b : Bytes) → OnlyTouched c b
 only-touched c b = elim (format-or c) [
@@ -333,5 +336,5 @@ only-touched c b = elim (format-or c) [
 
 -- a write of no bytes changes nothing
 pub nothing-written : (path b : Bytes) (from : ℕ) → after (write path from []) b ≡ b
-unfolding after effect written
+unfolding MeaningOf.after MeaningOf.effect EffectOf.written
 nothing-written path b from = settle-both (λ (x y : Bytes). x ≡ b) (lines (write path from []) b) (λ r. b) b (λ r. b) b (λ r. refl) (λ e. refl)

@@ -23,6 +23,8 @@ use Rattle.model.specs.Call.{setLock}
 use Rattle.model.specs.Refusal.{Line, settle, Passes}
 use Rattle.model.specs.Meaning.{lines, isFormat, effect, after}
 use Rattle.model.specs.Demands.{LockTwice}
+use Rattle.model.specs.EffectOf
+use Rattle.model.specs.MeaningOf
 use Rattle.laws.proofs.Facts.{Facts, sound-facts}
 use Rattle.laws.proofs.Entries.{entry-within, entry-same}
 use Rattle.laws.proofs.Focus.{named-found}
@@ -94,7 +96,7 @@ module _ (b : Bytes) (f : Facts b) (ns : List Name) (n : Name) (tg : Target b ns
           entry-alike (λ (y : Entry). enterOn m (some y) (walkOn (view b′) ms)) (λ l m n d s z. refl) p x (named-found b p (m .bytes) x e .0) ∙ step (entryAt b x) next
 
   pub locked-twice : relocked (below ns n) k b′ ≡ b′
-  unfolding relocked
+  unfolding EffectOf.relocked
   locked-twice =
       let x : ℕ = withLock k (byteAt b at) in
       let there : entryPosition b′ (below ns n) ≡ at =
@@ -109,7 +111,7 @@ module _ (b : Bytes) (f : Facts b) (ns : List Name) (n : Name) (tg : Target b ns
 -- ---- the call
 
 effect-twice : (k : Bool) (path b : Bytes) → Passes (lines (setLock k path) b) → effect (setLock k path) (effect (setLock k path) b) ≡ effect (setLock k path) b
-unfolding effect isFormat relocked
+unfolding MeaningOf.effect isFormat EffectOf.relocked
 effect-twice k path b e =
     let g = sound-passed (setLock k path) b tt e in
     let f = sound-facts (g .0) in
@@ -132,7 +134,7 @@ stays-or-goes {A} (l ∷ ls) x y = go (l .0) (stays-or-goes ls x y)
     go false next = next
 
 pub lock-twice : LockTwice
-unfolding after
+unfolding MeaningOf.after
 lock-twice k path b = elim (stays-or-goes (lines (setLock k path) b) b (effect (setLock k path) b)) [
   | inl e ↦ ap (after (setLock k path)) e
   | inr e ↦

@@ -12,7 +12,7 @@ use Rattle.model.specs.Version1.{view}
 use Rattle.model.specs.Sound.{goodDirectory}
 use Rattle.model.specs.Tree.{Row, lookup}
 use Rattle.model.specs.Path.{Name, below}
-use Rattle.model.specs.Image.{rowAt, treeOf}
+use Rattle.model.specs.Image.{rowAt, treeOf, treeIn}
 use Rattle.model.specs.Walk.{Walked, arrived, walk, walkTo, entryNamed, walkOn}
 use Rattle.model.specs.Refusal.{isMissing, isBlocked}
 unfoldable pub use Rattle.view_laws.proofs.Walks.{nodeOf, mapWalked}
@@ -36,7 +36,7 @@ walk-mirrors b = Any.walk-mirrors (view b)
 
 -- the same, as one equation
 pub walk-bytes : {b : Bytes} → Facts b → (ns : List Name) → walk ns (treeOf b .root) ≡ mapWalked (rowAt (pageCount b) (view b)) (walkOn (view b) ns 0)
-unfolding treeOf
+unfolding treeIn
 walk-bytes {b} f = Any.walk-bytes (view b) (headed b) (f .formed)
 
 -- ---- the parent directory of a granted call

@@ -32,6 +32,7 @@ use Rattle.model.specs.Image.{contentOf, rowAt, treeOf}
 use Rattle.model.specs.Walk.{arrived, walkTo, changeAt, entryPosition}
 use Rattle.model.specs.Effect.{rewritten, written}
 use Rattle.model.specs.Refusal.{isMissing, isBlocked, isDirectoryNode, contentIn}
+use Rattle.model.specs.EffectOf
 use Rattle.model.proofs.Version1.{home}
 use Rattle.view_laws.proofs.Shelf.{entry-changed}
 use Rattle.view_laws.proofs.Writing as Any
@@ -145,7 +146,7 @@ module _ (b : Bytes) (f : Facts b) (ns : List Name) (n : Name) (tg : Target b ns
   file-size = content-length b (startAt b at) s₀ (λ q m. let r = file-owned .inside q m in omega (arith, r .1, size f .whole))
 
   -- a write of no bytes
-  unchanged : T (sound b) × (treeOf b ≡ record { pages = pageCount b; root = changeAt ns (rewrite (n .bytes) content) (rowAt (pageCount b) (view b) 0) })
+  unchanged : T (sound b) × (treeOf b ≡ record { pages = pageCount b; code = 0; root = changeAt ns (rewrite (n .bytes) content) (rowAt (pageCount b) (view b) 0) })
   unfolding own
   unchanged =
       afterwards f refl (λ i l. refl)
@@ -219,7 +220,7 @@ module _ (b : Bytes) (f : Facts b) (ns : List Name) (n : Name) (tg : Target b ns
     zero-out : occ 0 (ps ++ qs) ≡ 0
     zero-out = not-mem 0 (ps ++ qs) (λ c. omega (arith, write-inside 0 c .0))
 
-    rewritten-sound : T (sound b′) × (treeOf b′ ≡ record { pages = pageCount b; root = changeAt ns (rewrite (n .bytes) (put from v content)) (rowAt (pageCount b) (view b) 0) })
+    rewritten-sound : T (sound b′) × (treeOf b′ ≡ record { pages = pageCount b; code = 0; root = changeAt ns (rewrite (n .bytes) (put from v content)) (rowAt (pageCount b) (view b) 0) })
     rewritten-sound =
         let far = file-slot .within .far in
         afterwards f (write-bytes .size)
@@ -230,7 +231,7 @@ module _ (b : Bytes) (f : Facts b) (ns : List Name) (n : Name) (tg : Target b ns
         (λ i l u x. omega arith) fill-up pages-rise from v hf space is′)
 
     pub rewritten-is : rewritten at from v b ≡ b′
-    unfolding rewritten
+    unfolding EffectOf.rewritten
     rewritten-is =
         let image : List ℕ → ℕ → Bytes = λ l m. On.written version1 (pageCount b) (byte (at + 17)) l (pagesFor s - m) (at + 18) (le16 s) from v b in
         ap (λ (l : List ℕ). image l (length l)) file-pages ∙ ap (image ps) (chain-length (link b) (pagesFor s₀) (startAt b at))
@@ -246,8 +247,8 @@ pub written-tree : {b : Bytes} → Facts b → (ns : List Name) (n : Name) (from
     → (x : Node) → walkTo (below ns n) (rowAt (pageCount b) (view b) 0) ≡ arrived x → T (not (isDirectoryNode x))
     → from ≤ length (contentIn x) → pagesFor (max (length (contentIn x)) (from + length v)) - pagesFor (length (contentIn x)) ≤ zeroBits b (pageCount b)
     → T (sound (written (below ns n) from v b))
-    × (treeOf (written (below ns n) from v b) ≡ record { pages = pageCount b; root = changeAt ns (rewrite (n .bytes) (put from v (contentIn x))) (rowAt (pageCount b) (view b) 0) })
-unfolding written
+    × (treeOf (written (below ns n) from v b) ≡ record { pages = pageCount b; code = 0; root = changeAt ns (rewrite (n .bytes) (put from v (contentIn x))) (rowAt (pageCount b) (view b) 0) })
+unfolding EffectOf.written
 written-tree {b} f ns n from v u w x q nd hf space = go (eqb (length v) 0) (eqb→eq (length v) 0)
   where
     tg : Target b ns n
@@ -266,7 +267,7 @@ written-tree {b} f ns n from v u w x q nd hf space = go (eqb (length v) 0) (eqb�
     same-size = ap length (sym same-content) ∙ file-size b f ns n tg isFile
 
     Says : Bytes → Bytes → Type 0
-    Says b′ c = T (sound b′) × (treeOf b′ ≡ record { pages = pageCount b; root = changeAt ns (rewrite (n .bytes) c) (rowAt (pageCount b) (view b) 0) })
+    Says b′ c = T (sound b′) × (treeOf b′ ≡ record { pages = pageCount b; code = 0; root = changeAt ns (rewrite (n .bytes) c) (rowAt (pageCount b) (view b) 0) })
 
     full : Says (rewritten (tg .at) from v b) (put from v (contentIn x))
     full =

@@ -15,7 +15,7 @@ use Rattle.model.specs.Layout.{pageCount}
 use Rattle.model.specs.Sound.{sound}
 use Rattle.model.specs.Tree.{Tree}
 use Rattle.model.specs.Image.{treeOf}
-use Rattle.model.specs.Call.{Call, verdict, makeFile, write, Told, Refusal, refusal, Answer, refused, granted}
+use Rattle.model.specs.Call.{Call, verdict, makeFile, write, Verdict, Refusal, refusal, Answer, refused, granted}
 use Rattle.model.specs.Refusal.{Line, refusals, settle}
 use Rattle.model.specs.Meaning.{isFormat, faultTold, answer, after, treeAfter}
 use Rattle.model.specs.Demands.{Unsound, byLength, byHeader, byFault, replay}
@@ -142,7 +142,7 @@ link-in c b = go (sound b) refl
     judged : (f : Refusal) → answer verdict b ≡ refused f → T (answerPasses linkIn (linkAnswer c b))
     judged f e =
         subst (λ (a : Answer (LinkTold c)). T (answerPasses linkIn a)) (sym (link-demand .unsound c b f e))
-        (base-in f (subst (λ (a : Answer (Told verdict)). T (answerPasses inCode a)) e (answer-in verdict b)))
+        (base-in f (subst (λ (a : Answer Verdict). T (answerPasses inCode a)) e (answer-in verdict b)))
 
     unsound : Unsound verdict b → T (answerPasses linkIn (linkAnswer c b))
     unsound (byLength n e) = judged (refusal 1) e

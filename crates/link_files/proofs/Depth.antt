@@ -14,7 +14,7 @@ use Rattle.volume.proofs.Tests.{and-both}
 use Rattle.model.specs.Layout.{pagesFor}
 use Rattle.model.specs.Name.{legalText}
 use Rattle.model.specs.Sound.{sound}
-use Rattle.model.specs.Tree.{Row, end, free, file, dir, needs, freeNumber, Node, fileNode, directoryNode, lookup}
+use Rattle.model.specs.Tree.{Row, end, free, file, dir, needs, freeNumber, Node, fileNode, directoryNode, lookup, needsOf}
 use Rattle.model.specs.Image.{treeOf}
 use Rattle.model.specs.Path.{Name, noPath, root, before, texts, namesFrom, pathTo, pathOf, isNoPath, names}
 use Rattle.model.specs.Walk.{Walked, arrived, enter, walk}
@@ -31,7 +31,7 @@ nodeNeeds (fileNode l d v) = pagesFor (length v)
 nodeNeeds (directoryNode d r) = 1 + needs r
 
 lookup-needs : (n : Bytes) (r : Row) (x : Node) → lookup n r ≡ some x → nodeNeeds x ≤ needs r
-unfolding lookup needs nodeNeeds
+unfolding lookup needsOf nodeNeeds
 lookup-needs n end x e = absurd (Option·none-ne-some x e)
 lookup-needs n (free r) x e = lookup-needs n r x e
 lookup-needs n (file l m d v r) x e = go (same m n) e (lookup-needs n r x)

@@ -17,12 +17,14 @@ use Rattle.model.specs.Entry.{entriesStart, entries, Entry, vacant, aFile, aDir
 use Rattle.model.specs.Version1.{view}
 use Rattle.model.specs.Sound.{sound}
 use Rattle.model.specs.Tree.{Row, end, width, freeNumber, Node, fileNode, directoryNode, lookup}
-use Rattle.model.specs.Image.{entryRow, rowOf, rowAt, treeOf}
+use Rattle.model.specs.Image.{entryRow, rowOf, rowAt, treeOf, treeIn}
 use Rattle.model.specs.Path.{Name, pathOf, isNoPath, isRoot, names}
 use Rattle.model.specs.Walk.{Walked, arrived, missing, blocked, walk, nodeNamed, inWalked, walkTo, arrivedOr}
 use Rattle.model.specs.Call.{Call, list, read, Listed, Refusal, refusal, refusalAt, Answer, refused, granted}
-use Rattle.model.specs.Refusal.{Line, isMissing, isBlocked, stoppedAt, contentIn, node, wanted, earlier, later, refusals, settle, Passes}
+use Rattle.model.specs.Refusal.{Line, isMissing, isBlocked, stoppedAt, contentIn, node, refusals, settle, Passes}
 use Rattle.model.specs.Meaning.{imageLines, isFormat, lines, told, filled, answer, bufferAfter}
+use Rattle.model.specs.MeaningOf
+use Rattle.model.specs.RefusalOf
 use Rattle.laws.proofs.Lines.{passed, granted-passed, not-granted, settle-append, settle-refused}
 use Rattle.laws.proofs.Passed.{image-passed, sound-passed}
 use Rattle.laws.proofs.Steps.{image-skip, settled}
@@ -87,7 +89,7 @@ row-wide b g p = go (eqb p 0)
     go false = ap (λ (n : ℕ). leb n 0) (entry-wide b g first (others 7)) ∙ leb·suc-zero (width (others 7))
 
 pub directory-wide : (b : Bytes) → T (sound b) → (ns : List Name) (s : Row) → walk ns (treeOf b .root) ≡ arrived s → leb (width s) 0 ≡ false
-unfolding treeOf rowAt isMissing isBlocked
+unfolding treeIn rowAt isMissing isBlocked
 directory-wide b h ns s e =
     let p = parent (sound-facts h) (subst (λ (w : Walked Row). T (not (isMissing w))) (sym e) tt) (subst (λ (w : Walked Row). T (not (isBlocked w))) (sym e) tt) in
     let row : rowAt (suc (p .e)) (view b) (p .t) ≡ s = cc (sym (p .row) ∙ e) in
@@ -98,7 +100,7 @@ directory-wide b h ns s e =
 module _ (b d : Bytes) where
   stops : {A B : Type 0} (x : A) (y : B) (f : Refusal) → T (sound b) → settle (refusals (list d 0) (treeOf b)) refused (granted x) ≡ refused f
       → settle (fileLines d (treeOf b)) refused (granted y) ≡ refused f
-  unfolding refusals earlier later wanted fileLines settle isNoPath isRoot walkTo inWalked isMissing isBlocked stoppedAt arrivedOr
+  unfolding RefusalOf.refusals RefusalOf.earlier RefusalOf.later RefusalOf.wanted fileLines settle isNoPath isRoot walkTo inWalked isMissing isBlocked stoppedAt arrivedOr
   stops {A} {B} x y f h e = go (isNoPath (pathOf d)) refl
     where
       same : (r : Refusal) → _≡_ {A = Answer A} (refused r) (refused f) → _≡_ {A = Answer B} (refused r) (refused f)
@@ -117,7 +119,7 @@ module _ (b d : Bytes) where
           to (arrived s) w = absurd (not-granted (rw (z, w, directory-wide b h (names (pathOf d)) s w, leb·suc-zero (freeNumber (treeOf b))) at e))
 
   pub list-stops : (f : Refusal) → refused f ≡ answer (list d 0) b → refused f ≡ fileLoaded d b
-  unfolding answer lines isFormat fileLoaded
+  unfolding MeaningOf.answer MeaningOf.lines isFormat fileLoaded
   list-stops f e =
       let t = treeOf b in
       let x = told (list d 0) t in
@@ -141,7 +143,7 @@ module _ (b d : Bytes) where
   arrives (blocked i) u v = absurd v
 
   pub list-arrives : (x : Listed) → granted x ≡ answer (list d 0) b → There
-  unfolding answer refusals earlier isFormat
+  unfolding MeaningOf.answer RefusalOf.refusals RefusalOf.earlier isFormat
   list-arrives x e =
       let p = sound-passed (list d 0) b tt (granted-passed (lines (list d 0) b) _ x (sym e)) in
       let p1 = passed _ _ (p .1) in
@@ -154,7 +156,7 @@ module _ (b d : Bytes) where
 
   module _ (h : There) (buffer : Bytes) where
     same-lines : {A : Type 0} (g : Refusal → A) (x : A) → settle (lines (read (linksPath d) 0 buffer) b) g x ≡ settle (imageLines b ++ fileLines d (treeOf b)) g x
-    unfolding refusals earlier later wanted fileLines settle isNoPath
+    unfolding RefusalOf.refusals RefusalOf.earlier RefusalOf.later RefusalOf.wanted fileLines settle isNoPath
     same-lines g x =
         settled b (h .isSound) g x (read (linksPath d) 0 buffer)
         ∙ rw (leb·suc-zero (length (contentIn (node (linksPath d) (treeOf b)))), leb·suc-zero (freeNumber (treeOf b)))
@@ -162,7 +164,7 @@ module _ (b d : Bytes) where
         ∙ sym (image-skip b (h .isSound) g x (fileLines d (treeOf b)))
 
     pub read-refused : (f : Refusal) → refused f ≡ answer (read (linksPath d) 0 buffer) b → refused f ≡ fileLoaded d b
-    unfolding answer fileLoaded
+    unfolding MeaningOf.answer fileLoaded
     read-refused f e =
         sym (sym (same-lines refused (granted (contentIn (node (linksPath d) (treeOf b)))))
         ∙ settle-refused (lines (read (linksPath d) 0 buffer) b) _ f refused (granted (contentIn (node (linksPath d) (treeOf b)))) (sym e))
@@ -177,7 +179,7 @@ module _ (b d : Bytes) where
         go (some (fileNode k date v)) l = file-short b (h .isSound) (names (pathOf d)) (h .row) linksKey k date v (h .leads) l
 
     pub read-copied : (n : ℕ) → granted n ≡ answer (read (linksPath d) 0 buffer) b → (buffer′ : Bytes) → buffer′ ≡ bufferAfter (read (linksPath d) 0 buffer) b → Loads d b buffer′ (length buffer) (loaded.Size n)
-    unfolding answer bufferAfter fileLoaded told filled
+    unfolding MeaningOf.answer MeaningOf.bufferAfter fileLoaded MeaningOf.told MeaningOf.filled
     read-copied n e buffer′ q = (omega (arith, size, length-take (length buffer) v), whole)
       where
         c : Call

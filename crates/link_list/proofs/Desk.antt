@@ -11,8 +11,9 @@ use Rattle.model.specs.Text.{text}
 use Rattle.model.specs.Tree.{fill, rewrite, vacate, inside}
 use Rattle.model.specs.Walk.{changeAt}
 use Rattle.model.specs.Call.{Refusal, refusal, refusalAt, Answer, refused, granted}
-use Rattle.model.specs.Meaning.{inParent, changed, treeAfter}
-use Rattle.model.specs.Demands.{replay}
+use Rattle.model.specs.Meaning.{inParent}
+use Rattle.model.specs.DemandsOf
+use Rattle.model.specs.MeaningOf
 use Rattle.model.proofs.Run.{computing}
 use Rattle.model.proofs.Desk.{day1, day2, header, stored}
 use Rattle.family.specs.Family.{onward}
@@ -21,7 +22,7 @@ use Rattle.link_list.specs.Links.{LinkCall, readLinks, writeLinks, findL
 use Rattle.link_list.proofs.Table.{coding, link}
 
 unfoldable pub calling : Unit {0}
-unfolding computing coding fill rewrite vacate inside changeAt inParent changed treeAfter replay onward rowsIn isFileThere isDirectoryThere isLockedThere fileLines badLine judgedLines recordLines figureOf removal writing badRowLine roomLines oldLines linkLines linkTold listFilled turnsOf linkAnswer linkList runAfter linkAfter
+unfolding computing coding fill rewrite vacate inside changeAt inParent MeaningOf.changed MeaningOf.treeAfter DemandsOf.replay onward rowsIn isFileThere isDirectoryThere isLockedThere fileLines badLine judgedLines recordLines figureOf removal writing badRowLine roomLines oldLines linkLines linkTold listFilled turnsOf linkAnswer linkList runAfter linkAfter
 calling = tt
 
 -- ---- how an image is written

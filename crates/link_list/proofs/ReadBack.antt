@@ -17,6 +17,7 @@ use Rattle.model.specs.Call.{Call, makeFile, write, removeFile, Refusal, Answer
 use Rattle.model.specs.Refusal.{Line, isMissing, isBlocked, isThere, isDirectoryNode, isLockedNode, contentIn, refusals, settle, Passes}
 use Rattle.model.specs.Meaning.{imageLines, treeAfter}
 use Rattle.model.specs.Demands.{replay}
+use Rattle.model.specs.DemandsOf
 use Rattle.laws.proofs.Lines.{passed, granted-passed}
 use Rattle.laws.proofs.Passed.{image-passed}
 use Rattle.link_list.specs.declared.Row.{Row}
@@ -73,12 +74,12 @@ granted-writing d date rs b e =
 -- ---- in turn
 
 replay-append : (xs ys : List Call) (t : Tree) → replay (xs ++ ys) t ≡ replay ys (replay xs t)
-unfolding replay
+unfolding DemandsOf.replay
 replay-append [] ys t = refl
 replay-append (x ∷ xs) ys t = replay-append xs ys (treeAfter x t)
 
 turn-append : (xs ys : List Call) (t : Tree) → InTurn xs t → InTurn ys (replay xs t) → InTurn (xs ++ ys) t
-unfolding replay
+unfolding DemandsOf.replay
 turn-append [] ys t h k = k
 turn-append (x ∷ xs) ys t h k = (h .0, turn-append xs ys (treeAfter x t) (h .1) k)
 
@@ -104,7 +105,7 @@ in-turn d date rs b e =
 -- ---- the rows are read back
 
 stands-written : (d date : Bytes) (rs : List Row) (b : Bytes) → Granted d date rs b → Stands d date (fileOf rs) (treeOf (linkAfter (writeLinks d date rs) b))
-unfolding writing replay
+unfolding writing DemandsOf.replay
 stands-written d date rs b g =
     let t : Tree = treeOf b in
     let u : Tree = replay (removal d t) t in

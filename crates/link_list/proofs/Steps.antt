@@ -9,9 +9,12 @@ use Rattle.model.specs.Sound.{sound}
 use Rattle.model.specs.Tree.{Tree, freeNumber}
 use Rattle.model.specs.Image.{treeOf}
 use Rattle.model.specs.Call.{Call, verdict, Refusal, Answer, refused, granted}
-use Rattle.model.specs.Refusal.{Line, wanted, earlier, later, refusals, settle}
-use Rattle.model.specs.Meaning.{shown, lentShown, treeAnswer, treeBuffer, treeAfter, imageLines, isFormat, lines, told, answer, after, bufferAfter}
+use Rattle.model.specs.Refusal.{Line, settle}
+use Rattle.model.specs.Meaning.{shown, lentShown, treeAnswer, treeBuffer, treeAfter, imageLines, isFormat, told, answer, after, bufferAfter}
 use Rattle.model.specs.Demands.{Results, Promised, Runs, replay, Demanded, Starts, soundly, freshly}
+use Rattle.model.specs.DemandsOf
+use Rattle.model.specs.MeaningOf
+use Rattle.model.specs.RefusalOf
 use Rattle.laws.proofs.Lines.{settle-append, settle-both, settle-refused}
 use Rattle.laws.proofs.Steps.{image-skip, as-tree, after-format}
 use Rattle.laws.proofs.Headline.{demand-3}
@@ -21,7 +24,7 @@ use Rattle.link_list.specs.Demand.{LinkAsTree, Step, base, link, StepRes
 -- ---- what the verdict refuses
 
 pub unsound-alike : (c : LinkCall) (b : Bytes) (f : Refusal) → answer verdict b ≡ refused f → linkAnswer c b ≡ refused f
-unfolding answer lines isFormat refusals earlier later wanted linkAnswer settle
+unfolding MeaningOf.answer MeaningOf.lines isFormat RefusalOf.refusals RefusalOf.earlier RefusalOf.later RefusalOf.wanted linkAnswer settle
 unsound-alike c b f e =
     let none-wanted : settle (imageLines b) refused (granted (told verdict (treeOf b))) ≡ refused f = rw (leb·suc-zero (freeNumber (treeOf b))) at e in
     settle-append refused (imageLines b) (linkLines c (treeOf b)) (granted (linkTold c (treeOf b)))
@@ -30,7 +33,7 @@ unsound-alike c b f e =
 -- ---- calls in turn
 
 pub run-sound : (cs : List Call) (b : Bytes) → T (sound b) → T (sound (runAfter cs b)) × (treeOf (runAfter cs b) ≡ replay cs (treeOf b))
-unfolding runAfter replay
+unfolding runAfter DemandsOf.replay
 run-sound [] b h = (h, refl)
 run-sound (c ∷ cs) b h =
     let s = as-tree c b h in
@@ -71,7 +74,7 @@ abbrev Flat : Bytes → Tree → (ss : List Step) → StepResults ss → Bytes �
 Flat b t ss rs b′ = (qs : Results (flat ss t)) × Runs b (flat ss t) qs b′ × (stepsShown ss rs ≡ stepsReplayed ss t)
 
 steps-flat : (ss : List Step) (b : Bytes) (t : Tree) → T (sound b) → treeOf b ≡ t → (rs : StepResults ss) (b′ : Bytes) → StepsRun b ss rs b′ → Flat b t ss rs b′
-unfolding flat turnsIn stepsReplayed stepReplayed replay runAfter
+unfolding flat turnsIn stepsReplayed stepReplayed DemandsOf.replay runAfter
 steps-flat [] b t h e rs b′ q = (tt, q, refl)
 steps-flat (base c ∷ ss) b t h e rs b′ run =
     let mid : Bytes = run .0 in

@@ -13,7 +13,7 @@ use Rattle.model.specs.Entry.{entries, Entry, vacant, aFile, aDirectory, entryA
 use Rattle.model.specs.Version1.{view}
 use Rattle.model.specs.Sound.{pagesOf, isNamed, sameName, namesApart, goodEntry, goodDirectory, inDirectory, sound}
 use Rattle.model.specs.Tree.{Row, free, file, dir, Node, lookup, vacate}
-use Rattle.model.specs.Image.{contentOf, entryRow, rowOf, rowAt, treeOf}
+use Rattle.model.specs.Image.{contentOf, entryRow, rowOf, rowAt, treeOf, treeIn}
 use Rattle.model.specs.Path.{Name}
 use Rattle.model.specs.Walk.{Walked, arrived, walk}
 use Rattle.model.specs.Refusal.{isMissing, isBlocked}
@@ -73,7 +73,7 @@ module _ (b : Bytes) (g : ℕ → Row) (n : Bytes) where
 
 -- where a walk on the tree of a sound image leads
 pub vacated-gone : (b : Bytes) → T (sound b) → (ns : List Name) (s : Row) (n : Bytes) → walk ns (treeOf b .root) ≡ arrived s → lookup n (vacate n s) ≡ none
-unfolding treeOf rowAt goodDirectory isMissing isBlocked
+unfolding treeIn rowAt goodDirectory isMissing isBlocked
 vacated-gone b h ns s n e =
     let p = parent (sound-facts h) (subst (λ (w : Walked Row). T (not (isMissing w))) (sym e) tt) (subst (λ (w : Walked Row). T (not (isBlocked w))) (sym e) tt) in
     let row : rowAt (suc (p .e)) (view b) (p .t) ≡ s = cc (sym (p .row) ∙ e) in

@@ -22,9 +22,12 @@ use Rattle.model.specs.Path.{Name, Path, below, pathOf, isNoPath, isRoot, names
 use Rattle.model.specs.Walk.{Walked, arrived, missing, blocked, walk, nodeNamed, inWalked, walkTo, arrivedOr, changeAt}
 use Rattle.model.specs.Text.{text}
 use Rattle.model.specs.Call.{Call, makeFile, write, removeFile, Refusal, refusal}
-use Rattle.model.specs.Refusal.{Line, isMissing, isBlocked, isThere, isDirectoryNode, isLockedNode, contentIn, walked, wanted, makeLines, earlier, later, refusals, settle, Passes}
+use Rattle.model.specs.Refusal.{Line, isMissing, isBlocked, isThere, isDirectoryNode, isLockedNode, contentIn, walked, refusals, settle, Passes}
 use Rattle.model.specs.Meaning.{inParent, changed, treeAfter}
 use Rattle.model.specs.Demands.{replay}
+use Rattle.model.specs.DemandsOf
+use Rattle.model.specs.MeaningOf
+use Rattle.model.specs.RefusalOf
 use Rattle.laws.proofs.Lines.{passed, Numbered}
 use Rattle.family.proofs.Onward.{OneMore, one-more}
 use Rattle.family.proofs.Rows.{walk-changed}
@@ -79,7 +82,7 @@ links-named d h = one-more d h linksName tt
 module _ (p : Bytes) (ns : List Name) (n : Name) (is : pathOf p ≡ below ns n) where
   pub removed-file : (t : Tree) (s : Row) (date v : Bytes) → walk ns (t .root) ≡ arrived s → lookup (n .bytes) s ≡ some (fileNode false date v)
       → Passes (refusals (removeFile p) t) × (treeAfter (removeFile p) t ≡ inParent (below ns n) (vacate (n .bytes)) t)
-  unfolding treeAfter refusals earlier later wanted settle changed isNoPath isRoot walkTo inWalked nodeNamed isMissing isBlocked arrivedOr isDirectoryNode isLockedNode
+  unfolding MeaningOf.treeAfter RefusalOf.refusals RefusalOf.earlier RefusalOf.later RefusalOf.wanted settle MeaningOf.changed isNoPath isRoot walkTo inWalked nodeNamed isMissing isBlocked arrivedOr isDirectoryNode isLockedNode
   removed-file t s date v e l = rw (is, e, l, leb·suc-zero (freeNumber t)) (refl, refl)
 
 -- the tree without LINKS in the directory
@@ -89,7 +92,7 @@ pub record Cleared (d : Bytes) (t : Tree) : Type 0 where
   pub absent : lookup linksKey row ≡ none
 
 pub cleared : (b : Bytes) → T (sound b) → (d date : Bytes) → Old d date (treeOf b) → Cleared d (replay (removal d (treeOf b)) (treeOf b))
-unfolding removal replay isThere arrivedOr isDirectoryThere isLockedThere isDirectoryNode isLockedNode inParent
+unfolding removal DemandsOf.replay isThere arrivedOr isDirectoryThere isLockedThere isDirectoryNode isLockedNode inParent
 cleared b h d date o = go (lookup linksKey (o .row)) refl (o .noDirectory) (o .unlocked)
   where
     go : (x : Option Node) → lookup linksKey (o .row) ≡ x → T (not (isDirectoryThere x)) → T (not (isLockedThere x)) → Cleared d (replay (removal d (treeOf b)) (treeOf b))
@@ -181,11 +184,11 @@ module _ (d date : Bytes) (isPath : T (not (isNoPath (pathOf d)))) where
   named = links-named d isPath
 
   pub make-numbered : T (goodDate date) → (t : Tree) → Cleared d t → Numbered room (refusals (makeFile (linksPath d) date) t)
-  unfolding refusals earlier later wanted makeLines isNoPath isRoot isMissing isBlocked arrivedOr isThere all any
+  unfolding RefusalOf.refusals RefusalOf.earlier RefusalOf.later RefusalOf.wanted RefusalOf.makeLines isNoPath isRoot isMissing isBlocked arrivedOr isThere all any
   make-numbered g t c = rw (named .1, c .leads, c .absent, holds (goodDate date) g) tt
 
   pub made-stands : (t : Tree) → Cleared d t → Passes (refusals (makeFile (linksPath d) date) t) → Stands d date [] (treeAfter (makeFile (linksPath d) date) t)
-  unfolding treeAfter changed inParent refusals earlier later makeLines arrivedOr
+  unfolding MeaningOf.treeAfter MeaningOf.changed inParent RefusalOf.refusals RefusalOf.earlier RefusalOf.later RefusalOf.makeLines arrivedOr
   made-stands t c e =
       let p1 = passed _ _ e in
       let p2 = passed _ _ (p1 .1) in
@@ -203,14 +206,14 @@ module _ (d date : Bytes) (isPath : T (not (isNoPath (pathOf d)))) where
       })
 
   pub write-numbered : (v : Bytes) (t : Tree) → Stands d date [] t → Numbered room (refusals (write (linksPath d) 0 v) t)
-  unfolding refusals earlier later wanted isNoPath isRoot walkTo inWalked nodeNamed isMissing isBlocked arrivedOr isDirectoryNode isLockedNode contentIn all any
+  unfolding RefusalOf.refusals RefusalOf.earlier RefusalOf.later RefusalOf.wanted isNoPath isRoot walkTo inWalked nodeNamed isMissing isBlocked arrivedOr isDirectoryNode isLockedNode contentIn all any
   write-numbered v t c = rw (named .1, c .leads, c .holds-it) tt
 
   pub written-stands : (v : Bytes) (t : Tree) → Stands d date [] t → Passes (refusals (write (linksPath d) 0 v) t) → Stands d date v (treeAfter (write (linksPath d) 0 v) t)
-  unfolding treeAfter changed inParent walkTo inWalked nodeNamed arrivedOr contentIn
+  unfolding MeaningOf.treeAfter MeaningOf.changed inParent walkTo inWalked nodeNamed arrivedOr contentIn
   written-stands v t c e =
       let at : List Name = names (pathOf d) in
-      let put-whole : Bytes → Tree = λ w. record { pages = t .pages; root = changeAt at (rewrite linksKey w) (t .root) } in
+      let put-whole : Bytes → Tree = λ w. record { pages = t .pages; code = t .code; root = changeAt at (rewrite linksKey w) (t .root) } in
       let put-in : Bytes → Tree = λ w. put-whole (v ++ w) in
       let tree : treeAfter (write (linksPath d) 0 v) t ≡ inParent (below (names (pathOf d)) (record { begins = named .0; bytes = linksKey })) (rewrite linksKey v) t =
       settle-passed (refusals (write (linksPath d) 0 v) t) (λ f. t) (changed (write (linksPath d) 0 v) t) e ∙ rw (named .1, c .leads, c .holds-it) (ap put-in (drop-nil (0 + length v)) ∙ ap put-whole (append-nil v)) in

@@ -18,8 +18,10 @@ use Rattle.model.specs.Image.{treeOf}
 use Rattle.model.specs.Path.{Name, Path, below, isNoPath, isRoot}
 use Rattle.model.specs.Walk.{Walked, arrived, missing, blocked, walk, nodeNamed, inWalked, walkTo, arrivedOr}
 use Rattle.model.specs.Call.{Kind, isFile, isDirectory, find, Found, refusalAt, Answer, refused, granted}
-use Rattle.model.specs.Refusal.{isMissing, isBlocked, stoppedAt, isDirectoryNode, wanted, earlier, later, refusals, settle, Passes}
-use Rattle.model.specs.Meaning.{imageLines, foundAt, told, treeAnswer, answer}
+use Rattle.model.specs.Refusal.{isMissing, isBlocked, stoppedAt, isDirectoryNode, settle, Passes}
+use Rattle.model.specs.Meaning.{imageLines, foundAt, treeAnswer, answer}
+use Rattle.model.specs.MeaningOf
+use Rattle.model.specs.RefusalOf
 use Rattle.laws.proofs.Lines.{passed}
 use Rattle.laws.proofs.Passed.{image-passed}
 use Rattle.laws.proofs.Steps.{as-tree}
@@ -113,7 +115,7 @@ said-file (variant.Refused r) date = refl
 
 module _ (b d : Bytes) (h : There b d) (v : Bytes) (legal : T (legalText v)) where
   tree-tells : tellsFile (treeAnswer (find (onward d v)) (treeOf b)) ≡ isFileThere (lookup (padded v) (h .row))
-  unfolding treeAnswer refusals earlier later wanted settle told isNoPath isRoot walkTo inWalked arrivedOr nodeNamed isMissing isBlocked foundAt isFileThere isDirectoryNode tellsFile isFileKind
+  unfolding MeaningOf.treeAnswer RefusalOf.refusals RefusalOf.earlier RefusalOf.later RefusalOf.wanted settle MeaningOf.told isNoPath isRoot walkTo inWalked arrivedOr nodeNamed isMissing isBlocked MeaningOf.foundAt isFileThere isDirectoryNode tellsFile isFileKind
   tree-tells = rw (one-more d (h .isPath) v legal .1, h .leads, leb·suc-zero (freeNumber (treeOf b))) (go (lookup (padded v) (h .row)))
     where
       n : Name

@@ -16,8 +16,10 @@ use Rattle.model.specs.Image.{treeOf}
 use Rattle.model.specs.Path.{Name, pathOf, isNoPath, isRoot, names}
 use Rattle.model.specs.Walk.{Walked, arrived, missing, blocked, walk, nodeNamed, inWalked, walkTo, arrivedOr}
 use Rattle.model.specs.Call.{Call, makeFile, list, find, Kind, isFile, isDirectory, Found, Refusal, refusal, refusalAt, Answer, refused, granted}
-use Rattle.model.specs.Refusal.{isMissing, isBlocked, stoppedAt, isThere, isDirectoryNode, isLockedNode, wanted, makeLines, earlier, later, refusals, settle, Passes}
+use Rattle.model.specs.Refusal.{isMissing, isBlocked, stoppedAt, isThere, isDirectoryNode, isLockedNode, refusals, settle, Passes}
 use Rattle.model.specs.Meaning.{imageLines, isFormat, firstFault, lines, foundAt, told, treeAnswer, answer, after}
+use Rattle.model.specs.MeaningOf
+use Rattle.model.specs.RefusalOf
 use Rattle.laws.proofs.Lines.{passed, granted-passed, not-granted, settle-append}
 use Rattle.laws.proofs.Passed.{image-passed, sound-passed}
 use Rattle.laws.proofs.Steps.{image-skip, as-tree, untouched}
@@ -36,7 +38,7 @@ abbrev atRoot : Bytes → Call
 atRoot date = makeFile (0x2F ∷ []) date
 
 make-root : (t : Tree) (date : Bytes) → treeAnswer (atRoot date) t ≡ refused (if goodDate date then refusal 8 else refusal 11)
-unfolding treeAnswer refusals earlier later wanted makeLines settle pathOf isNoPath isRoot walk isMissing isBlocked
+unfolding MeaningOf.treeAnswer RefusalOf.refusals RefusalOf.earlier RefusalOf.later RefusalOf.wanted RefusalOf.makeLines settle pathOf isNoPath isRoot walk isMissing isBlocked
 make-root t date = go (goodDate date) refl
   where
     go : (z : Bool) → goodDate date ≡ z → treeAnswer (atRoot date) t ≡ refused (if goodDate date then refusal 8 else refusal 11)
@@ -57,7 +59,7 @@ module _ (b date : Bytes) where
       go false = refl
 
   pub root-never : granted tt ≡ answer (makeFile (0x2F ∷ []) date) b → ⊥
-  unfolding answer isFormat
+  unfolding MeaningOf.answer isFormat
   root-never e =
       let p = sound-passed (atRoot date) b tt (granted-passed (lines (atRoot date) b) tt tt (sym e)) in
       not-granted (e ∙ root-refused b date (p .0))
@@ -141,7 +143,7 @@ said-old (variant.Refused r) date = refl
 
 module _ (b d : Bytes) (h : There b d) where
   tree-old : seenOld (treeAnswer (find (linksPath d)) (treeOf b)) ≡ oldFile d (treeOf b)
-  unfolding treeAnswer refusals earlier later wanted settle told isNoPath isRoot walkTo inWalked arrivedOr nodeNamed isMissing isBlocked foundAt oldFile isThere isDirectoryThere isLockedThere isDirectoryNode isLockedNode seenOld kindOld
+  unfolding MeaningOf.treeAnswer RefusalOf.refusals RefusalOf.earlier RefusalOf.later RefusalOf.wanted settle MeaningOf.told isNoPath isRoot walkTo inWalked arrivedOr nodeNamed isMissing isBlocked MeaningOf.foundAt oldFile isThere isDirectoryThere isLockedThere isDirectoryNode isLockedNode seenOld kindOld
   tree-old = rw (links-named d (h .isPath) .1, h .leads, leb·suc-zero (freeNumber (treeOf b))) (go (lookup linksKey (h .row)))
     where
       n : Name
@@ -183,7 +185,7 @@ over-walk {A} good date-good e r f k q = subst (λ (z : Bool). _≡_ {A = Answer
 module _ (b d date : Bytes) (good : Bool) (judged : DateJudged b date good) where
   walk-stops : {A B : Type 0} (x : A) (y : B) (f : Refusal) → T (sound b) → settle (refusals (list d 0) (treeOf b)) refused (granted x) ≡ refused f
       → settle (oldLines d date (treeOf b)) refused (granted y) ≡ refused (dateFirst good f)
-  unfolding refusals earlier later wanted oldLines settle isMissing isBlocked stoppedAt arrivedOr
+  unfolding RefusalOf.refusals RefusalOf.earlier RefusalOf.later RefusalOf.wanted oldLines settle isMissing isBlocked stoppedAt arrivedOr
   walk-stops {A} {B} x y f h e = go (isNoPath (pathOf d)) refl
     where
       go : (z : Bool) → isNoPath (pathOf d) ≡ z → settle (oldLines d date (treeOf b)) refused (granted y) ≡ refused (dateFirst good f)
@@ -196,7 +198,7 @@ module _ (b d date : Bytes) (good : Bool) (judged : DateJudged b date good) wher
           to (arrived s) w = absurd (not-granted (rw (z, w, directory-wide b h (names (pathOf d)) s w, leb·suc-zero (freeNumber (treeOf b))) at e))
 
   pub old-stops : (f q : Refusal) → q ≡ dateFirst good f → refused f ≡ answer (list d 0) b → refused q ≡ oldSettled d date b
-  unfolding answer lines isFormat oldSettled
+  unfolding MeaningOf.answer MeaningOf.lines isFormat oldSettled
   old-stops f q k e =
       let t = treeOf b in
       let x = told (list d 0) t in

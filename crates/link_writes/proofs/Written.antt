@@ -18,8 +18,11 @@ use Rattle.model.specs.Path.{pathOf, isNoPath, isRoot, names}
 use Rattle.model.specs.Walk.{nodeNamed, inWalked, walkTo, arrivedOr}
 use Rattle.model.specs.Call.{Call, makeFile, write, removeFile, Refusal, refusal, Answer, refused, granted}
 use Rattle.model.specs.Refusal.{Line, isMissing, isBlocked, isThere, isDirectoryNode, isLockedNode, contentIn, size, wanted, earlier, refusals, settle, Passes}
-use Rattle.model.specs.Meaning.{imageLines, told, treeAnswer, treeAfter, after}
+use Rattle.model.specs.Meaning.{imageLines, told, treeAfter, after}
 use Rattle.model.specs.Demands.{replay}
+use Rattle.model.specs.DemandsOf
+use Rattle.model.specs.MeaningOf
+use Rattle.model.specs.RefusalOf
 use Rattle.laws.proofs.Lines.{granted-passed, settle-append, settle-both, settle-refused}
 use Rattle.laws.proofs.Passed.{image-passed}
 use Rattle.laws.proofs.Steps.{as-tree, want-of-pages}
@@ -46,19 +49,19 @@ if-settle {A} ls y b b′ = settle-both (λ (a : Answer A) (z : Bytes). ifGrante
 
 module _ (b : Bytes) (h : T (sound b)) (path : Bytes) (cs : List Call) where
   removal-turn : runAnswer (removeFile path ∷ cs) b ≡ settle (refusals (removeFile path) (treeOf b)) refused (runAnswer cs (after (removeFile path) b))
-  unfolding runAnswer treeAnswer told
+  unfolding runAnswer MeaningOf.treeAnswer MeaningOf.told
   removal-turn =
       ap (λ (a : Answer (Unit {0})). thenAnswer a (runAnswer cs (after (removeFile path) b))) (as-tree (removeFile path) b h .answered)
       ∙ and-settle (refusals (removeFile path) (treeOf b)) tt (runAnswer cs (after (removeFile path) b))
 
   make-turn : (date : Bytes) → runAnswer (makeFile path date ∷ cs) b ≡ settle (refusals (makeFile path date) (treeOf b)) refused (runAnswer cs (after (makeFile path date) b))
-  unfolding runAnswer treeAnswer told
+  unfolding runAnswer MeaningOf.treeAnswer MeaningOf.told
   make-turn date =
       ap (λ (a : Answer (Unit {0})). thenAnswer a (runAnswer cs (after (makeFile path date) b))) (as-tree (makeFile path date) b h .answered)
       ∙ and-settle (refusals (makeFile path date) (treeOf b)) tt (runAnswer cs (after (makeFile path date) b))
 
   write-turn : (v : Bytes) → runAnswer (write path 0 v ∷ cs) b ≡ settle (refusals (write path 0 v) (treeOf b)) refused (runAnswer cs (after (write path 0 v) b))
-  unfolding runAnswer treeAnswer told
+  unfolding runAnswer MeaningOf.treeAnswer MeaningOf.told
   write-turn v =
       ap (λ (a : Answer (Unit {0})). thenAnswer a (runAnswer cs (after (write path 0 v) b))) (as-tree (write path 0 v) b h .answered)
       ∙ and-settle (refusals (write path 0 v) (treeOf b)) tt (runAnswer cs (after (write path 0 v) b))
@@ -88,7 +91,7 @@ module _ (d date b : Bytes) (h : T (sound b)) (o : Old d date (treeOf b)) where
   bare = replay (removal d tree) tree
 
   replaced : (old : Bool) → isThere (nodeIn d linksName tree) ≡ old → (v : Bytes) → runAnswer (replacing path date old v) b ≡ settle (anew path date v bare) refused (granted tt)
-  unfolding replacing removal replay
+  unfolding replacing removal DemandsOf.replay
   replaced false e v = rw e (make-write b h path date v)
   replaced true e v =
       let s = as-tree (removeFile path) b h in
@@ -122,7 +125,7 @@ module _ (d date b : Bytes) (h : T (sound b)) (o : Old d date (treeOf b)) where
         omega (arith, e)
 
     too-long : (v : Bytes) → 65025 < length v → {A : Type 0} (g : Refusal → A) (x : A) → settle (refusals (write path 0 v) (treeAfter (makeFile path date) bare)) g x ≡ g (refusal 10)
-    unfolding treeAnswer earlier wanted pagesFor settle isNoPath isRoot walkTo inWalked nodeNamed isMissing isBlocked arrivedOr isDirectoryNode isLockedNode contentIn
+    unfolding MeaningOf.treeAnswer RefusalOf.earlier RefusalOf.wanted pagesFor settle isNoPath isRoot walkTo inWalked nodeNamed isMissing isBlocked arrivedOr isDirectoryNode isLockedNode contentIn
     too-long v l g x =
         let t : Tree = treeAfter (makeFile path date) bare in
         let s = stands in

@@ -10,7 +10,7 @@ use Rattle.model.specs.Layout.{pageCount}
 use Rattle.model.specs.Version1.{view}
 use Rattle.model.specs.Sound.{owned, sound}
 use Rattle.model.specs.Tree.{freeNumber}
-use Rattle.model.specs.Image.{treeOf}
+use Rattle.model.specs.Image.{treeOf, treeIn}
 use Rattle.model.specs.Text.{text}
 use Rattle.model.specs.Call.{verdict, Verdict, Refusal, Answer, refused, granted}
 use Rattle.model.specs.Meaning.{isFormat, answer}
@@ -43,7 +43,7 @@ module _ (b : Bytes) (v : Verdict) (given : granted v ≡ answer verdict b) wher
       go false e = absurd (faulty (unsound verdict b tt refl (subst (λ (s : Bool). T (not s)) (sym e) tt)))
 
   pub granted-pages : v .pages ≡ pageCount b
-  unfolding treeOf
+  unfolding treeIn
   granted-pages = ap (λ (a : Answer Verdict). said a .pages) (given ∙ account b granted-sound .told)
 
   pub granted-free : v .free ≡ freeNumber (treeOf b)
@@ -68,5 +68,5 @@ module _ (b : Bytes) (pages free : ℕ) (good : T (sound b)) (same : pages ≡ p
 
   pub lines-whole : free ≡ freeNumber (treeOf b)
       → text "pages " ++ decimal pages ++ text " free " ++ decimal free ++ newline ++ directoryLines pages b 0 [] ≡ treeLines (treeOf b)
-  unfolding treeLines treeOf directoryLines
+  unfolding treeLines treeIn directoryLines
   lines-whole e = rw (same, e)

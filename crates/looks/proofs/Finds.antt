@@ -12,8 +12,10 @@ use Rattle.model.specs.Tree.{Node, freeNumber}
 use Rattle.model.specs.Path.{pathOf}
 use Rattle.model.specs.Image.{treeOf}
 use Rattle.model.specs.Call.{find, Kind, isFile, isDirectory, refused, granted}
-use Rattle.model.specs.Refusal.{spaceLine, wanted, earlier, later, refusals, settle}
+use Rattle.model.specs.Refusal.{spaceLine, settle}
 use Rattle.model.specs.Meaning.{foundAt, told as toldBy, isFormat, answer}
+use Rattle.model.specs.MeaningOf
+use Rattle.model.specs.RefusalOf
 use Rattle.places.specs.Places.{Spot, theRoot, theFile, theDirectory, placed, arrivalOf}
 use Rattle.places.specs.declared.Arrival.{Arrival}
 use Rattle.places.specs.declared.Arrival.the-variants.{At}
@@ -36,7 +38,7 @@ Undated r x = (r .answer ≡ x) × (r .date ≡ replicate 8 0)
 
 module _ (b path : Bytes) where
   find-placed : answer (find path) b ≡ opened refused (λ s. granted (foundAt (nodeAt b s))) (placed b path)
-  unfolding answer isFormat refusals earlier later wanted toldBy settle
+  unfolding MeaningOf.answer isFormat RefusalOf.refusals RefusalOf.earlier RefusalOf.later RefusalOf.wanted MeaningOf.told settle
   find-placed =
       node-settled b path refused (find path) refl (λ n. spaceLine (find path) (treeOf b) ∷ []) (λ n. granted (foundAt n)) refl
       ∙ rw (leb·suc-zero (freeNumber (treeOf b)))
@@ -55,7 +57,7 @@ module _ (b path : Bytes) where
       (ap (λ (y : FindAnswer). findAnswer y (r .date)) (h .0) ∙ a, h .1 ∙ ap findDate a)
 
   pub find-root : (r : Result) → Undated r Directory → granted theRoot ≡ placed b path → FindSays r (answer (find path) b)
-  unfolding foundAt findDate
+  unfolding MeaningOf.foundAt findDate
   find-root r h e =
       let a = at-place theRoot e in
       (ap₂ (λ (y : FindAnswer) (date : Bytes). findAnswer y date) (h .0) (h .1) ∙ a, h .1 ∙ ap findDate a)
@@ -77,7 +79,7 @@ module _ (b path : Bytes) where
     e₂ = at-directory here is arrives
 
     pub find-directory : (date : Bytes) → date ≡ dateAt b at₂ → Finds isDirectory pageSize date
-    unfolding foundAt findDate
+    unfolding MeaningOf.foundAt findDate
     find-directory date d =
         let s = placed-arrived b path (theDirectory at₂ begins₂ start₂ k₂) e₂ in
         let a : granted (record { kind = isDirectory; size = pageSize; date = date }) ≡ answer (find path) b =
@@ -102,7 +104,7 @@ module _ (b path : Bytes) where
     e = at-file here is arrives
 
     pub find-file : (date : Bytes) → date ≡ dateAt b at → (locked : Bool) → locked ≡ isLocked b at → Finds (isFile locked) k date
-    unfolding foundAt findDate
+    unfolding MeaningOf.foundAt findDate
     find-file date d locked l =
         let s = placed-arrived b path (theFile at begins start k) e in
         let a : granted (record { kind = isFile locked; size = k; date = date }) ≡ answer (find path) b =

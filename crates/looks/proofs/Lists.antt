@@ -19,8 +19,10 @@ use Rattle.model.specs.Path.{Name, pathOf, isNoPath, names}
 use Rattle.model.specs.Image.{contentOf, entryRow, rowOf, rowAt, treeOf}
 use Rattle.model.specs.Walk.{Walked, arrived, missing, blocked, inWalked, walkOn, arrivedOr}
 use Rattle.model.specs.Call.{list, Kind, isFile, isDirectory, Listed, empty, holds, Refusal, refusal, refusalAt, Answer, refused, granted}
-use Rattle.model.specs.Refusal.{walkLines, walkedDirectory, isMissing, isBlocked, stoppedAt, spaceLine, wanted, earlier, later, refusals, settle}
+use Rattle.model.specs.Refusal.{walkLines, walkedDirectory, isMissing, isBlocked, stoppedAt, spaceLine, settle}
 use Rattle.model.specs.Meaning.{listed, told as toldBy, isFormat, answer}
+use Rattle.model.specs.MeaningOf
+use Rattle.model.specs.RefusalOf
 use Rattle.laws.proofs.Facts.{Facts, valid-sized}
 use Rattle.laws.proofs.Walks.{mapWalked, walk-bytes}
 use Rattle.places.specs.Places.{Spot, theRoot, theFile, theDirectory, located, walkedAnswer, placed}
@@ -49,7 +51,7 @@ abbrev rowAnswer : Row → ℕ → Answer Listed
 rowAnswer r i = if leb (width r) i then refused (refusal 12) else granted (listed r i)
 
 entry-first : (b : Bytes) (g : ℕ → Row) (at : ℕ) (rest : Row) → Told b (at ∷ []) → rowAnswer (entryRow (view b) g (entryAt b at) rest) 0 ≡ granted (entryTold (entryAt b at))
-unfolding entryRow width listed entryTold pagesOf
+unfolding entryRow width MeaningOf.listed entryTold pagesOf
 entry-first b g at rest h = go (entryAt b at) (λ locked name date start k. h at (mem-head at []) locked name date start k)
   where
     go : (x : Entry) → ((locked : Bool) (name date : Bytes) (start k : ℕ) → x ≡ aFile locked name date start k → length (contentOf (view b) k (chain (link b) (pagesFor k) start)) ≡ k)
@@ -59,7 +61,7 @@ entry-first b g at rest h = go (entryAt b at) (λ locked name date start k. h at
     go (aDirectory name date start k) h = rw (leb·suc-zero (width rest))
 
 entry-other : (b : Bytes) (g : ℕ → Row) (x : Entry) (rest : Row) (i : ℕ) → rowAnswer (entryRow (view b) g x rest) (suc i) ≡ rowAnswer rest i
-unfolding entryRow width listed
+unfolding entryRow width MeaningOf.listed
 entry-other b g vacant rest i = rw (leb·suc-suc (width rest) i)
 entry-other b g (aFile locked name date start k) rest i = rw (leb·suc-suc (width rest) i)
 entry-other b g (aDirectory name date start k) rest i = rw (leb·suc-suc (width rest) i)
@@ -102,7 +104,7 @@ module _ (b path : Bytes) (i : ℕ) where
   linesOf w = settle (walkLines w ++ ((leb (width (arrivedOr end w)) i, refusal 12) ∷ spaceLine (list path i) (treeOf b) ∷ [])) refused (granted (listed (arrivedOr end w) i))
 
   walk-listed : Facts b → T (not (isNoPath (pathOf path))) → linesOf (mapWalked (rowAt (pageCount b) (view b)) (inWalked (located b (pathOf path)) entered)) ≡ opened refused (listAt b i) (walkedAnswer (located b (pathOf path)))
-  unfolding settle isMissing isBlocked stoppedAt arrivedOr mapWalked inWalked entered walkedAnswer wanted
+  unfolding settle isMissing isBlocked stoppedAt arrivedOr mapWalked inWalked entered walkedAnswer RefusalOf.wanted
   walk-listed f h = go (located b (pathOf path)) refl
     where
       row : (t : ℕ) → walkOn (view b) (names (pathOf path)) 0 ≡ arrived t → linesOf (arrived (rowAt (pageCount b) (view b) t)) ≡ entryListed b t i
@@ -116,7 +118,7 @@ module _ (b path : Bytes) (i : ℕ) where
       go (blocked j) e = refl
 
   pub list-placed : answer (list path i) b ≡ opened refused (listAt b i) (placed b path)
-  unfolding answer isFormat refusals earlier later toldBy settle
+  unfolding MeaningOf.answer isFormat RefusalOf.refusals RefusalOf.earlier RefusalOf.later MeaningOf.told settle
   list-placed = by-place b path refused (list path i) refl (granted (toldBy (list path i) (treeOf b))) (listAt b i) (λ f. go f (isNoPath (pathOf path)) refl)
     where
       go : Facts b → (c : Bool) → isNoPath (pathOf path) ≡ c → (if c then refused (refusal 4) else linesOf (walkedDirectory path (treeOf b))) ≡ (if c then refused (refusal 4) else opened refused (listAt b i) (walkedAnswer (located b (pathOf path))))

@@ -18,8 +18,8 @@ use Rattle.model.specs.Version1.{view}
 use Rattle.model.specs.Tree.{Node, freeNumber}
 use Rattle.model.specs.Image.{contentOn, contentOf, treeOf}
 use Rattle.model.specs.Call.{read, Refusal, refusal, Answer, refused, granted}
-use Rattle.model.specs.Refusal.{Line, pathLine, walkLines, contentIn, walked, node, spaceLine, wanted, earlier, later, refusals, settle}
-use Rattle.model.specs.Meaning.{copied, told, filled, isFormat, lines, answer, bufferAfter}
+use Rattle.model.specs.Refusal.{Line, pathLine, walkLines, contentIn, walked, node, spaceLine, refusals, settle}
+use Rattle.model.specs.Meaning.{copied, isFormat, lines, answer, bufferAfter}
 use Rattle.places.specs.Places.{theFile, placed, spotOf, arrivalOf}
 use Rattle.places.specs.declared.Arrival.{Arrival}
 use Rattle.places.specs.declared.Arrival.the-variants.{At}
@@ -30,6 +30,8 @@ use Rattle.places.proofs.Entries.{file-inside}
 use Rattle.places.proofs.Settled.{placed-arrived}
 use Rattle.chains.specs.Asked.{Inside}
 use Rattle.model.specs.Path.{pathOf}
+use Rattle.model.specs.MeaningOf
+use Rattle.model.specs.RefusalOf
 use Rattle.places.proofs.Place.{the-type}
 use Rattle.answers.proofs.Files.{FileAt, at-file, fileCall, pastOr, fileAt, content-at, refused-does, directory-does, file-does}
 
@@ -61,7 +63,7 @@ module _ (b path : Bytes) (at : ℕ) (room : Bytes) where
   space n = spaceLine (read path at room) (treeOf b)
 
   its-lines : refusals (read path at room) (treeOf b) ≡ pathLine path ∷ (walkLines (walked path (treeOf b)) ++ fileCall (pastOr at space) (node path (treeOf b)))
-  unfolding refusals earlier later
+  unfolding RefusalOf.refusals RefusalOf.earlier RefusalOf.later
   its-lines = refl
 
   abbrev counted : Node → Answer ℕ
@@ -71,12 +73,12 @@ module _ (b path : Bytes) (at : ℕ) (room : Bytes) where
   held n = put 0 (copied (contentIn n) at room) room
 
   pub read-refused : {m : Refusal} → refused m ≡ placed b path → Refuses m
-  unfolding answer bufferAfter told filled isFormat
+  unfolding MeaningOf.answer MeaningOf.bufferAfter MeaningOf.told MeaningOf.filled isFormat
   read-refused e =
       (refused-does b path (read path at room) refl (pastOr at space) its-lines refused counted e, refused-does b path (read path at room) refl (pastOr at space) its-lines (λ m. room) held e)
 
   pub read-directory : (a : Arrival) (p : Place) → a ≡ At p → (tagOf the-type p ≡ 0) ⊎ (tagOf the-type p ≡ 2) → arrivalOf a ≡ placed b path → Refuses (refusal 7)
-  unfolding answer bufferAfter told filled isFormat
+  unfolding MeaningOf.answer MeaningOf.bufferAfter MeaningOf.told MeaningOf.filled isFormat
   read-directory a p here k e =
       (directory-does b path (read path at room) refl (pastOr at space) its-lines refused counted here k e, directory-does b path (read path at room) refl (pastOr at space) its-lines (λ m. room) held here k e)
 
@@ -97,7 +99,7 @@ module _ (b path : Bytes) (at : ℕ) (room : Bytes) where
     e = at-file here is arrives
 
     pub read-past : k < at → Refuses (refusal 12)
-    unfolding answer bufferAfter told filled isFormat settle contentIn
+    unfolding MeaningOf.answer MeaningOf.bufferAfter MeaningOf.told MeaningOf.filled isFormat settle contentIn
     read-past h = (
       rw (content-at b path e .long, lt-ltb k at h) at (file-does b path (read path at room) refl (pastOr at space) its-lines refused counted e),
       rw (content-at b path e .long, lt-ltb k at h) at (file-does b path (read path at room) refl (pastOr at space) its-lines (λ m. room) held e),
@@ -105,7 +107,7 @@ module _ (b path : Bytes) (at : ℕ) (room : Bytes) where
 
     -- a read wants no pages
     file-done : {A : Type 0} (f : Refusal → A) (x : Node → A) → at ≤ k → x (fileAt b entry start k) ≡ settle (lines (read path at room) b) f (x (node path (treeOf b)))
-    unfolding settle wanted isFormat contentIn
+    unfolding settle RefusalOf.wanted isFormat contentIn
     file-done f x h =
         rw (content-at b path e .long, le-ltb k at h, leb·suc-zero (freeNumber (treeOf b))) at (file-does b path (read path at room) refl (pastOr at space) its-lines f x e)
 
@@ -118,10 +120,10 @@ module _ (b path : Bytes) (at : ℕ) (room : Bytes) where
       long = content-at b path e .long
 
       pub read-answer : granted count ≡ answer (read path at room) b
-      unfolding answer told contentIn contentOf
+      unfolding MeaningOf.answer MeaningOf.told contentIn contentOf
       read-answer = ap granted (copied-count xs room k at count long least) ∙ file-done refused counted h
 
       pub read-buffer : (n : ℕ) → n ≡ pagesFor k → {room′ : Bytes} → room′ ≡ put 0 (take count (drop at (flatMap (contentOn (view b)) (chain (link b) n start)))) room
           → room′ ≡ bufferAfter (read path at room) b
-      unfolding bufferAfter filled contentIn contentOf
+      unfolding MeaningOf.bufferAfter MeaningOf.filled contentIn contentOf
       read-buffer n many copy = (rw many at copy) ∙ ap (λ (v : Bytes). put 0 v room) (copied-part xs room k at count long least) ∙ file-done (λ m. room) held h

@@ -6,11 +6,12 @@ use lib.Dec.{T}
 use Rattle.volume.specs.Bytes.{Bytes, if_then_else_}
 use Rattle.model.specs.Layout.{pageCount, validLength, validHeader, freeCount}
 use Rattle.model.specs.Sound.{sound}
-use Rattle.model.specs.Image.{treeOf}
+use Rattle.model.specs.Image.{treeIn}
 use Rattle.model.specs.Call.{verdict, Verdict, refusal, Answer, refused, granted}
 use Rattle.model.specs.Refusal.{settle}
 use Rattle.model.specs.Meaning.{faultTold, isFormat, lines, answer}
 use Rattle.model.specs.Judge.{Fault, Judged, fault, clean, judge, isClean}
+use Rattle.model.specs.MeaningOf
 use Rattle.judge.specs.Answers as found
 use Rattle.judge.specs.Answers.{Finding, judgedAs, concluded}
 use Rattle.laws.proofs.Judged.{judge-sound}
@@ -21,19 +22,19 @@ counted b = granted (record { pages = pageCount b; free = freeCount b })
 
 module _ (b : Bytes) where
   bad-length : validLength (length b) ≡ false → refused (refusal 1) ≡ answer verdict b
-  unfolding answer lines settle
+  unfolding MeaningOf.answer MeaningOf.lines settle
   bad-length v = rw v
 
   bad-header : validLength (length b) ≡ true → validHeader b ≡ false → refused (refusal 2) ≡ answer verdict b
-  unfolding answer lines settle isFormat
+  unfolding MeaningOf.answer MeaningOf.lines settle isFormat
   bad-header v h = rw (v, h)
 
   unsound : (f : Fault) → judge b ≡ fault f → validLength (length b) ≡ true → validHeader b ≡ true → sound b ≡ false → refused (faultTold f) ≡ answer verdict b
-  unfolding answer lines settle isFormat
-  unsound f e v h s = rw (v, h, s, e)
+  unfolding MeaningOf.answer MeaningOf.lines settle isFormat
+  unsound f e v h s = rw (s, v, h, e)
 
   is-sound : sound b ≡ true → counted b ≡ answer verdict b
-  unfolding treeOf
+  unfolding treeIn
   is-sound s = sym (account b (subst T (sym s) tt) .told)
 
 -- what the verdict says of a finding

@@ -20,8 +20,11 @@ use Rattle.model.specs.Image.{treeOf}
 use Rattle.model.specs.Walk.{Walked, arrivedOr, parentPage}
 use Rattle.model.specs.Effect.{lowestVacant, made}
 use Rattle.model.specs.Call.{makeFile, makeDirectory, Refusal, refusal, Answer, refused, granted}
-use Rattle.model.specs.Refusal.{Line, makeLines, wanted, earlier, later, refusals, settle, Passes}
-use Rattle.model.specs.Meaning.{told, imageLines, isFormat, lines, effect, answer, after}
+use Rattle.model.specs.Refusal.{Line, makeLines, settle, Passes}
+use Rattle.model.specs.Meaning.{imageLines, isFormat, lines, answer, after}
+use Rattle.model.specs.EffectOf
+use Rattle.model.specs.MeaningOf
+use Rattle.model.specs.RefusalOf
 use Rattle.laws.proofs.Facts.{Facts, sound-facts}
 use Rattle.laws.proofs.Counting.{free-number}
 use Rattle.laws.proofs.Slots.{size}
@@ -40,19 +43,19 @@ use Rattle.makes.specs.Makes.{makeSettled, makeAnswer, makeAfter}
 
 module _ (b path date : Bytes) where
   pub file-answer : makeAnswer b path date (pagesFor 0) ≡ answer (makeFile path date) b
-  unfolding makeSettled answer lines isFormat refusals earlier later wanted told makeLines
+  unfolding makeSettled MeaningOf.answer MeaningOf.lines isFormat RefusalOf.refusals RefusalOf.earlier RefusalOf.later RefusalOf.wanted MeaningOf.told RefusalOf.makeLines
   file-answer = refl
 
   pub file-after : makeAfter 0x80 0 (pagesFor 0) b path date ≡ after (makeFile path date) b
-  unfolding makeSettled after lines isFormat refusals earlier later wanted effect makeLines
+  unfolding makeSettled MeaningOf.after MeaningOf.lines isFormat RefusalOf.refusals RefusalOf.earlier RefusalOf.later RefusalOf.wanted MeaningOf.effect RefusalOf.makeLines
   file-after = refl
 
   pub directory-answer : makeAnswer b path date 1 ≡ answer (makeDirectory path date) b
-  unfolding makeSettled answer lines isFormat refusals earlier later wanted told makeLines
+  unfolding makeSettled MeaningOf.answer MeaningOf.lines isFormat RefusalOf.refusals RefusalOf.earlier RefusalOf.later RefusalOf.wanted MeaningOf.told RefusalOf.makeLines
   directory-answer = refl
 
   pub directory-after : makeAfter 0x81 0x0100 1 b path date ≡ after (makeDirectory path date) b
-  unfolding makeSettled after lines isFormat refusals earlier later wanted effect makeLines
+  unfolding makeSettled MeaningOf.after MeaningOf.lines isFormat RefusalOf.refusals RefusalOf.earlier RefusalOf.later RefusalOf.wanted MeaningOf.effect RefusalOf.makeLines
   directory-after = refl
 
 -- ---- a make
@@ -118,7 +121,7 @@ module _ (b path date : Bytes) (k : ℕ) where
 
       -- the name as the code has it
       pub can-make : (flags z : ℕ) → z < 65536 → {text : Bytes} → text ≡ name → Making at flags z k text date b
-      unfolding lowestVacant arrivedOr
+      unfolding EffectOf.lowestVacant arrivedOr
       can-make flags z s {text} same =
           let m = makes in
           let w = place-of facts (m .clear) in
@@ -129,7 +132,7 @@ module _ (b path date : Bytes) (k : ℕ) where
 
       pub make-done : (flags z : ℕ) {text : Bytes} → text ≡ name → {b′ : Bytes} → b′ ≡ On.grown version1 (pageCount b) k (byte (at + 17)) (put at (newEntry flags text 0 z date) b)
           → (granted (tt {0}) ≡ makeAnswer b path date k) × (b′ ≡ makeAfter flags z k b path date)
-      unfolding settle made
+      unfolding settle EffectOf.made
       make-done flags z {text} same is = (
         rw free at (at-place refused (granted (tt {0})) e),
         is ∙ ap (λ (v : Bytes). On.grown version1 (pageCount b) k (byte (at + 17)) (put at (newEntry flags v 0 z date) b)) same

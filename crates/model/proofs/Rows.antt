@@ -10,7 +10,9 @@ use Rattle.volume.specs.Lists.{keep, upTo}
 use Rattle.model.specs.Layout.{pagesFor}
 use Rattle.model.specs.Name.{legalByte}
 use Rattle.model.specs.Sound.{sound}
+use Rattle.model.specs.Tree.{width}
 use Rattle.model.specs.Call.{format, verdict, find, list, read, makeFile, makeDirectory, write, removeFile, removeDirectory, setLock, store, isFile, isDirectory}
+use Rattle.model.specs.Meaning.{freshTree}
 use Rattle.model.specs.Store.{isNone, storeCount}
 use Rattle.model.specs.Text.{text}
 use Rattle.model.specs.Listing.{digits, decimal}
@@ -23,6 +25,8 @@ pub numbers : List Case
 numbers =
     -- a file of no bytes has a page, and a page holds 255
     shown [] [] (λ b. map pagesFor (0 ∷ 255 ∷ 256 ∷ [])) (1 ∷ 1 ∷ 2 ∷ [])
+    -- a fresh root has six entries
+    ∷ shown [] [] (λ b. width (freshTree 8 .root)) 6
     -- the bytes that a name may have
     ∷ shown [] [] (λ b. keep legalByte (upTo 256))
     (text " !\"#$%&'()*+,-.0123456789:;<=>?@ABCDEFGHIJKLMNOPQRSTUVWXYZ[\\]^_`abcdefghijklmnopqrstuvwxyz{|}~")
@@ -58,6 +62,8 @@ faults =
     ∷ unsound (set (set two 256 5) 97 0x7F) 17 0 0 1
     ∷ unsound (put 3 (5 ∷ 0b100011 ∷ []) (set one 256 5)) 17 0 0 1
     ∷ unsound (put 3 (9 ∷ 0b100011 ∷ []) one) 19 5 0 0
+    -- bit 0 of the bitmap, with the count that then is right
+    ∷ unsound (put 3 (7 ∷ 0b10 ∷ []) one) 3 0 0 0
     -- an empty file
     ∷ answered note (verdict gives sized 8 6 ∷ [])
     ∷ []

@@ -12,18 +12,21 @@ use Rattle.model.specs.Layout.{pagesFor, validLength, validHeader}
 use Rattle.model.specs.Name.{legalByte, legalRest, legalName, legalText, padded, unpadded}
 use Rattle.model.specs.Date.{isBcd, bcd, between, isLeap, daysIn, goodDate}
 use Rattle.model.specs.Entry.{entries, entryAt, newEntry}
-use Rattle.model.specs.Sound.{pagesOf, goodEntry, isNamed, sameName, namesApart, goodDirectory, reachedBy, reached, soundTo, sound, owners}
-use Rattle.model.specs.Judge.{thenJudge, judgePage, judgeChain, freshName, judgeEntry, judgeEntries, judgeDirectory, lostOr, judgeRest, judge, isClean}
-use Rattle.model.specs.Tree.{emptyRow, width, held, needs, freeNumber, lookup}
+use Rattle.model.specs.Sound.{pagesOf, goodEntry, isNamed, sameName, namesApart, goodDirectory, reachedBy, reached, soundBy, ownersIn}
+use Rattle.model.specs.Judge.{thenJudge, judgePage, judgeChain, freshName, judgeEntry, judgeEntries, judgeDirectory, lostOr, judgeRest, isClean, judgeView}
+use Rattle.model.specs.Tree.{emptyRow, width, held, lookup, freeNumberOf, needsOf}
 use Rattle.model.specs.Path.{before, texts, namesFrom, pathTo, pathOf, isNoPath, isRoot}
-use Rattle.model.specs.Image.{contentOf, entryRow, rowOf, rowAt, treeOf}
+use Rattle.model.specs.Image.{contentOf, entryRow, rowOf, rowAt, treeIn}
 use Rattle.model.specs.Walk.{enter, walk, nodeNamed, inWalked, walkTo, entryNamed, enterOn, walkOn, arrivedOr}
-use Rattle.model.specs.Effect.{formatted, isVacant, lowestVacant, made, rewritten, written, removed, withLock, relocked}
+use Rattle.model.specs.Effect.{formatted, isVacant, written, withLock}
 use Rattle.model.specs.Call.{Call, verdict, read, Verdict, Told, bufferBefore, Refusal, Answer, refused, granted}
-use Rattle.model.specs.Refusal.{Line, isMissing, isBlocked, stoppedAt, isThere, isDirectoryNode, isLockedNode, contentIn, rowIn, wanted, makeLines, earlier, later, refusals, settle}
-use Rattle.model.specs.Meaning.{foundAt, listed, told, filled, isFormat, lines, effect, answer, after, bufferAfter, toldOn, filledOn}
+use Rattle.model.specs.Refusal.{Line, isMissing, isBlocked, stoppedAt, isThere, isDirectoryNode, isLockedNode, contentIn, rowIn, settle}
+use Rattle.model.specs.Meaning.{filled, isFormat, lines, effect, answer, after, bufferAfter, toldOn, filledOn}
 use Rattle.model.specs.Demands.{Result, Results}
 use Rattle.model.specs.Text.{text}
+use Rattle.model.specs.EffectOf
+use Rattle.model.specs.MeaningOf
+use Rattle.model.specs.RefusalOf
 
 -- the image after a list of calls
 unfoldable pub run : List Call → Bytes → Bytes
@@ -61,7 +64,7 @@ settle-through g (l ∷ ls) f x = go (l .0) (settle-through g ls f x)
     go false e = e
 
 turn-is : (c : Call) (b : Bytes) → turn c b ≡ (record { answered = answer c b; lent = bufferAfter c b }, after c b)
-unfolding turn answer bufferAfter after
+unfolding turn MeaningOf.answer MeaningOf.bufferAfter MeaningOf.after
 turn-is c b =
     let stays : Refusal → Result c × Bytes = λ f. (record { answered = refused f; lent = bufferBefore c }, b) in
     let goes : Result c × Bytes = (record { answered = granted (toldOn c b); lent = filledOn c b }, effect c b) in
@@ -82,11 +85,11 @@ unfoldable pub computing : Unit {0}
 unfolding flatMap same all any keep lastOr distinct countFrom first chain beyond spread On.pageBit On.zeroBits On.lowestFree On.mark On.unmark
     On.taken On.released On.grown On.gained On.jointOf On.written pagesFor validLength validHeader legalByte legalRest legalName legalText padded
     unpadded isBcd bcd between isLeap daysIn goodDate entries entryAt newEntry pagesOf goodEntry isNamed sameName namesApart goodDirectory reachedBy
-    reached soundTo sound owners thenJudge judgePage judgeChain freshName judgeEntry judgeEntries judgeDirectory lostOr judgeRest judge isClean
-    emptyRow width held needs freeNumber lookup before texts namesFrom pathTo pathOf isNoPath isRoot contentOf entryRow rowOf rowAt treeOf enter walk
-    nodeNamed inWalked walkTo entryNamed enterOn walkOn arrivedOr formatted isVacant lowestVacant made rewritten written removed withLock relocked
-    isMissing isBlocked stoppedAt isThere isDirectoryNode isLockedNode contentIn rowIn wanted makeLines earlier later refusals settle foundAt listed
-    told filled isFormat lines effect answer after bufferAfter text run results turn turns
+    reached soundBy ownersIn thenJudge judgePage judgeChain freshName judgeEntry judgeEntries judgeDirectory lostOr judgeRest judgeView isClean
+    emptyRow width held needsOf freeNumberOf lookup before texts namesFrom pathTo pathOf isNoPath isRoot contentOf entryRow rowOf rowAt treeIn enter walk
+    nodeNamed inWalked walkTo entryNamed enterOn walkOn arrivedOr formatted isVacant EffectOf.lowestVacant EffectOf.made EffectOf.rewritten EffectOf.written EffectOf.removed withLock EffectOf.relocked
+    isMissing isBlocked stoppedAt isThere isDirectoryNode isLockedNode contentIn rowIn RefusalOf.wanted RefusalOf.makeLines RefusalOf.earlier RefusalOf.later RefusalOf.refusals settle MeaningOf.foundAt MeaningOf.listed
+    MeaningOf.told MeaningOf.filled isFormat MeaningOf.lines MeaningOf.effect MeaningOf.answer MeaningOf.after MeaningOf.bufferAfter text run results turn turns
 computing = tt
 
 -- ---- cases

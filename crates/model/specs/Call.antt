@@ -6,23 +6,36 @@ use Rattle.volume.specs.Bytes.{Bytes}
 
 -- The two calls of paper 02 §10 are one here, by the mark that they leave. A path, a date and what a write writes are bytes. The last argument of a read, and of a store, is what
 -- the buffer holds beforehand. A store (paper 02 §11) makes a file with its content by whole pages, and is asked for each of them by its number.
-pub data Call : Type 0 where
-  format : Call
-  verdict : Call
-  find : (path : Bytes) → Call
-  list : (path : Bytes) (entry : ℕ) → Call
-  read : (path : Bytes) (position : ℕ) (buffer : Bytes) → Call
-  makeFile : (path date : Bytes) → Call
-  makeDirectory : (path date : Bytes) → Call
-  write : (path : Bytes) (position : ℕ) (bytes : Bytes) → Call
-  removeFile : (path : Bytes) → Call
-  removeDirectory : (path : Bytes) → Call
-  setLock : (locked : Bool) (path : Bytes) → Call
-  store : (path date content : Bytes) (number : ℕ) (buffer : Bytes) → Call
+-- F is what a version's format is handed: nothing in version 1, a page code in version 2. S says whether a version has stores: version 1 has, version 2
+-- has not (paper 02 §12), and its S is empty.
+pub data CallOf (F S : Type 0) : Type 0 where
+  formatAs : (new : F) → CallOf F S
+  verdict : CallOf F S
+  find : (path : Bytes) → CallOf F S
+  list : (path : Bytes) (entry : ℕ) → CallOf F S
+  read : (path : Bytes) (position : ℕ) (buffer : Bytes) → CallOf F S
+  makeFile : (path date : Bytes) → CallOf F S
+  makeDirectory : (path date : Bytes) → CallOf F S
+  write : (path : Bytes) (position : ℕ) (bytes : Bytes) → CallOf F S
+  removeFile : (path : Bytes) → CallOf F S
+  removeDirectory : (path : Bytes) → CallOf F S
+  setLock : (locked : Bool) (path : Bytes) → CallOf F S
+  storeAs : (has : S) (path date content : Bytes) (number : ℕ) (buffer : Bytes) → CallOf F S
+
+-- version 1's
+abbrev pub Call : Type 0
+Call = CallOf (Unit {0}) (Unit {0})
+
+abbrev pub format : Call
+format = formatAs tt
+
+abbrev pub store : (path date content : Bytes) (number : ℕ) (buffer : Bytes) → Call
+store path date content number buffer = storeAs tt path date content number buffer
 
 -- what is said of a store, and of every other call
-abbrev pub ofStore : (A : Call → Type 0) → (c : Call) → A c → ((path date content : Bytes) (number : ℕ) (buffer : Bytes) → A (store path date content number buffer)) → A c
-ofStore A format x f = x
+abbrev pub ofStore : {F S : Type 0} (A : CallOf F S → Type 0) → (c : CallOf F S) → A c
+    → ((has : S) (path date content : Bytes) (number : ℕ) (buffer : Bytes) → A (storeAs has path date content number buffer)) → A c
+ofStore A (formatAs new) x f = x
 ofStore A verdict x f = x
 ofStore A (find path) x f = x
 ofStore A (list path entry) x f = x
@@ -33,7 +46,22 @@ ofStore A (write path position bytes) x f = x
 ofStore A (removeFile path) x f = x
 ofStore A (removeDirectory path) x f = x
 ofStore A (setLock locked path) x f = x
-ofStore A (store path date content number buffer) x f = f path date content number buffer
+ofStore A (storeAs has path date content number buffer) x f = f has path date content number buffer
+
+-- and of a format
+abbrev pub ofFormat : {F S : Type 0} {A : Type 0} → CallOf F S → A → (F → A) → A
+ofFormat (formatAs new) x f = f new
+ofFormat verdict x f = x
+ofFormat (find path) x f = x
+ofFormat (list path entry) x f = x
+ofFormat (read path position buffer) x f = x
+ofFormat (makeFile path date) x f = x
+ofFormat (makeDirectory path date) x f = x
+ofFormat (write path position bytes) x f = x
+ofFormat (removeFile path) x f = x
+ofFormat (removeDirectory path) x f = x
+ofFormat (setLock locked path) x f = x
+ofFormat (storeAs has path date content number buffer) x f = x
 
 -- ---- what a granted call tells
 
@@ -56,8 +84,8 @@ pub data Listed : Type 0 where
   holds : (kind : Kind) (name : Bytes) (size : ℕ) (date : Bytes) → Listed
 
 -- read tells how many bytes it copied, a store its page; the calls that change an image tell only that they were done
-abbrev pub Told : Call → Type 0
-Told format = Unit {0}
+abbrev pub Told : {F S : Type 0} → CallOf F S → Type 0
+Told (formatAs new) = Unit {0}
 Told verdict = Verdict
 Told (find path) = Found
 Told (list path entry) = Listed
@@ -68,11 +96,11 @@ Told (write path position bytes) = Unit {0}
 Told (removeFile path) = Unit {0}
 Told (removeDirectory path) = Unit {0}
 Told (setLock locked path) = Unit {0}
-Told (store path date content number buffer) = ℕ
+Told (storeAs has path date content number buffer) = ℕ
 
 -- the lent buffer before the call; only a read and a store have one
-abbrev pub bufferBefore : Call → Bytes
-bufferBefore format = []
+abbrev pub bufferBefore : {F S : Type 0} → CallOf F S → Bytes
+bufferBefore (formatAs new) = []
 bufferBefore verdict = []
 bufferBefore (find path) = []
 bufferBefore (list path entry) = []
@@ -83,7 +111,7 @@ bufferBefore (write path position bytes) = []
 bufferBefore (removeFile path) = []
 bufferBefore (removeDirectory path) = []
 bufferBefore (setLock locked path) = []
-bufferBefore (store path date content number buffer) = buffer
+bufferBefore (storeAs has path date content number buffer) = buffer
 
 -- ---- answers
 

@@ -1,5 +1,5 @@
--- The three demands of document 00, as statements about `answer`, `after` and `bufferAfter`, and those of paper 02 §9 and §10. The crate `laws`
--- proves them.
+-- The three demands of document 00, as statements about version 1's `answer`, `after` and `bufferAfter`, and those of paper 02 §9 and §10. What is said of any
+-- version stands in `DemandsOf`, and has its names for version 1 here. The crate `laws` proves them.
 use mathlib.Core.Path.{_≡_}
 use mathlib.Core.Logic.{_↔_, _≢_, _⊎_}
 use Prim.Native.Nat.{ℕ, _+_, _/_, _≤_, _<_}
@@ -22,20 +22,21 @@ use Rattle.model.specs.Walk.{arrived, walkTo, entryPosition, entryNamed}
 use Rattle.model.specs.Call.{Call, format, verdict, setLock, store, Told, bufferBefore, Refusal, refusal, Answer, refused, granted, find, Found}
 use Rattle.model.specs.Name.{legalText, padded}
 use Rattle.model.specs.Version1.{view}
-use Rattle.model.specs.Refusal.{bufferLines, earlier, wanted, Passes}
-use Rattle.model.specs.Meaning.{freshTree, shown, lentShown, treeAnswer, treeBuffer, treeAfter, faultTold, isFormat, answer, after, bufferAfter, numbers}
+use Rattle.model.specs.Refusal.{bufferLines, Passes}
+use Rattle.model.specs.Version.{v1}
+use Rattle.model.specs.DemandsOf as Of
+pub use Rattle.model.specs.DemandsOf.{isFree, isOwned}
+use Rattle.model.specs.Meaning.{freshTree, faultTold, isFormat, answer, after}
 use Rattle.model.specs.Touched.{moved, touched}
 
 -- ---- Demand 1: any input, an answer; a refusal has a number that this call can give and changes nothing.
 -- (That there is always an answer is the type of `answer`, which has no condition.)
 
-pub record Untouched (c : Call) (b : Bytes) (f : Refusal) : Type 0 where
-  pub numbered : T (member (f .number) (numbers c))
-  pub image : after c b ≡ b
-  pub lent : bufferAfter c b ≡ bufferBefore c
+abbrev pub Untouched : Call → Bytes → Refusal → Type 0
+Untouched c b f = Of.Untouched v1 c b f
 
 abbrev pub Demand1 : Type 0
-Demand1 = (c : Call) (b : Bytes) (f : Refusal) → answer c b ≡ refused f → Untouched c b f
+Demand1 = Of.Demand1 v1
 
 -- ---- Demand 2: bytes mean a tree; an image that is not sound is refused; on a sound one each call answers, and changes tree and bytes, as the
 -- plain tree does; names differ when any byte differs.
@@ -48,11 +49,8 @@ pub data Unsound (c : Call) (b : Bytes) : Type 0 where
       → (f : Fault) → judge b ≡ fault f → answer c b ≡ refused (faultTold f) → Unsound c b
 
 -- A store's page and the bytes of it are not in the tree (paper 02 §11): `answer` and `bufferAfter` give them, and the tree says the rest.
-pub record AsTree (c : Call) (b : Bytes) : Type 0 where
-  pub answered : shown c (answer c b) ≡ treeAnswer c (treeOf b)
-  pub lent : lentShown c (bufferAfter c b) ≡ treeBuffer c (treeOf b)
-  pub isSound : T (sound (after c b))
-  pub means : treeOf (after c b) ≡ treeAfter c (treeOf b)
+abbrev pub AsTree : Call → Bytes → Type 0
+AsTree c b = Of.AsTree v1 c b
 
 -- A call changes no byte that it does not name.
 pub record OnlyTouched (c : Call) (b : Bytes) : Type 0 where
@@ -98,68 +96,41 @@ pub record Demand2 : Type 0 where
 
 -- ---- Demand 3: lists of calls on one image
 
--- what a call gave back: its answer, and the lent buffer
-pub record Result (c : Call) : Type 0 where
-  pub answered : Answer (Told c)
-  pub lent : Bytes
+-- what calls gave back; one call as its public contract promises it; a list of calls that meet their contracts
+abbrev pub Result : Call → Type 0
+Result c = Of.Result v1 c
 
 abbrev pub Results : List Call → Type 0
-Results [] = Unit {0}
-Results (c ∷ cs) = Result c × Results cs
+Results cs = Of.Results v1 cs
 
--- one call as its public contract promises it: image b before, b′ after
-pub record Promised (c : Call) (b : Bytes) (r : Result c) (b′ : Bytes) : Type 0 where
-  pub answered : r .answered ≡ answer c b
-  pub lent : r .lent ≡ bufferAfter c b
-  pub image : b′ ≡ after c b
+abbrev pub Promised : (c : Call) (b : Bytes) (r : Result c) (b′ : Bytes) → Type 0
+Promised c b r b′ = Of.Promised v1 c b r b′
 
--- A list of calls, each of which gets the image as the last one left it. Any library whose calls meet their contracts runs so.
 abbrev pub Runs : Bytes → (cs : List Call) → Results cs → Bytes → Type 0
-Runs b [] rs b′ = b′ ≡ b
-Runs b (c ∷ cs) rs b′ = (mid : Bytes) × Promised c b (rs .0) mid × Runs mid cs (rs .1) b′
+Runs b cs rs b′ = Of.Runs v1 b cs rs b′
 
 -- The replay looks at no answer and at no byte.
-unfoldable pub replay : List Call → Tree → Tree
-replay [] t = t
-replay (c ∷ cs) t = replay cs (treeAfter c t)
+abbrev pub replay : List Call → Tree → Tree
+replay cs t = Of.replay v1 cs t
 
-unfoldable pub replayResults : (cs : List Call) → Tree → Results cs
-replayResults [] t = tt
-replayResults (c ∷ cs) t = (record { answered = treeAnswer c t; lent = treeBuffer c t }, replayResults cs (treeAfter c t))
+abbrev pub replayResults : (cs : List Call) → Tree → Results cs
+replayResults cs t = Of.replayResults v1 cs t
 
--- what the replay decides of results: all but the page of a granted store, and the bytes of that
 abbrev pub shownResults : (cs : List Call) → Results cs → Results cs
-shownResults [] rs = tt
-shownResults (c ∷ cs) rs = (record { answered = shown c (rs .0 .answered); lent = lentShown c (rs .0 .lent) }, shownResults cs (rs .1))
+shownResults cs rs = Of.shownResults v1 cs rs
 
--- Each call is refused for want of pages exactly when no earlier line stops it and it needs more than the free number before it.
 abbrev pub WantOfPages : (cs : List Call) → Results cs → Tree → Type 0
-WantOfPages [] rs t = Unit {0}
-WantOfPages (c ∷ cs) rs t =
-    ((rs .0 .answered ≡ refused (refusal 10)) ↔ (Passes (earlier c t) × (freeNumber t < wanted c t)))
-    × WantOfPages cs (rs .1) (treeAfter c t)
+WantOfPages cs rs t = Of.WantOfPages v1 cs rs t
 
--- A page is free and nobody owns it, or it is marked and exactly one file or directory owns it, the one whose entry is at a position.
-pub data Owned (b : Bytes) (p : ℕ) : Type 0 where
-  isFree : pageBit b p ≡ 0 → owners b p ≡ [] → Owned b p
-  isOwned : (position : ℕ) → pageBit b p ≡ 1 → owners b p ≡ position ∷ [] → Owned b p
+-- each page is free or has one owner; the count of the image and of the tree; all that is demanded
+abbrev pub Owned : Bytes → ℕ → Type 0
+Owned b p = Of.Owned v1 b p
 
--- what holds of the image after the list, t being the replayed tree
-pub record Account (b : Bytes) (t : Tree) : Type 0 where
-  pub isSound : T (sound b)
-  pub means : treeOf b ≡ t
-  -- the header's count, the zero bits and the verdict are the page total, less one, less the pages that the tree needs
-  pub counted : freeCount b + 1 + needs (t .root) ≡ t .pages
-  pub zeros : zeroBits b (pageCount b) ≡ freeCount b
-  pub told : answer verdict b ≡ granted (record { pages = t .pages; free = freeCount b })
-  pub number : freeNumber t ≡ freeCount b
-  pub pages : (p : ℕ) → 1 ≤ p → p < pageCount b → Owned b p
+abbrev pub Account : Bytes → Tree → Type 0
+Account b t = Of.Account v1 b t
 
-pub record Demanded (b : Bytes) (t : Tree) (cs : List Call) (rs : Results cs) (b′ : Bytes) : Type 0 where
-  pub account : Account b′ (replay cs t)
-  pub long : length b′ ≡ length b
-  pub answered : shownResults cs rs ≡ replayResults cs t
-  pub wantOfPages : WantOfPages cs rs t
+abbrev pub Demanded : (b : Bytes) (t : Tree) (cs : List Call) (rs : Results cs) (b′ : Bytes) → Type 0
+Demanded b t cs rs b′ = Of.Demanded v1 b t cs rs b′
 
 -- a list starts from any sound image, or from a fresh one
 pub data Starts (b : Bytes) (t : Tree) : Type 0 where
@@ -174,7 +145,7 @@ Demand3 = (b : Bytes) (t : Tree) → Starts b t → (cs : List Call) (rs : Resul
 -- A chain has as many pages as the size wants, each of them one of the image's and none the header, and ends after them. (An early end is link 0,
 -- which would be the header's page.)
 pub record Unbroken (b : Bytes) (start size : ℕ) : Type 0 where
-  pub inside : T (all (inRange (pageCount b)) (chain (link b) (pagesFor size) start))
+  pub inside : T (all (inRange (view b)) (chain (link b) (pagesFor size) start))
   pub ends : beyond (link b) (pagesFor size) start ≡ 0
 
 -- the entry at a position is a file, whose chain is unbroken and holds this content
@@ -192,14 +163,14 @@ pub record WholeDirectory (b : Bytes) (at : ℕ) (date : Bytes) : Type 0 where
   pub start : ℕ
   pub size : ℕ
   pub is : entryAt b at ≡ aDirectory name date start size
-  pub inside : T (inRange (pageCount b) start)
+  pub inside : T (inRange (view b) start)
 
 pub record NeverBroken (b : Bytes) : Type 0 where
   -- every file and every directory
   pub everyFile : (at : ℕ) → T (member at (reachedEntries b)) → (locked : Bool) (name date : Bytes) (start size : ℕ) → entryAt b at ≡ aFile locked name date start size
       → Unbroken b start size
   pub everyDirectory : (at : ℕ) → T (member at (reachedEntries b)) → (name date : Bytes) (start size : ℕ) → entryAt b at ≡ aDirectory name date start size
-      → T (inRange (pageCount b) start)
+      → T (inRange (view b) start)
   -- what read, write and remove walk: the entry that a path leads to is one of these
   pub toFile : (path : Path) (locked : Bool) (date content : Bytes) → walkTo path (treeOf b .root) ≡ arrived (fileNode locked date content)
       → WholeFile b (entryPosition b path) locked date content

@@ -34,6 +34,10 @@ unfoldable pub rowAt : (depth : ℕ) → View → (directory : ℕ) → Row
 rowAt zero v p = end
 rowAt (suc depth) v p = rowOf v (rowAt depth v) (v .entries p)
 
--- the tree of an image; N is deep enough for a sound one (law `depth-enough`)
-unfoldable pub treeOf : Bytes → Tree
-treeOf b = let v = view b in record { pages = v .pages; root = rowAt (v .pages) v 0 }
+-- the tree of an image, whose page code is told; N is deep enough for a sound one (law `depth-enough`)
+unfoldable pub treeIn : (code : ℕ) → View → Tree
+treeIn code v = record { pages = v .pages; code = code; root = rowAt (v .pages) v 0 }
+
+-- of an image of version 1
+abbrev pub treeOf : Bytes → Tree
+treeOf b = treeIn 0 (view b)

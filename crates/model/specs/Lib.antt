@@ -1,7 +1,9 @@
 -- The specification: what a reader must believe, in the order of document 01, with the requests of paper 02 that are named where they count.
 -- It rests on the crate `volume`, which says how pages are taken, linked and given back in any image; `Layout` says where version 1 keeps them.
--- An image is read once, into a `View`. What is said of entries, directories and walks is said of a view v; what is said of a whole image, of its
--- bytes b, whose view is `view b`.
+-- An image is read once, into a `View`. What is said of entries, directories and walks is said of a view v; what is said of a whole image of version 1, of
+-- its bytes b, whose view is `view b`.
+-- What is said of calls is said once for every version (paper 02 §12): `EffectOf`, `RefusalOf`, `MeaningOf` and `DemandsOf` of a `Version` w. `Effect`,
+-- `Refusal`, `Meaning` and `Demands` have the names for version 1, `v1`, at which each computes to what document 01 says.
 --
 -- Words. The paper's word stands left where ours is another one.
 --   record            file: an entry with a name, a date and a byte string
@@ -22,6 +24,7 @@ pub mod Layout
 pub mod Name
 pub mod Date
 pub mod Entry
+pub mod Numbers
 pub mod View
 pub mod Version1
 pub mod Sound
@@ -30,12 +33,17 @@ pub mod Tree
 pub mod Path
 pub mod Image
 pub mod Walk
+pub mod EffectOf
 pub mod Effect
 pub mod Store
 pub mod Call
+pub mod Version
+pub mod RefusalOf
 pub mod Refusal
+pub mod MeaningOf
 pub mod Meaning
 pub mod Touched
+pub mod DemandsOf
 pub mod Demands
 pub mod Text
 pub mod Listing

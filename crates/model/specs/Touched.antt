@@ -14,7 +14,7 @@ use Rattle.model.specs.Path.{pathOf}
 use Rattle.model.specs.Image.{treeOf}
 use Rattle.model.specs.Walk.{parentPage, entryPosition}
 use Rattle.model.specs.Effect.{lowestVacant}
-use Rattle.model.specs.Call.{Call, format, verdict, find, list, read, makeFile, makeDirectory, write, removeFile, removeDirectory, setLock, store}
+use Rattle.model.specs.Call.{Call, formatAs, verdict, find, list, read, makeFile, makeDirectory, write, removeFile, removeDirectory, setLock, storeAs}
 use Rattle.model.specs.Refusal.{wanted}
 
 -- ---- pages
@@ -25,7 +25,7 @@ taken c b = On.gained version1 (pageCount b) (wanted c (treeOf b)) b
 
 -- "The bitmap and byte 3 follow": the pages whose bit may change, those taken and those that a removal gives back. Format sets all bits anew.
 unfoldable pub moved : Call → Bytes → List ℕ
-moved format b = upTo (pageCount b)
+moved (formatAs new) b = upTo (pageCount b)
 moved verdict b = []
 moved (find path) b = []
 moved (list path entry) b = []
@@ -36,7 +36,7 @@ moved (write path position bytes) b = taken (write path position bytes) b
 moved (removeFile path) b = pagesAt (view b) (entryPosition b (pathOf path))
 moved (removeDirectory path) b = pagesAt (view b) (entryPosition b (pathOf path))
 moved (setLock locked path) b = []
-moved (store path date content number buffer) b = []
+moved (storeAs has path date content number buffer) b = []
 
 -- ---- positions
 
@@ -69,7 +69,7 @@ byRemoval at ps = countFrom at 1 ++ account ps
 
 -- Format: "Bytes from 256 on stay." Write: "m = 0 changes nothing." To lock and unlock a file is to change its flags byte (paper 02 §10).
 unfoldable pub touched : Call → Bytes → List ℕ
-touched format b = bytesOn (0 ∷ [])
+touched (formatAs new) b = bytesOn (0 ∷ [])
 touched verdict b = []
 touched (find path) b = []
 touched (list path entry) b = []
@@ -83,4 +83,4 @@ touched (write path position (x ∷ v)) b =
 touched (removeFile path) b = byRemoval (entryPosition b (pathOf path)) (moved (removeFile path) b)
 touched (removeDirectory path) b = byRemoval (entryPosition b (pathOf path)) (moved (removeDirectory path) b)
 touched (setLock locked path) b = countFrom (entryPosition b (pathOf path)) 1
-touched (store path date content number buffer) b = []
+touched (storeAs has path date content number buffer) b = []

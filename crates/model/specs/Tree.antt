@@ -1,10 +1,11 @@
--- Document 01, "The plain tree". It knows no page numbers, but N stands beside it.
-use Prim.Native.Nat.{ℕ, zero, suc, _+_, _-_}
+-- Document 01, "The plain tree". It knows no page numbers, but N and the page code (paper 02 §12) stand beside it.
+use Prim.Native.Nat.{ℕ, zero, suc, _+_, _-_, _/_}
 use mathlib.Core.Bool.{Bool}
 use mathlib.Core.Option.{Option, none, some}
 use lib.ListN.{length}
+use lib.Dec.{eqb}
 use Rattle.volume.specs.Bytes.{Bytes, same, if_then_else_}
-use Rattle.model.specs.Layout.{pagesFor}
+use Rattle.model.specs.Numbers.{Numbers, numbers1}
 
 -- A directory is its row of entries, each free, or holding a name, a date and either a byte string, locked or not (paper 02 §10), or a directory.
 -- A directory holds its own row, then comes the rest of the row that it stands in.
@@ -16,6 +17,8 @@ pub data Row : Type 0 where
 
 pub record Tree : Type 0 where
   pub pages : ℕ
+  -- version 1 has no page code, and 0 stands for it
+  pub code : ℕ
   pub root : Row
 
 unfoldable pub emptyRow : ℕ → Row
@@ -36,16 +39,37 @@ held (free r) = held r
 held (file l n d v r) = suc (held r)
 held (dir n d s r) = suc (held r)
 
--- the pages that a row needs: one for each directory below it, and k for each file
-unfoldable pub needs : Row → ℕ
-needs end = 0
-needs (free r) = needs r
-needs (file l n d v r) = pagesFor (length v) + needs r
-needs (dir n d s r) = 1 + needs s + needs r
+-- no entry is free
+abbrev pub isFull : Row → Bool
+isFull r = eqb (held r) (width r)
+
+-- ---- pages ("Lists of calls, and the replay"; paper 02 §12: every page of a directory counts)
+
+-- the pages of a directory with so many entries; in version 1 one
+abbrev pub directoryNeeds : Numbers → (width : ℕ) → ℕ
+directoryNeeds n w = if n .grows then w / n .pageEntries else 1
+
+-- the pages that a row needs: those of each directory below it, and k for each file
+unfoldable pub needsOf : Numbers → Row → ℕ
+needsOf n end = 0
+needsOf n (free r) = needsOf n r
+needsOf n (file l m d v r) = n .pagesFor (length v) + needsOf n r
+needsOf n (dir m d s r) = directoryNeeds n (width s) + needsOf n s + needsOf n r
+
+-- the pages that a tree needs: where directories grow, also those of the root after the header
+abbrev pub treeNeeds : Numbers → Row → ℕ
+treeNeeds n r = if n .grows then needsOf n r + (width r - n .rootEntries) / n .pageEntries else needsOf n r
 
 -- In a sound image nothing is cut off here: law `free-sum`.
-unfoldable pub freeNumber : Tree → ℕ
-freeNumber t = t .pages - 1 - needs (t .root)
+unfoldable pub freeNumberOf : Numbers → Tree → ℕ
+freeNumberOf n t = t .pages - n .aside - treeNeeds n (t .root)
+
+-- in version 1
+abbrev pub needs : Row → ℕ
+needs r = needsOf numbers1 r
+
+abbrev pub freeNumber : Tree → ℕ
+freeNumber t = freeNumberOf numbers1 t
 
 -- ---- a name in a row
 
@@ -67,6 +91,17 @@ fill e end = end
 fill e (free r) = e r
 fill e (file l n d v r) = file l n d v (fill e r)
 fill e (dir n d s r) = dir n d s (fill e r)
+
+-- n free entries more at the end
+unfoldable pub extend : ℕ → Row → Row
+extend n end = emptyRow n
+extend n (free r) = free (extend n r)
+extend n (file l m d v r) = file l m d v (extend n r)
+extend n (dir m d s r) = dir m d s (extend n r)
+
+-- the lowest free entry filled by e; where directories grow, a full row has a page of free entries more first (paper 02 §12)
+abbrev pub placed : Numbers → (Row → Row) → Row → Row
+placed n e = if n .grows then (λ r. fill e (if isFull r then extend (n .pageEntries) r else r)) else fill e
 
 -- the file named n given the bytes w
 unfoldable pub rewrite : Bytes → Bytes → Row → Row

@@ -78,9 +78,16 @@ arrivedOr d (arrived x) = x
 arrivedOr d (missing i) = d
 arrivedOr d (blocked i) = d
 
--- the page of a path's parent directory, and the position of the entry that the path leads to
+-- the first page of a path's parent directory, and the position of the entry that the path leads to
+abbrev pub parentIn : View → Path → ℕ
+parentIn v p = arrivedOr 0 (walkOn v (parents p) 0)
+
+abbrev pub positionIn : View → Path → ℕ
+positionIn v p = Option·getD (entryNamed v (parentIn v p) (lastName p)) 0
+
+-- in version 1
 abbrev pub parentPage : Bytes → Path → ℕ
-parentPage b p = arrivedOr 0 (walkOn (view b) (parents p) 0)
+parentPage b p = parentIn (view b) p
 
 abbrev pub entryPosition : Bytes → Path → ℕ
-entryPosition b p = Option·getD (entryNamed (view b) (parentPage b p) (lastName p)) 0
+entryPosition b p = positionIn (view b) p

@@ -15,8 +15,10 @@ use Rattle.model.specs.Image.{treeOf}
 use Rattle.model.specs.Judge.{judge}
 use Rattle.model.specs.Tree.{freeNumber}
 use Rattle.model.specs.Call.{verdict, Refusal, refusal, Answer, refused, granted}
-use Rattle.model.specs.Refusal.{Line, wanted, earlier, later, refusals, settle}
+use Rattle.model.specs.Refusal.{Line, refusals, settle}
 use Rattle.model.specs.Meaning.{firstFault, imageLines, isFormat, lines, told, answer}
+use Rattle.model.specs.MeaningOf
+use Rattle.model.specs.RefusalOf
 use Rattle.laws.proofs.Facts.{sound-facts}
 use Rattle.laws.proofs.Lines.{not-granted}
 use Rattle.audit.specs.Demand.{isGranted}
@@ -67,7 +69,7 @@ room n = go (ltb n 0) refl
 
 -- where the verdict refuses, a call that has the image's lines first gives the same refusal
 image-stops : {A : Type 0} (b : Bytes) (f : Refusal) (ls : List Line) (g : Refusal → A) (x : A) → answer verdict b ≡ refused f → settle (imageLines b ++ ls) g x ≡ g f
-unfolding answer lines isFormat refusals earlier later wanted settle
+unfolding MeaningOf.answer MeaningOf.lines isFormat RefusalOf.refusals RefusalOf.earlier RefusalOf.later RefusalOf.wanted settle
 image-stops b f ls g x e =
     same-stop (not (validLength (length b))) (not (validHeader b)) (not (sound b)) (refusal 1) (refusal 2) (firstFault (judge b)) f
     (refusals verdict (treeOf b)) ls (told verdict (treeOf b)) g x (rw (room (freeNumber (treeOf b)))) e

@@ -18,7 +18,7 @@ use Rattle.volume.proofs.Flat.{mem-flatMap, occ-flatMap-le}
 use Rattle.model.specs.Layout.{version1, pageCount, pagesFor, link}
 use Rattle.model.specs.Entry.{Entry, vacant, aFile, aDirectory, entryAt}
 use Rattle.model.specs.Version1.{view}
-use Rattle.model.specs.Sound.{pagesOf, pagesAt, reachedEntries, owners, sound}
+use Rattle.model.specs.Sound.{pagesOf, pagesAt, reachedEntries, owners, sound, ownersIn}
 use Rattle.model.specs.Demands.{Owned, isFree, isOwned}
 use Rattle.laws.proofs.Facts.{Facts, sound-facts, valid-sized}
 use Rattle.laws.proofs.Lists.{page-owned}
@@ -104,7 +104,7 @@ module _ (b : Bytes) (f : Facts b) where
 
   -- the owner of a page, if it has one, has it among its pages
   pub owner-has : (q x : ℕ) → owners b q ≡ x ∷ [] → Mem x (reachedEntries b) × Mem q (pagesAt (view b) x)
-  unfolding owners
+  unfolding ownersIn
   owner-has q x e =
       let r = keep-mem (λ at. member q (pagesAt (view b) at)) (reachedEntries b) x (subst (Mem x) (sym e) (mem-head x [])) in
       (r .0, member-occ q (pagesAt (view b) x) (r .1))

@@ -22,7 +22,7 @@ use Rattle.model.specs.Entry.{entries}
 use Rattle.model.specs.Version1.{view}
 use Rattle.model.specs.Sound.{goodDirectory, reached, owned, sound, reachedEntries, ownedPages}
 use Rattle.model.specs.Tree.{Row, Tree}
-use Rattle.model.specs.Image.{rowAt, treeOf}
+use Rattle.model.specs.Image.{rowAt, treeOf, treeIn}
 use Rattle.laws.proofs.Facts.{Sized, valid-sized, FactsTo, Facts, sound-facts, facts-sound}
 use Rattle.moves.specs.Tidy.{placeOf, pageAt, accepted, movedEntry, bitsOf, movedBits, moved}
 use Rattle.audit.proofs.Owners.{getD-countFrom, length-countFrom}
@@ -210,10 +210,10 @@ module _ (b : Bytes) (f : Facts b) (places : List ℕ) (a : Accepted b places) w
   entries-moved = ap (λ (n : ℕ). reached n (view b′) 0) (pages b f places a) ∙ ap (reached (pageCount b) (view b′)) (sym (ren .stays)) ∙ (root-moves b f places a) .reaches
 
   tidied : T (sound b′) × (treeOf b′ ≡ treeOf b)
-  unfolding treeOf
+  unfolding treeIn
   tidied = (
     facts-sound (subst (λ (n : ℕ). FactsTo n b′) (sym (pages b f places a)) facts),
-    ap₂ {C = Tree} (λ (n : ℕ) (r : Row). record { pages = n; root = r }) (pages b f places a)
+    ap₂ {C = Tree} (λ (n : ℕ) (r : Row). record { pages = n; code = 0; root = r }) (pages b f places a)
         (ap (λ (n : ℕ). rowAt n (view b′) 0) (pages b f places a) ∙ ap (rowAt (pageCount b) (view b′)) (sym (ren .stays)) ∙ (root-moves b f places a) .row),
   )
 

@@ -23,7 +23,9 @@ use Rattle.model.specs.Meaning.{faultTold}
 use Rattle.model.specs.Sound.{sound}
 use Rattle.model.specs.Effect.{isVacant, lowestVacant}
 use Rattle.model.specs.Call.{Refusal as Model, refusal, refusalAt, Answer, refused, granted}
-use Rattle.model.specs.Refusal.{isMissing, isBlocked, stoppedAt, isThere, walkLines, makeLines, settle}
+use Rattle.model.specs.Refusal.{isMissing, isBlocked, stoppedAt, isThere, walkLines, settle}
+use Rattle.model.specs.EffectOf
+use Rattle.model.specs.RefusalOf
 use Rattle.laws.proofs.Facts.{Facts, sound-facts}
 use Rattle.laws.proofs.Slots.{size, slot}
 use Rattle.laws.proofs.Walks.{nodeOf, lookup-named, mapWalked, walk-bytes}
@@ -112,7 +114,7 @@ linesOf r n w x = settle (walkLines w ++ ((r || isThere (lookup n (arrivedOr end
 
 module _ (b : Bytes) (f : Facts b) where
   directory-asked : (t : ℕ) (n : Name) → linesOf false (n .bytes) (arrived (rowAt (pageCount b) (view b) t)) (lowestVacant b t, n .bytes) ≡ openingNamed b t n
-  unfolding settle isMissing isBlocked arrivedOr rowAt lowestVacant isThere unlessNamed vacancyOr isNone
+  unfolding settle isMissing isBlocked arrivedOr rowAt EffectOf.lowestVacant isThere unlessNamed vacancyOr isNone
   directory-asked t n =
       let deep : pageCount b ≡ suc (pageCount b - 1) = omega (arith, size f .low) in
       subst (λ (k : ℕ). linesOf false (n .bytes) (arrived (rowAt k (view b) t)) (lowestVacant b t, n .bytes) ≡ openingNamed b t n) (sym deep)
@@ -148,7 +150,7 @@ asked b date p = settle (
 
 module _ (b path date : Bytes) where
   is-asked : asked b date (pathOf path) ≡ openingWalked b path date
-  unfolding openingWalked makeLines
+  unfolding openingWalked RefusalOf.makeLines
   is-asked = refl
 
   -- the code says r of whether it is a path

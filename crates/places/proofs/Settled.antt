@@ -14,6 +14,7 @@ use Rattle.model.specs.Walk.{Walked, arrived, missing, blocked, arrivedOr}
 use Rattle.model.specs.Call.{Call, Refusal, Answer, refused, granted}
 use Rattle.model.specs.Refusal.{Line, pathLine, walkLines, isMissing, isBlocked, stoppedAt, walked, node, bufferLines, refusals, settle, Passes}
 use Rattle.model.specs.Meaning.{isFormat, lines}
+use Rattle.model.specs.MeaningOf
 use Rattle.laws.proofs.Facts.{Facts, sound-facts}
 use Rattle.laws.proofs.Lines.{not-granted}
 use Rattle.laws.proofs.Passed.{image-passed}
@@ -82,7 +83,7 @@ module _ {A : Type 0} (b path : Bytes) (f : Refusal → A) where
   pub by-place : (c : Call) → JudgesFirst c → (x : A) (y : Spot → A)
       → (Facts b → settle (refusals c (treeOf b)) f x ≡ settle (pathLine path ∷ []) f (opened f y (walkedAnswer (located b (pathOf path)))))
       → settle (lines c b) f x ≡ opened f y (placed b path)
-  unfolding placed lines settle
+  unfolding placed MeaningOf.lines settle
   by-place c other x y h = go (sound b) refl ∙ sym (settle-opened f y (firstLines b path) (walkedAnswer (located b (pathOf path))))
     where
       z : A

@@ -13,8 +13,11 @@ use Rattle.model.specs.Path.{pathOf}
 use Rattle.model.specs.Image.{treeOf}
 use Rattle.model.specs.Effect.{withLock, relocked}
 use Rattle.model.specs.Call.{setLock, Refusal, refusal, refused, granted}
-use Rattle.model.specs.Refusal.{Line, pathLine, walkLines, walked, node, spaceLine, wanted, earlier, later, refusals, settle}
-use Rattle.model.specs.Meaning.{told, isFormat, effect, answer, after}
+use Rattle.model.specs.Refusal.{Line, pathLine, walkLines, walked, node, spaceLine, refusals, settle}
+use Rattle.model.specs.Meaning.{isFormat, answer, after}
+use Rattle.model.specs.EffectOf
+use Rattle.model.specs.MeaningOf
+use Rattle.model.specs.RefusalOf
 use Rattle.places.specs.Places.{theFile, placed, arrivalOf}
 use Rattle.places.specs.declared.Arrival.{Arrival}
 use Rattle.places.specs.declared.Arrival.the-variants.{At}
@@ -35,19 +38,19 @@ module _ (b path : Bytes) (k : Bool) where
   rest n = spaceLine (setLock k path) (treeOf b) ∷ []
 
   its-lines : refusals (setLock k path) (treeOf b) ≡ pathLine path ∷ (walkLines (walked path (treeOf b)) ++ fileCall rest (node path (treeOf b)))
-  unfolding refusals earlier later
+  unfolding RefusalOf.refusals RefusalOf.earlier RefusalOf.later
   its-lines = refl
 
   abbrev result : Node → Bytes
   result n = relocked (pathOf path) k b
 
   pub lock-refused : {m : Refusal} → refused m ≡ placed b path → Refuses m
-  unfolding answer after told effect isFormat
+  unfolding MeaningOf.answer MeaningOf.after MeaningOf.told MeaningOf.effect isFormat
   lock-refused e =
       (refused-does b path (setLock k path) refl rest its-lines refused (λ n. granted (tt {0})) e, refused-does b path (setLock k path) refl rest its-lines (λ m. b) result e)
 
   pub lock-directory : (a : Arrival) (p : Place) → a ≡ At p → (tagOf the-type p ≡ 0) ⊎ (tagOf the-type p ≡ 2) → arrivalOf a ≡ placed b path → Refuses (refusal 7)
-  unfolding answer after told effect isFormat
+  unfolding MeaningOf.answer MeaningOf.after MeaningOf.told MeaningOf.effect isFormat
   lock-directory a p here t e =
       (directory-does b path (setLock k path) refl rest its-lines refused (λ n. granted (tt {0})) here t e, directory-does b path (setLock k path) refl rest its-lines (λ m. b) result here t e)
 
@@ -71,7 +74,7 @@ module _ (b path : Bytes) (k : Bool) where
     there = placed-arrived b path (theFile entry begins start size) e
 
     pub lock-done : {b′ : Bytes} → b′ ≡ set b entry (withLock k (byteAt b entry)) → (granted (tt {0}) ≡ answer (setLock k path) b) × (b′ ≡ after (setLock k path) b)
-    unfolding answer after told effect isFormat settle wanted relocked
+    unfolding MeaningOf.answer MeaningOf.after MeaningOf.told MeaningOf.effect isFormat settle RefusalOf.wanted EffectOf.relocked
     lock-done set-there = (
       rw (leb·suc-zero (freeNumber (treeOf b))) at (file-does b path (setLock k path) refl rest its-lines refused (λ n. granted (tt {0})) e),
       set-there ∙ ap (λ (i : ℕ). set b i (withLock k (byteAt b i))) (sym (entry-position b (pathOf path) entry begins (there .at .0)))

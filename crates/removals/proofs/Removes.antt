@@ -20,8 +20,10 @@ use Rattle.model.specs.Image.{rowAt, treeOf}
 use Rattle.model.specs.Walk.{Walked, arrived, missing, blocked, walk, inWalked, walkTo, arrivedOr}
 use Rattle.model.specs.Effect.{removed}
 use Rattle.model.specs.Call.{removeFile, removeDirectory, Refusal, refusal, refusalAt, Answer, refused, granted}
-use Rattle.model.specs.Refusal.{walkLines, isMissing, isBlocked, stoppedAt, isDirectoryNode, isLockedNode, spaceLine, wanted, earlier, later, refusals, settle}
-use Rattle.model.specs.Meaning.{told, isFormat, lines, effect, answer, after}
+use Rattle.model.specs.Refusal.{walkLines, isMissing, isBlocked, stoppedAt, isDirectoryNode, isLockedNode, spaceLine, settle}
+use Rattle.model.specs.Meaning.{told, isFormat, lines, answer, after}
+use Rattle.model.specs.MeaningOf
+use Rattle.model.specs.RefusalOf
 use Rattle.laws.proofs.Facts.{Facts}
 use Rattle.laws.proofs.Slots.{size}
 use Rattle.laws.proofs.Walks.{mapWalked, walk-bytes}
@@ -61,7 +63,7 @@ module _ {A : Type 0} (b path : Bytes) (f : Refusal → A) (x : A) where
   fileLinesOf w = settle (walkLines w ++ ((isDirectoryNode (arrivedOr (directoryNode [] end) w), refusal 7) ∷ (isLockedNode (arrivedOr (directoryNode [] end) w), refusal 25) ∷ spaceLine (removeFile path) (treeOf b) ∷ [])) f x
 
   walk-file : (p : Path) → (p ≡ root → ⊥) → fileLinesOf (mapWalked (nodeAt b) (located b p)) ≡ opened f (removeFileAt b f x) (walkedAnswer (located b p))
-  unfolding settle isMissing isBlocked stoppedAt arrivedOr mapWalked walkedAnswer wanted isDirectoryNode isLockedNode
+  unfolding settle isMissing isBlocked stoppedAt arrivedOr mapWalked walkedAnswer RefusalOf.wanted isDirectoryNode isLockedNode
   walk-file p low = go (located b p) refl
     where
       go : (l : Walked Spot) → located b p ≡ l → fileLinesOf (mapWalked (nodeAt b) l) ≡ opened f (removeFileAt b f x) (walkedAnswer l)
@@ -76,7 +78,7 @@ module _ {A : Type 0} (b path : Bytes) (f : Refusal → A) (x : A) where
       go (blocked i) e = refl
 
   remove-file-placed : settle (lines (removeFile path) b) f x ≡ opened f (removeFileAt b f x) (placed b path)
-  unfolding isFormat refusals earlier later settle isNoPath isRoot located walkedAnswer
+  unfolding isFormat RefusalOf.refusals RefusalOf.earlier RefusalOf.later settle isNoPath isRoot located walkedAnswer
   remove-file-placed = by-place b path f (removeFile path) refl x (removeFileAt b f x) (λ facts. go facts (pathOf path))
     where
       go : Facts b → (p : Path) → (if isNoPath p then f (refusal 4) else if isRoot p then f (refusal 14) else fileLinesOf (walkTo p (treeOf b .root)))
@@ -89,7 +91,7 @@ module _ {A : Type 0} (b path : Bytes) (f : Refusal → A) (x : A) where
   directoryLinesOf w = settle (walkLines w ++ (spaceLine (removeDirectory path) (treeOf b) ∷ (ltb 0 (held (arrivedOr end w)), refusal 13) ∷ [])) f x
 
   walk-directory : (p : Path) → (p ≡ root → ⊥) → Facts b → directoryLinesOf (mapWalked (rowAt (pageCount b) (view b)) (inWalked (located b p) entered)) ≡ opened f (removeDirectoryAt b f x) (walkedAnswer (located b p))
-  unfolding settle isMissing isBlocked stoppedAt arrivedOr mapWalked inWalked entered walkedAnswer wanted
+  unfolding settle isMissing isBlocked stoppedAt arrivedOr mapWalked inWalked entered walkedAnswer RefusalOf.wanted
   walk-directory p low facts = go (located b p) refl
     where
       flip : (c : Bool) → (if not c then f (refusal 13) else x) ≡ (if c then x else f (refusal 13))
@@ -107,7 +109,7 @@ module _ {A : Type 0} (b path : Bytes) (f : Refusal → A) (x : A) where
       go (blocked i) e = refl
 
   remove-directory-placed : settle (lines (removeDirectory path) b) f x ≡ opened f (removeDirectoryAt b f x) (placed b path)
-  unfolding isFormat refusals earlier later settle isNoPath isRoot located walkedAnswer
+  unfolding isFormat RefusalOf.refusals RefusalOf.earlier RefusalOf.later settle isNoPath isRoot located walkedAnswer
   remove-directory-placed = by-place b path f (removeDirectory path) refl x (removeDirectoryAt b f x) (λ facts. go facts (pathOf path))
     where
       go : Facts b → (p : Path) → (if isNoPath p then f (refusal 4) else if isRoot p then f (refusal 14) else directoryLinesOf (walk (names p) (treeOf b .root)))
@@ -135,19 +137,19 @@ module _ (b path : Bytes) where
   at-directory-does f x e = ap (opened f (removeDirectoryAt b f x)) e ∙ sym (remove-directory-placed b path f x)
 
   pub file-refused : {m : Refusal} → refused m ≡ placed b path → FileRefuses m
-  unfolding answer after told effect
+  unfolding MeaningOf.answer MeaningOf.after MeaningOf.told MeaningOf.effect
   file-refused e = (at-file-does refused (granted (tt {0})) e, at-file-does (λ m. b) (removed (pathOf path) b) e)
 
   pub file-root : granted theRoot ≡ placed b path → FileRefuses (refusal 14)
-  unfolding answer after told effect
+  unfolding MeaningOf.answer MeaningOf.after MeaningOf.told MeaningOf.effect
   file-root e = (at-file-does refused (granted (tt {0})) e, at-file-does (λ m. b) (removed (pathOf path) b) e)
 
   pub directory-refused : {m : Refusal} → refused m ≡ placed b path → DirectoryRefuses m
-  unfolding answer after told effect
+  unfolding MeaningOf.answer MeaningOf.after MeaningOf.told MeaningOf.effect
   directory-refused e = (at-directory-does refused (granted (tt {0})) e, at-directory-does (λ m. b) (removed (pathOf path) b) e)
 
   pub directory-root : granted theRoot ≡ placed b path → DirectoryRefuses (refusal 14)
-  unfolding answer after told effect
+  unfolding MeaningOf.answer MeaningOf.after MeaningOf.told MeaningOf.effect
   directory-root e = (at-directory-does refused (granted (tt {0})) e, at-directory-does (λ m. b) (removed (pathOf path) b) e)
 
   module _ (a : Arrival) (p : Place) (t : Target) (here : a ≡ At p) (is : p ≡ place.File t) (arrives : arrivalOf a ≡ placed b path) where
@@ -167,7 +169,7 @@ module _ (b path : Bytes) where
     e = at-file here is arrives
 
     pub directory-is-file : DirectoryRefuses (refusalAt 6 begins)
-    unfolding answer after told effect
+    unfolding MeaningOf.answer MeaningOf.after MeaningOf.told MeaningOf.effect
     directory-is-file = (at-directory-does refused (granted (tt {0})) e, at-directory-does (λ m. b) (removed (pathOf path) b) e)
 
     file-there : Arrived b path (theFile at begins start k)
@@ -179,13 +181,13 @@ module _ (b path : Bytes) where
         (rw many (file-returned b (s .facts) (pathOf path) at begins (s .at .0) (s .at .1)), omega (arith, file-entry b path a p t here arrives is))
 
     pub file-locked : (r : Bool) → r ≡ isLocked b at → r ≡ true → FileRefuses (refusal 25)
-    unfolding answer after told effect
+    unfolding MeaningOf.answer MeaningOf.after MeaningOf.told MeaningOf.effect
     file-locked r asked marked = let l = sym asked ∙ marked in (rw l at (at-file-does refused (granted (tt {0})) e), rw l at (at-file-does (λ m. b) (removed (pathOf path) b) e))
 
     pub file-done : (r : Bool) → r ≡ isLocked b at → r ≡ false → (n : ℕ) → n ≡ pagesFor k
         → {b′ : Bytes} → b′ ≡ set (foldl (On.released version1) b (chain (link b) n start)) at 0
         → (granted (tt {0}) ≡ answer (removeFile path) b) × (b′ ≡ after (removeFile path) b)
-    unfolding answer after told effect
+    unfolding MeaningOf.answer MeaningOf.after MeaningOf.told MeaningOf.effect
     file-done r asked unmarked n many gone =
         let l = sym asked ∙ unmarked in
         let s = file-there in (
@@ -210,7 +212,7 @@ module _ (b path : Bytes) where
     e₂ = at-directory here is arrives
 
     pub file-is-directory : FileRefuses (refusal 7)
-    unfolding answer after told effect
+    unfolding MeaningOf.answer MeaningOf.after MeaningOf.told MeaningOf.effect
     file-is-directory = (at-file-does refused (granted (tt {0})) e₂, at-file-does (λ m. b) (removed (pathOf path) b) e₂)
 
     directory-there : Arrived b path (theDirectory at₂ begins₂ start₂ k₂)
@@ -225,12 +227,12 @@ module _ (b path : Bytes) where
         (directory-returned b (s .facts) (pathOf path) at₂ begins₂ (s .at .0) (s .at .1), omega (arith, directory-entry b path a p t here arrives is))
 
     pub directory-held : (r : Bool) → r ≡ all (vacancy b) (entries start₂) → not r ≡ true → DirectoryRefuses (refusal 13)
-    unfolding answer after told effect
+    unfolding MeaningOf.answer MeaningOf.after MeaningOf.told MeaningOf.effect
     directory-held r asked held-some = let h = untold asked held-some in (rw h at (at-directory-does refused (granted (tt {0})) e₂), rw h at (at-directory-does (λ m. b) (removed (pathOf path) b) e₂))
 
     pub directory-done : (r : Bool) → r ≡ all (vacancy b) (entries start₂) → not r ≡ false → {b′ : Bytes} → b′ ≡ set (foldl (On.released version1) b (chain (link b) 1 start₂)) at₂ 0
         → (granted (tt {0}) ≡ answer (removeDirectory path) b) × (b′ ≡ after (removeDirectory path) b)
-    unfolding answer after told effect
+    unfolding MeaningOf.answer MeaningOf.after MeaningOf.told MeaningOf.effect
     directory-done r asked empty gone =
         let h = is-told asked empty in
         let s = directory-there in (

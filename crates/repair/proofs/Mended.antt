@@ -19,7 +19,7 @@ use Rattle.model.specs.Layout.{version1, pageCount, validLength, validHeader, f
 use Rattle.model.specs.Version1.{view}
 use Rattle.model.specs.Sound.{ownedPages, sound}
 use Rattle.model.specs.Tree.{Row, Tree}
-use Rattle.model.specs.Image.{rowAt, treeOf}
+use Rattle.model.specs.Image.{rowAt, treeOf, treeIn}
 use Rattle.laws.proofs.Facts.{FactsTo, Facts, valid-sized, facts-sound, once}
 use Rattle.laws.proofs.Frame.{SamePage, SameDirectory, directory-frame}
 use Rattle.laws.proofs.Judged.{Walkable}
@@ -113,8 +113,8 @@ module _ (b c : Bytes) (v : T (validLength (length b))) (m : Mended b c) where
   pages = ap (λ (l : ℕ). l / 256) (m .long)
 
   pub mended-tree : Walkable b → treeOf c ≡ treeOf b
-  unfolding treeOf
-  mended-tree w = ap₂ {C = Tree} (λ (n : ℕ) (r : Row). record { pages = n; root = r }) pages (ap (λ (n : ℕ). rowAt n (view c) 0) pages ∙ mended-directory w .row)
+  unfolding treeIn
+  mended-tree w = ap₂ {C = Tree} (λ (n : ℕ) (r : Row). record { pages = n; code = 0; root = r }) pages (ap (λ (n : ℕ). rowAt n (view c) 0) pages ∙ mended-directory w .row)
 
   pub mended-sound : Walkable b → T (validHeader b) → T (sound c)
   mended-sound w head =

@@ -14,8 +14,9 @@ use Rattle.volume.specs.Lists.{any, member, first, countFrom}
 use Rattle.volume.proofs.Occ.{mem-cons}
 use Rattle.volume.proofs.Tests.{not-not-of, member-occ}
 use Rattle.model.specs.Layout.{pageCount, validLength, validHeader, freeCount, pageBit, zeroBits}
+use Rattle.model.specs.Version1.{view}
 use Rattle.model.specs.Sound.{sound}
-use Rattle.model.specs.Judge.{Fault, badEntry, badChain, ownedTwice, markedFree, lostPage, badCount, Judged, fault, clean, thenJudge, lostOr, judgeRest, judge, isClean, judgeWalk}
+use Rattle.model.specs.Judge.{Fault, badEntry, badChain, ownedTwice, markedFree, lostPage, badCount, Judged, fault, clean, thenJudge, lostOr, judgeRest, judge, isClean, judgeWalk, judgeView}
 use Rattle.model.specs.Image.{treeOf}
 use Rattle.model.specs.Call.{verdict, Refusal, refusal, Answer, refused, granted}
 use Rattle.model.specs.Refusal.{settle}
@@ -23,6 +24,7 @@ use Rattle.model.specs.Meaning.{faultTold, firstFault, isFormat, lines, answer}
 use Rattle.laws.proofs.Facts.{sound-facts}
 use Rattle.laws.proofs.Judged.{Walkable, walk-clean, walkable-clean, judge-sound}
 use Rattle.model.specs.Demands.{soundly}
+use Rattle.model.specs.MeaningOf
 use Rattle.laws.proofs.Headline.{demand-3}
 use Rattle.laws.proofs.Lines.{passed, settle-skip, settle-holds, not-granted}
 use Rattle.repair.specs.Repair.{repaired, repairLines, repairAnswer, repairAfter}
@@ -36,21 +38,21 @@ of-not c e = subst (λ (x : Bool). T (not x)) (sym e) tt
 -- ---- what the verdict tells of a walk that ends in a fault
 
 judge-fault : (b : Bytes) (f : Fault) → judgeWalk b ≡ fault f → judge b ≡ fault f
-unfolding judge thenJudge
-judge-fault b f e = ap (λ (j : Judged). thenJudge j (judgeRest b)) e
+unfolding judgeView thenJudge
+judge-fault b f e = ap (λ (j : Judged). thenJudge j (judgeRest (view b))) e
 
 verdict-length : (b : Bytes) → T (not (validLength (length b))) → answer verdict b ≡ refused (refusal 1)
-unfolding answer lines
+unfolding MeaningOf.answer MeaningOf.lines
 verdict-length b h = settle-holds refused (not (validLength (length b))) (refusal 1) _ _ h
 
 verdict-header : (b : Bytes) → T (validLength (length b)) → T (not (validHeader b)) → answer verdict b ≡ refused (refusal 2)
-unfolding answer lines isFormat
+unfolding MeaningOf.answer MeaningOf.lines isFormat
 verdict-header b v h =
     settle-skip refused (not (validLength (length b))) (refusal 1) _ _ (not-not-of (validLength (length b)) v)
     ∙ settle-holds refused (not (validHeader b)) (refusal 2) _ _ h
 
 verdict-fault : (b : Bytes) (f : Fault) → T (validLength (length b)) → T (validHeader b) → judge b ≡ fault f → answer verdict b ≡ refused (faultTold f)
-unfolding answer lines isFormat isClean
+unfolding MeaningOf.answer MeaningOf.lines isFormat isClean
 verdict-fault b f v h e =
     settle-skip refused (not (validLength (length b))) (refusal 1) _ _ (not-not-of (validLength (length b)) v)
     ∙ settle-skip refused (not (validHeader b)) (refusal 2) _ _ (not-not-of (validHeader b) h)
@@ -175,7 +177,7 @@ grants b (byNumber f e k) = go (course b)
         absurd (not-both (f .number) (subst (λ (x : Refusal). T (member (x .number) unmendable)) same n) k)
 
 -- after a clean walk come 19 and 3 alone
-rest-number : (b : Bytes) (m : List ℕ) (f : Fault) → judgeRest b m ≡ fault f → T (member (faultTold f .number) (19 ∷ 3 ∷ []))
+rest-number : (b : Bytes) (m : List ℕ) (f : Fault) → judgeRest (view b) m ≡ fault f → T (member (faultTold f .number) (19 ∷ 3 ∷ []))
 unfolding judgeRest lostOr isClean any
 rest-number b m f e = go (first (λ p. eqb (getD m p 0) 0 && eqb (pageBit b p) 1) (countFrom 1 (pageCount b - 1))) e
   where
@@ -189,14 +191,14 @@ rest-number b m f e = go (first (λ p. eqb (getD m p 0) 0 && eqb (pageBit b p) 1
     go (some p) q = let same : lostPage p ≡ f = cc q in subst (λ (x : Fault). T (member (faultTold x .number) (19 ∷ 3 ∷ []))) same tt
 
 refuses-alike : (b : Bytes) (f : Refusal) → answer verdict b ≡ refused f → T (member (f .number) unmendable) → repairAnswer b ≡ refused f
-unfolding repairAnswer judge thenJudge isClean any
+unfolding repairAnswer judgeView thenJudge isClean any
 refuses-alike b f e k = go (course b)
   where
     -- an image whose walk is clean is sound, or has the number 19 or 3
     clean-number : T (validLength (length b)) → T (validHeader b) → Walkable b → T (member (f .number) (19 ∷ 3 ∷ []))
     clean-number v h w = walked (judgeWalk b) refl (walkable-clean b w)
       where
-        rest : (m : List ℕ) → judge b ≡ judgeRest b m → (j : Judged) → judgeRest b m ≡ j → T (member (f .number) (19 ∷ 3 ∷ []))
+        rest : (m : List ℕ) → judge b ≡ judgeRest (view b) m → (j : Judged) → judgeRest (view b) m ≡ j → T (member (f .number) (19 ∷ 3 ∷ []))
         rest m q (clean n) r =
             let isSound = subst (λ (c : Bool). T c) (judge-sound b v h) (subst (λ (j : Judged). T (isClean j)) (sym (q ∙ r)) tt) in
             absurd (not-granted (sym (demand-3 b (treeOf b) (soundly isSound refl) [] tt b refl .account .told) ∙ e))
@@ -206,7 +208,7 @@ refuses-alike b f e k = go (course b)
 
         walked : (j : Judged) → judgeWalk b ≡ j → T (isClean j) → T (member (f .number) (19 ∷ 3 ∷ []))
         walked (fault g) q c = absurd c
-        walked (clean m) q c = rest m (ap (λ (j : Judged). thenJudge j (judgeRest b)) q) (judgeRest b m) refl
+        walked (clean m) q c = rest m (ap (λ (j : Judged). thenJudge j (judgeRest (view b))) q) (judgeRest (view b) m) refl
 
     go : Course b → _≡_ {A = Answer (Unit {0})} (settle (repairLines b) refused (granted tt)) (refused f)
     go (stopped r s kept told n) = s ∙ (let same : r ≡ f = let q = sym told ∙ e in cc in ap {B = Answer (Unit {0})} (λ x. refused x) same)

@@ -24,8 +24,10 @@ use Rattle.model.specs.Walk.{parentPage}
 use Rattle.model.specs.Effect.{lowestVacant}
 use Rattle.model.specs.Store.{Store, storeAt, storeCount}
 use Rattle.model.specs.Call.{store, Refusal, refusal, Answer, refused, granted}
-use Rattle.model.specs.Refusal.{Line, makeLines, wanted, earlier, later, refusals, settle, Passes}
+use Rattle.model.specs.Refusal.{Line, makeLines, settle, Passes}
 use Rattle.model.specs.Meaning.{imageLines, isFormat, lines, answer, bufferAfter}
+use Rattle.model.specs.MeaningOf
+use Rattle.model.specs.RefusalOf
 use Rattle.laws.proofs.Facts.{Facts, sound-facts}
 use Rattle.laws.proofs.Counting.{free-number, free-sum, fill-up}
 use Rattle.laws.proofs.Slots.{size}
@@ -147,7 +149,7 @@ module _ (b path date v : Bytes) (j : ℕ) (buffer : Bytes) where
   Refuses m = (refused m ≡ answer (store path date v j buffer) b) × (buffer ≡ bufferAfter (store path date v j buffer) b)
 
   pub not-a-page : length buffer ≢ 256 → Refuses (refusal 29)
-  unfolding answer bufferAfter lines
+  unfolding MeaningOf.answer MeaningOf.bufferAfter MeaningOf.lines
   not-a-page ne =
       let h : T (not (eqb (length buffer) 256)) = rw (ne-eqb (length buffer) 256 ne) tt in
       (sym (settle-holds refused (not (eqb (length buffer) 256)) (refusal 29) _ _ h), sym (settle-holds (λ m. buffer) (not (eqb (length buffer) 256)) (refusal 29) _ _ h))
@@ -170,7 +172,7 @@ module _ (b path date v : Bytes) (j : ℕ) (buffer : Bytes) where
 
     -- 29 does not hold
     below-buffer : {A : Type 0} (f : Refusal → A) (x : A) → settle (lines (store path date v j buffer) b) f x ≡ settle (first ++ (space ∷ past ∷ [])) f x
-    unfolding lines isFormat refusals earlier later wanted settle
+    unfolding MeaningOf.lines isFormat RefusalOf.refusals RefusalOf.earlier RefusalOf.later RefusalOf.wanted settle
     below-buffer f x = rw (eq-eqb (length buffer) 256 paged)
 
     store-placed : {A : Type 0} (f : Refusal → A) (x : A)
@@ -185,12 +187,12 @@ module _ (b path date v : Bytes) (j : ℕ) (buffer : Bytes) where
     at-place f x e = ap (opened f (λ (p : Place). settle (space ∷ past ∷ []) f x)) e ∙ sym (store-placed f x)
 
     pub store-refused : {m : Refusal} → refused m ≡ opening b path date → Refuses m
-    unfolding answer bufferAfter
+    unfolding MeaningOf.answer MeaningOf.bufferAfter
     store-refused e = (at-place refused _ e, at-place (λ m. buffer) _ e)
 
     module _ {at : ℕ} {name : Bytes} (e : granted (at, name) ≡ opening b path date) where
       pub store-lacking : freeCount b < pagesFor (length v) → Refuses (refusal 10)
-      unfolding settle answer bufferAfter
+      unfolding settle MeaningOf.answer MeaningOf.bufferAfter
       store-lacking l =
           let t : ltb (freeNumber (treeOf b)) (pagesFor (length v)) ≡ true = rw (free-number (facts b path date e)) (lt-ltb (freeCount b) (pagesFor (length v)) l) in
           (rw t at (at-place refused granted-here e), rw t at (at-place (λ m. buffer) bytes-here e))
@@ -210,7 +212,7 @@ module _ (b path date v : Bytes) (j : ℕ) (buffer : Bytes) where
           many = counted ∙ ap (λ (m : ℕ). m + (if ltb at 256 then 1 else 2)) ek
 
           pub store-past : count ≤ j → Refuses (refusal 12)
-          unfolding settle answer bufferAfter
+          unfolding settle MeaningOf.answer MeaningOf.bufferAfter
           store-past h =
               let t : leb (storeCount (pathOf path) v) j ≡ true = le-leb (storeCount (pathOf path) v) j (omega (arith, h, many, (count-is b path date e v l))) in
               (rw (roomy, t) at (at-place refused granted-here e), rw (roomy, t) at (at-place (λ m. buffer) bytes-here e))
@@ -222,7 +224,7 @@ module _ (b path date v : Bytes) (j : ℕ) (buffer : Bytes) where
             -- past all lines: store j is s
             done : (s : Store) → storeAt j (pathOf path) date v b ≡ s
                 → (granted (s .page) ≡ answer (store path date v j buffer) b) × (s .bytes ≡ bufferAfter (store path date v j buffer) b)
-            unfolding settle answer bufferAfter
+            unfolding settle MeaningOf.answer MeaningOf.bufferAfter
             done s is = (
               ap {B = Answer ℕ} (λ (x : Store). granted (x .page)) (sym is) ∙ (rw (roomy, open-line) at (at-place refused granted-here e)),
               ap (λ (x : Store). x .bytes) (sym is) ∙ (rw (roomy, open-line) at (at-place (λ m. buffer) bytes-here e)),

@@ -24,7 +24,7 @@ use Rattle.model.specs.Image.{treeOf}
 use Rattle.model.specs.Walk.{arrivedOr, walkOn, Walked, parentPage}
 use Rattle.model.specs.Effect.{lowestVacant, fileMade}
 use Rattle.model.specs.Call.{makeFile, write, store, Refusal, refusal, refused, granted}
-use Rattle.model.specs.Refusal.{Line, makeLines, earlier, later, wanted, refusals, settle, Passes}
+use Rattle.model.specs.Refusal.{Line, makeLines, refusals, settle, Passes}
 use Rattle.model.specs.Meaning.{imageLines, isFormat, effect, lines, answer, after}
 use Rattle.laws.proofs.Facts.{Facts, sound-facts}
 use Rattle.laws.proofs.Lines.{passed, passes-left, passes-right, settle-open}
@@ -36,6 +36,8 @@ use Rattle.laws.proofs.Focus.{Leads, named-found, leads-sub}
 use Rattle.laws.proofs.Walks.{Parent, parent}
 use Rattle.laws.proofs.Make.{Clear}
 use Rattle.model.specs.Store.{stored, storeOf, lastPages, storePages, stores, isNone, storeCount}
+use Rattle.model.specs.MeaningOf
+use Rattle.model.specs.RefusalOf
 use Rattle.store_laws.specs.Pull.{pulled}
 use Rattle.store_laws.proofs.Made.{first-pages}
 use Rattle.store_laws.proofs.Granted.{write-open}
@@ -69,7 +71,7 @@ pub record Opens (path date v : Bytes) (k : ℕ) (buffer b : Bytes) : Type 0 whe
   pub number : k < storeCount (pathOf path) v
 
 pub store-opens : (path date v : Bytes) (k : ℕ) (buffer b : Bytes) → Passes (lines (store path date v k buffer) b) → Opens path date v k buffer b
-unfolding lines isFormat refusals earlier later wanted
+unfolding MeaningOf.lines isFormat RefusalOf.refusals RefusalOf.earlier RefusalOf.later RefusalOf.wanted
 store-opens path date v k buffer b e =
     let t = treeOf b in
     let space : Line = (ltb (freeNumber (treeOf b)) (pagesFor (length v)), refusal 10) in
@@ -117,7 +119,7 @@ opens-first path date v buffer b lent h making enough = record {
 -- the image after a make whose lines pass
 pub after-made : (b path date : Bytes) → T (sound b) → Passes (makeLines path date (treeOf b) ++ ((ltb (freeNumber (treeOf b)) (pagesFor 0), refusal 10) ∷ []))
     → after (makeFile path date) b ≡ fileMade (pathOf path) date b
-unfolding after effect refusals earlier later wanted
+unfolding MeaningOf.after MeaningOf.effect RefusalOf.refusals RefusalOf.earlier RefusalOf.later RefusalOf.wanted
 after-made b path date h p =
     settled b h (λ f. b) (fileMade (pathOf path) date b) (makeFile path date)
     ∙ settle-open (makeLines path date (treeOf b) ++ ((ltb (freeNumber (treeOf b)) (pagesFor 0), refusal 10) ∷ [])) (λ f. b) (fileMade (pathOf path) date b) p
@@ -126,12 +128,12 @@ after-made b path date h p =
 
 module _ (path date v : Bytes) (k : ℕ) (buffer b : Bytes) (o : Opens path date v k buffer b) where
   make-open : Passes (refusals (makeFile path date) (treeOf b))
-  unfolding refusals earlier later wanted
+  unfolding RefusalOf.refusals RefusalOf.earlier RefusalOf.later RefusalOf.wanted
   make-open = passes-join (makeLines path date (treeOf b)) ((ltb (freeNumber (treeOf b)) (pagesFor 0), refusal 10) ∷ []) (o .making)
       (one-passes (ltb (freeNumber (treeOf b)) (pagesFor 0)) (refusal 10) (le-ltb (freeNumber (treeOf b)) (pagesFor 0) (omega (arith, o .space, first-pages (length v)))))
 
   made-after : after (makeFile path date) b ≡ fileMade (pathOf path) date b
-  unfolding after effect
+  unfolding MeaningOf.after MeaningOf.effect
   made-after = settled b (o .isSound) (λ f. b) (fileMade (pathOf path) date b) (makeFile path date) ∙ settle-open (refusals (makeFile path date) (treeOf b)) (λ f. b) (fileMade (pathOf path) date b) make-open
 
   made-sound : T (sound (fileMade (pathOf path) date b))
@@ -139,7 +141,7 @@ module _ (path date v : Bytes) (k : ℕ) (buffer b : Bytes) (o : Opens path date
 
   -- the image after all stores is that of make followed by write
   pub stored-after : after (write path 0 v) (after (makeFile path date) b) ≡ stored (pathOf path) date v b
-  unfolding after effect stored
+  unfolding MeaningOf.after MeaningOf.effect stored
   stored-after =
       let b₁ : Bytes = fileMade (pathOf path) date b in
       let open′ : Passes (refusals (write path 0 v) (treeOf b₁)) =
@@ -150,7 +152,7 @@ module _ (path date v : Bytes) (k : ℕ) (buffer b : Bytes) (o : Opens path date
       ∙ settle-open (refusals (write path 0 v) (treeOf b₁)) (λ f. b₁) (effect (write path 0 v) b₁) open′
 
   pub write-granted : answer (write path 0 v) (after (makeFile path date) b) ≡ granted tt
-  unfolding answer
+  unfolding MeaningOf.answer
   write-granted =
       let b₁ : Bytes = fileMade (pathOf path) date b in
       let open′ : Passes (refusals (write path 0 v) (treeOf b₁)) =

@@ -22,7 +22,6 @@ use Rattle.model.specs.Layout.{version1, pageCount, pagesFor, pageBit, zeroBits
 use Rattle.model.specs.Entry.{sizeAt, entryAt, newEntry}
 use Rattle.model.specs.Tree.{end}
 use Rattle.model.specs.Path.{Name}
-use Rattle.model.specs.Effect.{written}
 use Rattle.model.proofs.Version1.{home}
 use Rattle.laws.proofs.Facts.{Facts, once}
 use Rattle.laws.proofs.Walks.{Parent, Target}

@@ -18,8 +18,10 @@ use Rattle.model.specs.Image.{treeOf}
 use Rattle.model.specs.Walk.{parentPage}
 use Rattle.model.specs.Store.{stored, Store, storeOf, lastPages, storePages, stores, storeAt, storeCount}
 use Rattle.model.specs.Call.{makeFile, write, store, Refusal, refusal, Answer, refused, granted}
-use Rattle.model.specs.Refusal.{Line, makeLines, earlier, later, wanted, refusals, settle, Passes}
-use Rattle.model.specs.Meaning.{imageLines, isFormat, lines, answer, after, bufferAfter, told, toldOn}
+use Rattle.model.specs.Refusal.{Line, makeLines, settle, Passes}
+use Rattle.model.specs.Meaning.{imageLines, isFormat, lines, answer, toldOn}
+use Rattle.model.specs.MeaningOf
+use Rattle.model.specs.RefusalOf
 use Rattle.laws.proofs.Facts.{Facts, sound-facts}
 use Rattle.laws.proofs.Lines.{settle-append, settle-open, granted-passed, not-granted}
 use Rattle.laws.proofs.Steps.{settled}
@@ -52,7 +54,7 @@ module _ (path date v buffer b : Bytes) (k : ℕ) (o : Opens path date v k buffe
 
   -- every store of the file passes
   each-open : {A : Type 0} (g : Refusal → A) (x : A) (j : ℕ) → j < storeCount (pathOf path) v → settle (lines (store path date v j buffer) b) g x ≡ x
-  unfolding refusals earlier later wanted settle
+  unfolding RefusalOf.refusals RefusalOf.earlier RefusalOf.later RefusalOf.wanted settle
   each-open g x j l =
       let past : leb (storeCount (pathOf path) v) j ≡ false = lt-leb (storeCount (pathOf path) v) j l in
       let room : ltb (freeNumber (treeOf b)) (pagesFor (length v)) ≡ false = le-ltb (freeNumber (treeOf b)) (pagesFor (length v)) (o .space) in
@@ -63,7 +65,7 @@ module _ (path date v buffer b : Bytes) (k : ℕ) (o : Opens path date v k buffe
       ∙ rw (room, past)))
 
   granted-all : Granted path date v buffer b
-  unfolding answer bufferAfter
+  unfolding MeaningOf.answer MeaningOf.bufferAfter
   granted-all = record {
     ordered = in-order;
     many = as-many;
@@ -85,7 +87,7 @@ module _ (path date v : Bytes) (k : ℕ) (buffer b : Bytes) (g : Refusal) (lent 
       go (granted x) u = elim (store-past path date v k buffer b g lent u e) [ inl w ↦ inl (asWrite u w) | inr w ↦ inr w ]
 
 pub store-demand : StoreDemand
-unfolding answer
+unfolding MeaningOf.answer
 store-demand = record {
   grants = λ path date v k buffer b p e.
       granted-all path date v buffer b k (store-opens path date v k buffer b (granted-passed (lines (store path date v k buffer) b) (toldOn (store path date v k buffer) b) p e));

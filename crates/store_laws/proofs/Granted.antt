@@ -14,11 +14,12 @@ use Rattle.model.specs.Entry.{startAt, Entry, aFile, entryAt}
 use Rattle.model.specs.Version1.{view}
 use Rattle.model.specs.Tree.{end, freeNumber, Node, fileNode, directoryNode}
 use Rattle.model.specs.Path.{Name, Path, below, pathOf, isNoPath}
-use Rattle.model.specs.Image.{contentOf, rowAt, treeOf}
+use Rattle.model.specs.Image.{contentOf, rowAt, treeOf, treeIn}
 use Rattle.model.specs.Walk.{Walked, arrived, walkTo, arrivedOr}
 use Rattle.model.specs.Effect.{fileMade}
 use Rattle.model.specs.Call.{write, refusal, Answer, refused, granted}
-use Rattle.model.specs.Refusal.{Line, isMissing, isBlocked, isDirectoryNode, isLockedNode, contentIn, walkLines, wanted, earlier, later, refusals, settle, Passes}
+use Rattle.model.specs.Refusal.{Line, isMissing, isBlocked, isDirectoryNode, isLockedNode, contentIn, walkLines, refusals, settle, Passes}
+use Rattle.model.specs.RefusalOf
 use Rattle.laws.proofs.Facts.{Facts}
 use Rattle.laws.proofs.Walks.{nodeOf, Parent, Target}
 use Rattle.laws.proofs.Counting.{free-number}
@@ -74,14 +75,14 @@ module _ (b : Bytes) (f : Facts b) (ns : List Name) (n : Name) (date v : Bytes) 
       few = let x : max 0 (0 + length v) ≡ length v = omega arith in omega (arith, ap pagesFor x, h)
 
   empty-node : walkTo (below ns n) (treeOf b₁ .root) ≡ arrived (fileNode false date [])
-  unfolding treeOf nodeOf contentOf
+  unfolding treeIn nodeOf contentOf
   empty-node = tg .node ∙ ap (λ (x : Entry). arrived (nodeOf (view b₁) (rowAt (above₁ .0 .e) (view b₁)) x)) is₁
 
   enough : pagesFor (length v) ≤ freeNumber (treeOf b₁) + pagesFor 0
   enough = omega (arith, free-number f₁, f₁ .counted, zeros₁, c .space)
 
   pub write-open : (path : Bytes) → pathOf path ≡ below ns n → Passes (refusals (write path 0 v) (treeOf (fileMade (below ns n) date b)))
-  unfolding refusals earlier later wanted
+  unfolding RefusalOf.refusals RefusalOf.earlier RefusalOf.later RefusalOf.wanted
   write-open path is =
       subst (λ (x : Bytes). Passes (writeLines (pathOf path) (walkTo (pathOf path) (treeOf x .root)) (freeNumber (treeOf x)))) (sym made-is)
       (subst (λ (p : Path). Passes (writeLines p (walkTo p (treeOf b₁ .root)) (freeNumber (treeOf b₁)))) (sym is)
@@ -107,7 +108,7 @@ module _ (b : Bytes) (f : Facts b) (ns : List Name) (n : Name) (date v : Bytes) 
 
   pub write-full : (path u : Bytes) → pathOf path ≡ below ns n → freeNumber (treeOf b) < pagesFor (length u)
       → _≡_ {A = Answer (Unit {0})} (settle (refusals (write path 0 u) (treeOf (fileMade (below ns n) date b))) refused (granted tt)) (refused (refusal 10))
-  unfolding refusals earlier later wanted
+  unfolding RefusalOf.refusals RefusalOf.earlier RefusalOf.later RefusalOf.wanted
   write-full path u is h =
       subst (λ (x : Bytes). Says (linesOf u (pathOf path) (walkTo (pathOf path) (treeOf x .root)) (freeNumber (treeOf x)))) (sym made-is)
       (subst (λ (p : Path). Says (linesOf u p (walkTo p (treeOf b₁ .root)) (freeNumber (treeOf b₁)))) (sym is)

@@ -19,7 +19,6 @@ use Rattle.volume.proofs.Longer.{chain-grown}
 use Rattle.model.specs.Layout.{version1, pageCount, pagesFor, pageBit, zeroBits}
 use Rattle.model.specs.Entry.{sizeAt, entryAt, newEntry}
 use Rattle.model.specs.Path.{Name}
-use Rattle.model.specs.Effect.{written}
 use Rattle.model.specs.Call.{write}
 use Rattle.model.proofs.Version1.{home}
 use Rattle.laws.proofs.Facts.{Facts}

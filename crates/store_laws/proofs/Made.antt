@@ -24,8 +24,9 @@ use Rattle.model.specs.Version1.{view}
 use Rattle.model.specs.Sound.{pagesOf, pagesAt, isNamed, owned, ownedPages, sound}
 use Rattle.model.specs.Path.{Name, below}
 use Rattle.model.specs.Walk.{entryNamed}
-use Rattle.model.specs.Effect.{isVacant, lowestVacant, fileMade, written}
+use Rattle.model.specs.Effect.{isVacant, lowestVacant, fileMade}
 use Rattle.model.specs.Call.{write}
+use Rattle.model.specs.EffectOf
 use Rattle.model.proofs.Version1.{home}
 use Rattle.laws.proofs.Facts.{Facts, sound-facts, once}
 use Rattle.laws.proofs.Entries.{entry-within, within-page, entries-apart, entry-same}
@@ -77,7 +78,7 @@ module _ (b : Bytes) (f : Facts b) (ns : List Name) (n : Name) (date v : Bytes) 
   b₁ = madeAt 0x80 0 (pagesFor 0) (n .bytes) date (w .at) b
 
   pub vacancy : lowestVacant b (w .above .t) ≡ w .at
-  unfolding lowestVacant
+  unfolding EffectOf.lowestVacant
   vacancy = ap (λ (o : Option ℕ). Option·getD o 0) (w .found)
 
   pub made-is : fileMade (below ns n) date b ≡ b₁

@@ -13,7 +13,7 @@ use Rattle.model.specs.Layout.{pageCount, validLength, validHeader, pageBit}
 use Rattle.model.specs.Version1.{view}
 use Rattle.model.specs.Sound.{goodDirectory, owned, ownedPages, sound}
 use Rattle.model.specs.Tree.{Row, Tree}
-use Rattle.model.specs.Image.{rowAt, treeOf}
+use Rattle.model.specs.Image.{rowAt, treeOf, treeIn}
 use Rattle.laws.proofs.Facts.{Facts, once, valid-sized}
 use Rattle.laws.proofs.Frame.{SamePage, SameDirectory, directory-frame}
 use Rattle.laws.proofs.Judged.{Walkable}
@@ -50,8 +50,8 @@ module _ (b c : Bytes) (f : Facts b) (qs : List ℕ) (free : Free b qs) (p : Pul
       }
 
   pub pulled-tree : treeOf c ≡ treeOf b
-  unfolding treeOf
-  pulled-tree = ap₂ {C = Tree} (λ (n : ℕ) (r : Row). record { pages = n; root = r }) pages (ap (λ (n : ℕ). rowAt n (view c) 0) pages ∙ same .row)
+  unfolding treeIn
+  pulled-tree = ap₂ {C = Tree} (λ (n : ℕ) (r : Row). record { pages = n; code = 0; root = r }) pages (ap (λ (n : ℕ). rowAt n (view c) 0) pages ∙ same .row)
 
   pub pulled-fits : T (validLength (length c))
   pulled-fits = subst (λ (l : ℕ). T (validLength l)) (sym (p .long)) (f .fits)

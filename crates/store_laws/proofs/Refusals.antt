@@ -17,13 +17,15 @@ use Rattle.model.specs.Path.{Path, pathOf}
 use Rattle.model.specs.Image.{treeOf}
 use Rattle.model.specs.Effect.{fileMade}
 use Rattle.model.specs.Call.{makeFile, write, store, Refusal, refusal, Answer, refused, granted}
-use Rattle.model.specs.Refusal.{Line, makeLines, earlier, later, wanted, refusals, settle, Passes}
-use Rattle.model.specs.Meaning.{imageLines, isFormat, lines, told, answer, after}
+use Rattle.model.specs.Refusal.{Line, makeLines, refusals, settle, Passes}
+use Rattle.model.specs.Meaning.{imageLines, isFormat, lines, answer, after}
 use Rattle.laws.proofs.Facts.{Facts, sound-facts}
 use Rattle.laws.proofs.Lines.{passes-left, settle-open, settle-skip, settle-holds, settle-append, not-granted}
 use Rattle.laws.proofs.Passed.{image-passed, Makes, make-passed}
 use Rattle.laws.proofs.Steps.{settled, as-tree}
 use Rattle.model.specs.Store.{storeCount, storeAt}
+use Rattle.model.specs.MeaningOf
+use Rattle.model.specs.RefusalOf
 use Rattle.store_laws.proofs.Made.{first-pages}
 use Rattle.store_laws.proofs.Granted.{write-full}
 use Rattle.store_laws.proofs.Calls.{Opens, opens-first, after-made, write-granted}
@@ -80,11 +82,11 @@ module _ (path date v : Bytes) (k : ℕ) (buffer b : Bytes) (r : Refusal) (lent 
   page = storeAt k (pathOf path) date v b .page
 
   buffer-fits : answer (store path date v k buffer) b ≡ settle (above ++ own) refused (granted page)
-  unfolding answer lines isFormat refusals earlier later wanted settle
+  unfolding MeaningOf.answer MeaningOf.lines isFormat RefusalOf.refusals RefusalOf.earlier RefusalOf.later RefusalOf.wanted settle
   buffer-fits = rw (eq-eqb (length buffer) 256 lent)
 
   pub store-like-make : answer (makeFile path date) b ≡ refused r → answer (store path date v k buffer) b ≡ refused r
-  unfolding answer lines isFormat refusals earlier later wanted told
+  unfolding MeaningOf.answer MeaningOf.lines isFormat RefusalOf.refusals RefusalOf.earlier RefusalOf.later RefusalOf.wanted MeaningOf.told
   store-like-make e =
       let ms : List Line = (ltb (freeNumber (treeOf b)) (pagesFor 0), refusal 10) ∷ [] in
       buffer-fits
@@ -106,7 +108,7 @@ module _ (path date v : Bytes) (k : ℕ) (buffer b : Bytes) (r : Refusal) (lent 
     few = (ltb (freeNumber (treeOf b)) (pagesFor 0), refusal 10) ∷ []
 
     making : Passes (above ++ few)
-    unfolding answer lines isFormat refusals earlier later wanted told
+    unfolding MeaningOf.answer MeaningOf.lines isFormat RefusalOf.refusals RefusalOf.earlier RefusalOf.later RefusalOf.wanted MeaningOf.told
     making = granted-passes (lines (makeFile path date) b) e
 
     clear : T (sound b) × Passes (makeLines path date (treeOf b) ++ few)
@@ -123,7 +125,7 @@ module _ (path date v : Bytes) (k : ℕ) (buffer b : Bytes) (r : Refusal) (lent 
 
     -- no page for the content: both say 10
     write-lacks : T (ltb (freeNumber (treeOf b)) (pagesFor (length v))) → answer (write path 0 v) (after (makeFile path date) b) ≡ refused (refusal 10)
-    unfolding answer told
+    unfolding MeaningOf.answer MeaningOf.told
     write-lacks h =
         ap (λ (x : Bytes). settle (lines (write path 0 v) x) refused (granted tt)) made-after
         ∙ settled (fileMade (pathOf path) date b) (subst (λ (x : Bytes). T (sound x)) made-after (as-tree (makeFile path date) b (clear .0) .isSound)) refused (granted tt) (write path 0 v)

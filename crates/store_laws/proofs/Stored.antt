@@ -23,7 +23,7 @@ use Rattle.model.specs.Sound.{pagesOf, pagesAt}
 use Rattle.model.specs.Tree.{end}
 use Rattle.model.specs.Path.{Name, below}
 use Rattle.model.specs.Walk.{Walked, arrivedOr, parentPage, entryPosition}
-use Rattle.model.specs.Effect.{lowestVacant, fileMade, rewritten, written}
+use Rattle.model.specs.Effect.{lowestVacant, fileMade, rewritten}
 use Rattle.model.specs.Call.{write}
 use Rattle.model.proofs.Version1.{home}
 use Rattle.laws.proofs.Facts.{Facts}
@@ -32,6 +32,7 @@ use Rattle.laws.proofs.Slots.{size, head-kept, rest-kept, Slot}
 use Rattle.laws.proofs.Make.{Place, Clear, made-there}
 use Rattle.laws.proofs.Write.{isFileEntry, is′, pages′, rewritten-is}
 use Rattle.model.specs.Store.{stored}
+use Rattle.model.specs.EffectOf
 use Rattle.store_laws.proofs.Stores.{Free, Renewed}
 use Rattle.store_laws.specs.Claim.{claimed}
 use Rattle.store_laws.proofs.Claims.{Alike, claimed-beside, claimed-tops}
@@ -251,7 +252,7 @@ module _ (b : Bytes) (f : Facts b) (ns : List Name) (n : Name) (date v : Bytes) 
   chainOf x = pagesAt (view x) (lowestVacant b (parentPage b (below ns n)))
 
   pub stored-on : StoredOn b (stored (below ns n) date v b) (n .bytes) date v (parentPage b (below ns n)) (lowestVacant b (parentPage b (below ns n))) (pagesFor (length v)) (chainOf (stored (below ns n) date v b))
-  unfolding stored written
+  unfolding stored EffectOf.written
   stored-on =
       subst (λ (x : Bytes). Says (if eqb (length v) 0 then x else rewritten (entryPosition x (below ns n)) 0 v x)) (sym made-is)
       (go (eqb (length v) 0) (eqb→eq (length v) 0))

@@ -11,6 +11,8 @@ use Rattle.model.specs.Call.{format, verdict, makeFile, write, store, refused, 
 use Rattle.model.specs.Refusal.{ownNumbers}
 use Rattle.model.specs.Meaning.{answer, numbers}
 use Rattle.model.specs.Text.{text}
+use Rattle.model.specs.MeaningOf
+use Rattle.model.specs.RefusalOf
 use Rattle.model.proofs.Run.{computing, Step, Case, _gives_, refusal, refusalAt, done, shown, answered, Hold, computed, stated, hold}
 use Rattle.model.proofs.Desk.{day1, day2, content, header, stored as entry, fresh, full}
 use Rattle.repair.specs.Remark.{remarked, recounted}
@@ -91,7 +93,7 @@ calls =
     ∷ []
 
 pub calls-hold : Hold calls
-unfolding computing computed stated calls base full stored lastPages storePages stores storeAt isNone storeCount ownNumbers numbers
+unfolding computing computed stated calls base full stored lastPages storePages stores storeAt isNone storeCount RefusalOf.ownNumbers MeaningOf.numbers
 calls-hold = hold calls refl
 
 -- ---- pulled after so many stores of 256 bytes for /D/x, and repaired

@@ -13,6 +13,8 @@ use Rattle.model.specs.Image.{treeOf}
 use Rattle.model.specs.Meaning.{told as tells, numbers}
 use Rattle.model.specs.Store.{isNone, storeCount}
 use Rattle.model.specs.Text.{text}
+use Rattle.model.specs.MeaningOf
+use Rattle.model.specs.RefusalOf
 use Rattle.model.proofs.Run.{computing, Step, Case, _gives_, reads, numbered, refusal, refusalAt, done, sized, answered, shown, Hold, computed, stated, hold}
 use Rattle.tables.proofs.Table.{blank}
 use Rattle.model.proofs.Desk.{full, day1, day2, day3, content, found, entry, whole, header, fresh, one, desk, shelf, far, long}
@@ -41,7 +43,7 @@ ordered =
     ∷ []
 
 pub ordered-hold : Hold ordered
-unfolding computing computed stated ordered tableOrder ownNumbers numbers
+unfolding computing computed stated ordered RefusalOf.tableOrder RefusalOf.ownNumbers MeaningOf.numbers
 ordered-hold = hold ordered refl
 
 -- ---- lengths, and what every call judges first

@@ -10,16 +10,18 @@ use Rattle.model.specs.Tree.{Row, end, free, file, dir, Tree, fill, rewrite, va
 use Rattle.model.specs.Image.{treeOf}
 use Rattle.model.specs.Walk.{changeAt}
 use Rattle.model.specs.Call.{format, verdict, find, makeFile, makeDirectory, write, removeFile, removeDirectory}
-use Rattle.model.specs.Meaning.{inParent, changed, treeAnswer, treeBuffer, treeAfter}
+use Rattle.model.specs.Meaning.{inParent}
 use Rattle.model.specs.Demands.{replay, replayResults}
 use Rattle.model.specs.Text.{text}
 use Rattle.model.specs.Listing.{digits, line, rowLines, treeLines, listingOf, listing}
+use Rattle.model.specs.DemandsOf
+use Rattle.model.specs.MeaningOf
 use Rattle.model.proofs.Run.{computing, Step, calls, given, Case, _gives_, reads, refusal, refusalAt, done, sized, shown, Hold, computed, stated, hold}
 use Rattle.tables.proofs.Table.{blank, newFile, newDirectory}
 use Rattle.model.proofs.Desk.{day1, day2, day3, content, fresh, desk, full}
 
 unfoldable pub replaying : Unit {0}
-unfolding fill rewrite vacate inside changeAt inParent changed treeAnswer treeBuffer treeAfter replay replayResults
+unfolding fill rewrite vacate inside changeAt inParent MeaningOf.changed MeaningOf.treeAnswer MeaningOf.treeBuffer MeaningOf.treeAfter DemandsOf.replay DemandsOf.replayResults
 replaying = tt
 
 unfoldable pub printing : Unit {0}
@@ -31,6 +33,7 @@ printing = tt
 deskTree : Tree
 deskTree = record {
   pages = 8;
+  code = 0;
   root =
       file false (text "0042" ++ replicate 12 0) day1 (content 256)
       (dir (text "A" ++ replicate 15 0) day2
@@ -67,7 +70,7 @@ trees =
     ∷ shown fresh deskSteps treeOf deskTree
     ∷ shown fresh [] (λ b. replay (calls deskSteps) (treeOf b)) deskTree
     ∷ shown fresh [] (λ b. replayResults (calls deskSteps) (treeOf b)) (given deskSteps)
-    ∷ shown full [] (λ b. replay (format ∷ []) (treeOf b)) (record { pages = 8; root = free (free (free (free (free (free end))))) })
+    ∷ shown full [] (λ b. replay (format ∷ []) (treeOf b)) (record { pages = 8; code = 0; root = free (free (free (free (free (free end))))) })
     ∷ []
 
 pub trees-hold : Hold trees
@@ -83,7 +86,7 @@ files c (n ∷ ns) = file false (c ∷ replicate 15 0) day1 (replicate n 0) (fil
 
 -- the listing of a tree of so many pages with files of these sizes in the root
 filesListed : (pages : ℕ) → List ℕ → Bytes
-filesListed pages sizes = treeLines (record { pages = pages; root = files 0x41 sizes })
+filesListed pages sizes = treeLines (record { pages = pages; code = 0; root = files 0x41 sizes })
 
 pub listings : List Case
 listings =

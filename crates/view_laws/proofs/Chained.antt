@@ -1,5 +1,5 @@
 -- Directories that are chains of pages to the first link 0, over any lawful geometry, are a shelf: version 2's. `on q` are the positions of the
--- entries on page q, and `read` reads one.
+-- entries on page q, `read` reads one, and `placed` is the page that an entry of a directory stands on and its number there.
 use mathlib.Core.Path.{_≡_, refl, sym, ap, _∙_, subst}
 use mathlib.Core.Logic.{_≢_, _⊎_, inl, inr}
 use Prim.Native.Nat.{ℕ, zero, suc, _+_, _-_, _≤_, _<_}
@@ -18,6 +18,7 @@ use Rattle.volume.proofs.Chains.{chain-frame}
 use Rattle.volume.proofs.Fields.{place, wide, Off, load-same}
 use Rattle.volume.proofs.Lawful.{Sized, Kept, Lawful}
 use Rattle.model.specs.Entry.{Entry, vacant}
+use Rattle.model.specs.Numbers.{Numbers}
 use Rattle.view_laws.proofs.Facts.{Rooted}
 use Rattle.view_laws.proofs.Shelf.{Shelf, seen, SameBytes, Shelved}
 
@@ -97,7 +98,7 @@ nodup-flat f each own (q ∷ qs) u = λ x. elim (mem-or-not x (f q)) [
 
 -- ---- the shelf
 
-module _ (g : Geometry) (home : ℕ → ℕ) (N : ℕ) (pagesFor : ℕ → ℕ) (on : ℕ → List ℕ) (read : Bytes → ℕ → Entry) where
+module _ (g : Geometry) (home : ℕ → ℕ) (N : ℕ) (numbers : Numbers) (on : ℕ → List ℕ) (read : Bytes → ℕ → Entry) (placed : Bytes → (directory entry : ℕ) → ℕ × ℕ) where
   abbrev pub linkedPages : Bytes → ℕ → List ℕ
   linkedPages b p = chain (next g b) (linked (next g b) N p) p
 
@@ -106,11 +107,12 @@ module _ (g : Geometry) (home : ℕ → ℕ) (N : ℕ) (pagesFor : ℕ → ℕ) 
     geometry = g;
     home = home;
     pages = N;
-    pagesFor = pagesFor;
+    numbers = numbers;
     directoryPages = linkedPages;
     directoryEnds = λ b p. eqb (beyond (next g b) (linked (next g b) N p) p) 0;
     entries = λ b p. flatMap on (linkedPages b p);
     entryAt = read;
+    placeOf = placed;
   }
 
   -- a page that a directory or a file may have

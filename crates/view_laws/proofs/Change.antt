@@ -15,13 +15,13 @@ use Rattle.volume.specs.Geometry.{Geometry}
 use Rattle.volume.proofs.Occ.{occ, Mem, Nodup, hit-ne, under-of-mem, not-mem, mem-or-not, occ-append}
 use Rattle.volume.proofs.Marks.{zero-balance}
 use Rattle.model.specs.Entry.{Entry}
-use Rattle.model.specs.View.{View}
-use Rattle.model.specs.Sound.{goodEntry, sameName, inDirectory, goodDirectory, owned}
+use Rattle.model.specs.View.{View, pageBit, zeroBits, freeCount}
+use Rattle.model.specs.Sound.{goodEntry, sameName, inDirectory, goodDirectory, owned, allOwned}
 use Rattle.model.specs.Tree.{Row}
 use Rattle.model.specs.Path.{Name}
 use Rattle.model.specs.Walk.{changeAt}
 use Rattle.model.specs.Image.{entryRow, rowAt}
-use Rattle.view_laws.proofs.Facts.{pageBit, zeroBits, freeCount, allOwned, FactsTo, Facts, Rooted, root-all, root-once}
+use Rattle.view_laws.proofs.Facts.{FactsTo, Facts, Rooted, root-all, root-once}
 use Rattle.view_laws.proofs.Owns.{own, subtree, own-le, own-two}
 use Rattle.view_laws.proofs.Frame.{Follows, SameEntry, entry-frame}
 use Rattle.view_laws.proofs.Level.{level-row, level-owned, level-good}

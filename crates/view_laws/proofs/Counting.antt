@@ -17,13 +17,13 @@ use Rattle.volume.proofs.Chains.{chain-length}
 use Rattle.volume.proofs.Flat.{flatMap-length}
 use Rattle.volume.proofs.Marks.{bit-low}
 use Rattle.model.specs.Entry.{Entry, vacant, aFile, aDirectory}
-use Rattle.model.specs.View.{View, next}
-use Rattle.model.specs.Sound.{pagesOf, inDirectory, goodDirectory, owned}
-use Rattle.model.specs.Tree.{Row, end, free, file, dir, width}
+use Rattle.model.specs.View.{View, next, pageBit, zeroBits}
+use Rattle.model.specs.Sound.{pagesOf, inDirectory, goodDirectory, owned, allOwned}
+use Rattle.model.specs.Tree.{Row, width, directoryNeeds, needsOf}
 use Rattle.model.specs.Image.{contentOn, contentOf, entryRow, rowOf, rowAt}
 use Rattle.view_laws.proofs.Owns.{own, owned-entries, own-le}
 use Rattle.view_laws.proofs.Frame.{Headed, good-below, depth-count}
-use Rattle.view_laws.proofs.Facts.{pageBit, zeroBits, allOwned, FactsTo, Facts}
+use Rattle.view_laws.proofs.Facts.{FactsTo, Facts}
 
 -- ---- marked pages
 
@@ -63,13 +63,6 @@ depth-enough {d} {v} headed low high f =
 
 -- ---- the pages that a row needs
 
--- those of each directory below it, by its width, and those of each file, by its length
-unfoldable pub needsBy : (directory : (width : ℕ) → ℕ) (pages : (size : ℕ) → ℕ) → Row → ℕ
-needsBy directory pages end = 0
-needsBy directory pages (free r) = needsBy directory pages r
-needsBy directory pages (file l n d c r) = pages (length c) + needsBy directory pages r
-needsBy directory pages (dir n d s r) = directory (width s) + needsBy directory pages s + needsBy directory pages r
-
 width-row : (v : View) (g : ℕ → Row) (ats : List ℕ) → width (rowOf v g ats) ≡ length ats
 unfolding rowOf entryRow width
 width-row v g [] = refl
@@ -81,30 +74,30 @@ width-row v g (x ∷ xs) = go (v .entryAt x) (width-row v g xs)
     go (aDirectory name date start size) h = ap suc h
 
 -- the content of a file is as long as its size, if there is room for it on its pages and those lie in the image
-pub content-length : (v : View) (start size : ℕ) → size ≤ v .geometry .room * v .pagesFor size
-    → ((q : ℕ) → Mem q (chain (next v) (v .pagesFor size) start) → content (v .geometry) q + v .geometry .room ≤ length (v .bytes))
-    → length (contentOf v size (chain (next v) (v .pagesFor size) start)) ≡ size
+pub content-length : (v : View) (start size : ℕ) → size ≤ v .geometry .room * v .numbers .pagesFor size
+    → ((q : ℕ) → Mem q (chain (next v) (v .numbers .pagesFor size) start) → content (v .geometry) q + v .geometry .room ≤ length (v .bytes))
+    → length (contentOf v size (chain (next v) (v .numbers .pagesFor size) start)) ≡ size
 unfolding contentOf
 content-length v start size fits inside =
-    let ps : List ℕ = chain (next v) (v .pagesFor size) start in
+    let ps : List ℕ = chain (next v) (v .numbers .pagesFor size) start in
     let l = length-take size (flatMap (contentOn v) ps) in
-    let c : length (flatMap (contentOn v) ps) ≡ v .geometry .room * v .pagesFor size =
+    let c : length (flatMap (contentOn v) ps) ≡ v .geometry .room * v .numbers .pagesFor size =
     flatMap-length (contentOn v) (v .geometry .room) ps (λ q m. part-length (content (v .geometry) q) (v .geometry .room) (v .bytes) (inside q m))
-    ∙ ap (λ (n : ℕ). v .geometry .room * n) (chain-length (next v) (v .pagesFor size) start) in
+    ∙ ap (λ (n : ℕ). v .geometry .room * n) (chain-length (next v) (v .numbers .pagesFor size) start) in
     omega (arith, l, c, fits)
 
 -- What a version owes: a file's bytes have room on its pages, and a directory has as many pages as its entries need, where those pages are real and
 -- differ.
-module _ (v : View) (directory : ℕ → ℕ) (Real : ℕ → Type 0)
-    (fill-up : (s : ℕ) → s ≤ v .geometry .room * v .pagesFor s)
+module _ (v : View) (Real : ℕ → Type 0)
+    (fill-up : (s : ℕ) → s ≤ v .geometry .room * v .numbers .pagesFor s)
     (inside : (q : ℕ) → Real q → content (v .geometry) q + v .geometry .room ≤ length (v .bytes))
     (on-pages : (p : ℕ) → Nodup (v .directoryPages p) → ((q : ℕ) → Mem q (v .directoryPages p) → Real q)
-    → directory (length (v .entries p)) ≡ length (v .directoryPages p)) where
+    → directoryNeeds (v .numbers) (length (v .entries p)) ≡ length (v .directoryPages p)) where
   abbrev Own : List ℕ → Type 0
   Own ps = Nodup ps × ((q : ℕ) → Mem q ps → Real q)
 
   abbrev Counts : ℕ → Type 0
-  Counts d = (p : ℕ) → T (goodDirectory d v p) → Own (owned d v p) → length (owned d v p) ≡ needsBy directory (v .pagesFor) (rowAt d v p)
+  Counts d = (p : ℕ) → T (goodDirectory d v p) → Own (owned d v p) → length (owned d v p) ≡ needsOf (v .numbers) (rowAt d v p)
 
   directory-width : (d p : ℕ) → T (goodDirectory d v p) → width (rowAt d v p) ≡ length (v .entries p)
   unfolding goodDirectory rowAt
@@ -112,24 +105,24 @@ module _ (v : View) (directory : ℕ → ℕ) (Real : ℕ → Type 0)
   directory-width (suc d) p h = width-row v (rowAt d v) (v .entries p)
 
   entry-needs : (d : ℕ) → Counts d → (x : Entry) → T (inDirectory true (goodDirectory d v) x) → Own (own d v x) → (rest : Row)
-      → length (own d v x) + needsBy directory (v .pagesFor) rest ≡ needsBy directory (v .pagesFor) (entryRow v (rowAt d v) x rest)
-  unfolding own needsBy entryRow pagesOf
+      → length (own d v x) + needsOf (v .numbers) rest ≡ needsOf (v .numbers) (entryRow v (rowAt d v) x rest)
+  unfolding own needsOf entryRow pagesOf
   entry-needs d below vacant g h rest = omega arith
   entry-needs d below (aFile locked name date start size) g h rest =
-      let n = chain-length (next v) (v .pagesFor size) start in
-      let c : v .pagesFor (length (contentOf v size (chain (next v) (v .pagesFor size) start))) ≡ v .pagesFor size =
-      ap (v .pagesFor) (content-length v start size (fill-up size) (λ q m. inside q (h .1 q m))) in
+      let n = chain-length (next v) (v .numbers .pagesFor size) start in
+      let c : v .numbers .pagesFor (length (contentOf v size (chain (next v) (v .numbers .pagesFor size) start))) ≡ v .numbers .pagesFor size =
+      ap (v .numbers .pagesFor) (content-length v start size (fill-up size) (λ q m. inside q (h .1 q m))) in
       omega (arith, n, c)
   entry-needs d below (aDirectory name date start size) g h rest =
       let two : (q : ℕ) → occ q (v .directoryPages start ++ owned d v start) ≡ occ q (v .directoryPages start) + occ q (owned d v start) =
       λ q. occ-append q (v .directoryPages start) (owned d v start) in
-      let w : directory (width (rowAt d v start)) ≡ length (v .directoryPages start) =
-      ap directory (directory-width d start g) ∙ on-pages start (λ q. omega (arith, two q, h .0 q)) (λ q m. h .1 q (omega (arith, m, two q))) in
+      let w : directoryNeeds (v .numbers) (width (rowAt d v start)) ≡ length (v .directoryPages start) =
+      ap (directoryNeeds (v .numbers)) (directory-width d start g) ∙ on-pages start (λ q. omega (arith, two q, h .0 q)) (λ q m. h .1 q (omega (arith, m, two q))) in
       omega (arith, length-append (v .directoryPages start) (owned d v start), w, below start g (λ q. omega (arith, two q, h .0 q), λ q m. h .1 q (omega (arith, m, two q))))
 
   row-needs : (d : ℕ) → Counts d → (ats : List ℕ) → ((x : ℕ) → Mem x ats → T (inDirectory true (goodDirectory d v) (v .entryAt x)) × Own (own d v (v .entryAt x)))
-      → length (flatMap (λ x. own d v (v .entryAt x)) ats) ≡ needsBy directory (v .pagesFor) (rowOf v (rowAt d v) ats)
-  unfolding flatMap rowOf needsBy
+      → length (flatMap (λ x. own d v (v .entryAt x)) ats) ≡ needsOf (v .numbers) (rowOf v (rowAt d v) ats)
+  unfolding flatMap rowOf needsOf
   row-needs d below [] h = refl
   row-needs d below (x ∷ xs) h =
       length-append (own d v (v .entryAt x)) (flatMap (λ y. own d v (v .entryAt y)) xs)

@@ -14,6 +14,7 @@ use Rattle.volume.specs.Geometry.{Geometry, next}
 use Rattle.volume.proofs.Occ.{occ, Mem, Nodup, Under, not-mem, hit-cases, hit-ne, sum-occ, sum-one, under-of-mem, under-cons}
 use Rattle.volume.proofs.Chains.{chain-length}
 use Rattle.model.specs.Entry.{Entry}
+use Rattle.model.specs.Numbers.{Numbers}
 use Rattle.model.specs.View.{View}
 use Rattle.view_laws.proofs.Shelf.{seen}
 use Rattle.view_laws.proofs.Chained.{linked, linkedPages, chained}
@@ -51,12 +52,12 @@ tail-of : (ps : List ℕ) → Nodup ps → Nodup (tail ps) × (length ps ≤ suc
 tail-of [] u = (u, omega arith)
 tail-of (p ∷ ps) u = (λ q. omega (arith, u q), omega arith)
 
-pub chains-end : (g : Geometry) (home : ℕ → ℕ) (N : ℕ) (pagesFor : ℕ → ℕ) (on : ℕ → List ℕ) (read : Bytes → ℕ → Entry) → 2 ≤ g .aside → g .aside ≤ N
-    → (b : Bytes) → Ending (seen (chained g home N pagesFor on read) b)
-chains-end g home N pagesFor on read two le b p once h = elim (linked-ends (next g b) N p) [
+pub chains-end : (g : Geometry) (home : ℕ → ℕ) (N : ℕ) (numbers : Numbers) (on : ℕ → List ℕ) (read : Bytes → ℕ → Entry) (placed : Bytes → (directory entry : ℕ) → ℕ × ℕ) → 2 ≤ g .aside → g .aside ≤ N
+    → (b : Bytes) → Ending (seen (chained g home N numbers on read placed) b)
+chains-end g home N numbers on read placed two le b p once h = elim (linked-ends (next g b) N p) [
   | inl z ↦ subst (λ (n : ℕ). T (eqb n 0)) (sym z) (eqb-refl 0)
   | inr full ↦
-      let ps : List ℕ = linkedPages g home N pagesFor on read b p in
+      let ps : List ℕ = linkedPages g home N numbers on read placed b p in
       let t = tail-of ps once in
       absurd (omega (arith, few N (g .aside) (tail ps) two le (t .0) h, t .1, chain-length (next g b) (linked (next g b) N p) p, full))
 ]

@@ -1,37 +1,22 @@
--- What a sound image is as facts, in any version: range, "none is owned twice" and "marked exactly if owned" come to one equation for each page,
--- it is owned as often as its bit says. A version shows these facts of its sound images, and that an image of which they hold is sound.
-use mathlib.Core.Path.{_≡_, ap}
+-- The tests of a sound image as facts, in any version: range, "none is owned twice" and "marked exactly if owned" come to one equation for each page,
+-- it is owned as often as its bit says. Length and header are the version's own.
+use mathlib.Core.Path.{_≡_, ap, _∙_}
 use mathlib.Core.Logic.{_≢_, inl, inr}
-use Prim.Native.Nat.{ℕ, _+_, _≤_, _<_}
+use Prim.Native.Nat.{ℕ, zero, suc, _+_, _-_, _≤_, _<_}
 use native.Mathlib.Omega.{arith}
-use mathlib.Core.Bool.{Bool, true, false, Bool·beq}
-use mathlib.Core.List.{List, _∷_, _++_, tail}
-use lib.Dec.{T, eqb, eqb→eq}
-use Rattle.volume.specs.Lists.{member}
-use Rattle.volume.specs.Geometry as On
+use native.Mathlib.Decide.{decLt}
+use mathlib.Core.Bool.{Bool, true, false, _&&_, Bool·beq}
+use mathlib.Core.List.{List, [], _∷_, tail}
+use lib.Dec.{T, eqb, leb, ltb, eqb→eq, leb→le, le→leb, ltb→lt, lt→ltb}
+use Rattle.volume.specs.Lists.{all, conditions, member, distinct, countFrom}
 use Rattle.volume.proofs.Occ.{hit, hit-cases, occ, Mem, Nodup, mem-or-not, not-mem, occ-append}
-use Rattle.volume.proofs.Tests.{member-occ, occ-member, eq-eqb}
+use Rattle.volume.proofs.Tests.{and-both, both-and, no-conditions, conditions-cons, cons-conditions, distinct-occ, occ-distinct, all-occ, occ-all, occ-countFrom, countFrom-occ, member-occ, occ-member, eq-eqb}
 use Rattle.volume.proofs.Marks.{bit-low}
-use Rattle.model.specs.View.{View}
-use Rattle.model.specs.Sound.{goodDirectory, owned}
+use Rattle.model.specs.View.{View, pageBit, zeroBits, freeCount}
+use Rattle.model.specs.Sound.{goodDirectory, owned, allOwned, inRange, markedBelow, soundFacts}
 use Rattle.view_laws.proofs.Owns.{subtree}
 
--- ---- count and bitmap of a view
-
-abbrev pub pageBit : View → ℕ → ℕ
-pageBit v p = On.pageBit (v .geometry) (v .bytes) p
-
-abbrev pub zeroBits : View → ℕ → ℕ
-zeroBits v n = On.zeroBits (v .geometry) (v .bytes) n
-
-abbrev pub freeCount : View → ℕ
-freeCount v = On.freeCount (v .geometry) (v .bytes)
-
 -- ---- the facts
-
--- the pages of the root after the header, and those of all files and directories; in version 1 the root has no other page
-abbrev pub allOwned : (depth : ℕ) → View → List ℕ
-allOwned depth v = tail (v .directoryPages 0) ++ owned depth v 0
 
 -- directories being read to a depth
 pub record FactsTo (depth : ℕ) (v : View) : Type 0 where
@@ -86,6 +71,60 @@ once {d} {v} f q = elim (mem-or-not q (allOwned d v)) [
   | inl m ↦ let r = f .inside q m in omega (arith, f .exact q (r .0) (r .1), bit-low (v .geometry) (v .bytes) q)
   | inr z ↦ omega arith
 ]
+
+-- ---- the tests as facts, and back
+
+-- the bits of the pages set aside, one by one
+pub marked-below : (v : View) (n : ℕ) → T (markedBelow v n) → (q : ℕ) → q < n → pageBit v q ≡ 1
+marked-below v zero h q l = absurd (omega arith)
+marked-below v (suc n) h q l =
+    let r = and-both (markedBelow v n) (eqb (pageBit v n) 1) h in
+    elim (decLt q n) [
+      | yes k ↦ marked-below v n (r .0) q k
+      | no k ↦ let e : q ≡ n = omega arith in ap (pageBit v) e ∙ eqb→eq (pageBit v n) 1 (r .1)
+    ]
+
+pub below-marked : (v : View) (n : ℕ) → ((q : ℕ) → q < n → pageBit v q ≡ 1) → T (markedBelow v n)
+below-marked v zero h = tt
+below-marked v (suc n) h = both-and (markedBelow v n) (eqb (pageBit v n) 1) (below-marked v n (λ q l. h q (omega arith))) (eq-eqb (h n (omega arith)))
+
+module _ {depth : ℕ} {v : View} where
+  pub to-facts : T (conditions (soundFacts depth v)) → FactsTo depth v
+  to-facts h =
+      let a : ℕ = v .geometry .aside in
+      let pages : List ℕ = allOwned depth v in
+      let t1 = conditions-cons (markedBelow v a) _ h in
+      let t2 = conditions-cons (eqb (freeCount v) (zeroBits v (v .pages))) _ (t1 .1) in
+      let t3 = conditions-cons (v .directoryEnds 0 && goodDirectory depth v 0) _ (t2 .1) in
+      let t4 = conditions-cons (all (inRange v) pages) _ (t3 .1) in
+      let t5 = conditions-cons (distinct pages) _ (t4 .1) in
+      let t6 = conditions-cons (all (agrees v pages) (countFrom a (v .pages - a))) [] (t5 .1) in
+      let root = and-both (v .directoryEnds 0) (goodDirectory depth v 0) (t3 .0) in
+      record {
+        aside = marked-below v a (t1 .0);
+        counted = eqb→eq (freeCount v) (zeroBits v (v .pages)) (t2 .0);
+        ended = root .0;
+        formed = root .1;
+        inside = λ q m.
+            let r = and-both (leb a q) (ltb q (v .pages)) (all-occ (inRange v) pages (t4 .0) q m) in
+            (leb→le a q (r .0), ltb→lt q (v .pages) (r .1));
+        exact = λ q l u. agrees-exact v pages q (distinct-occ pages (t5 .0))
+            (all-occ (agrees v pages) (countFrom a (v .pages - a)) (t6 .0) q (occ-countFrom a (v .pages - a) q l (omega arith)));
+      }
+
+  pub from-facts : FactsTo depth v → T (conditions (soundFacts depth v))
+  from-facts f =
+      let a : ℕ = v .geometry .aside in
+      let pages : List ℕ = allOwned depth v in
+      cons-conditions _ _ (below-marked v a (f .aside)) (cons-conditions _ _ (eq-eqb (f .counted))
+      (cons-conditions _ _ (both-and (v .directoryEnds 0) (goodDirectory depth v 0) (f .ended) (f .formed))
+      (cons-conditions _ _
+      (occ-all (inRange v) pages (λ q m. let r = f .inside q m in both-and (leb a q) (ltb q (v .pages)) (le→leb a q (r .0)) (lt→ltb q (v .pages) (r .1))))
+      (cons-conditions _ _ (occ-distinct pages (once f))
+      (cons-conditions _ []
+      (occ-all (agrees v pages) (countFrom a (v .pages - a)) (λ q m.
+      let r = countFrom-occ a (v .pages - a) q m in exact-agrees v pages q (f .exact q (r .0) (omega (arith, r .0, r .1)))))
+      no-conditions)))))
 
 -- ---- the root's pages, of which the header is the first
 

@@ -134,7 +134,7 @@ pub record ReadsAlike (v v′ : View) (p : ℕ) : Type 0 where
 -- What a version owes of two images: `Same q` says that page q is the same in both, and what is on such pages is read alike.
 pub record Follows (v v′ : View) (Same : ℕ → Type 0) : Type 0 where
   pub size : v′ .geometry .size ≡ v .geometry .size
-  pub counts : (size : ℕ) → v′ .pagesFor size ≡ v .pagesFor size
+  pub counts : (size : ℕ) → v′ .numbers .pagesFor size ≡ v .numbers .pagesFor size
   pub linked : (q : ℕ) → 1 ≤ q → Same q → next v′ q ≡ next v q
   pub content : (q : ℕ) → 1 ≤ q → Same q → contentOn v′ q ≡ contentOn v q
   pub directory : (p : ℕ) → ((q : ℕ) → Mem q (v .directoryPages p) → Same q) → ReadsAlike v v′ p
@@ -156,11 +156,11 @@ module _ {v v′ : View} {Same : ℕ → Type 0} (w : Follows v v′ Same) where
   unfolding goodEntry pagesOf
   unchanged-pages vacant h = record { pages = refl; content = content-same [] h; good = refl }
   unchanged-pages (aFile locked name date start size) h =
-      let k : v′ .pagesFor size ≡ v .pagesFor size = w .counts size in
-      let r = chain-same (v .pagesFor size) start h in
+      let k : v′ .numbers .pagesFor size ≡ v .numbers .pagesFor size = w .counts size in
+      let r = chain-same (v .numbers .pagesFor size) start h in
       record {
         pages = ap (λ (n : ℕ). chain (next v′) n start) k ∙ r .0;
-        content = content-same (chain (next v) (v .pagesFor size) start) h;
+        content = content-same (chain (next v) (v .numbers .pagesFor size) start) h;
         good = ap (λ (n : ℕ). legalName name && eqb (beyond (next v′) n start) 0) k ∙ ap (λ (n : ℕ). legalName name && eqb n 0) (r .1);
       }
   unchanged-pages (aDirectory name date start size) h =

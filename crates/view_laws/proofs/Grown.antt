@@ -11,25 +11,18 @@ use Rattle.volume.proofs.Occ.{occ, Mem, Nodup, mem-or-not, occ-append}
 use Rattle.volume.proofs.Flat.{flatMap-same, flatMap-append}
 use Rattle.model.specs.Entry.{Entry, vacant, aFile, aDirectory}
 use Rattle.model.specs.View.{View}
-use Rattle.model.specs.Sound.{goodEntry, isNamed, sameName, inDirectory, goodDirectory, owned}
-use Rattle.model.specs.Tree.{Row, end, free, file, dir, emptyRow}
+use Rattle.model.specs.Sound.{goodEntry, isNamed, sameName, inDirectory, goodDirectory, owned, allOwned}
+use Rattle.model.specs.Tree.{Row, extend}
 use Rattle.model.specs.Path.{Name}
 use Rattle.model.specs.Image.{entryRow, rowOf, rowAt}
 use Rattle.model.specs.Walk.{changeAt}
 use Rattle.view_laws.proofs.Owns.{own, subtree, owned-entries, own-le}
 use Rattle.view_laws.proofs.Frame.{Follows, SameEntry, entry-frame, rows-same, same-row, same-own, same-good, same-below}
-use Rattle.view_laws.proofs.Facts.{allOwned, Facts, root-once}
+use Rattle.view_laws.proofs.Facts.{Facts, root-once}
 use Rattle.view_laws.proofs.Level.{good-split, good-join}
 use Rattle.view_laws.proofs.Focus.{Regular, Leads, leads-sub, leads-owned}
 use Rattle.view_laws.proofs.Change.{Balance, Shaped, directory-changed}
 use Rattle.view_laws.proofs.Vacant.{row-of-vacant, own-of-vacant}
-
--- a row with n free entries more at its end
-unfoldable pub extend : ℕ → Row → Row
-extend n end = emptyRow n
-extend n (free r) = free (extend n r)
-extend n (file l m d c r) = file l m d c (extend n r)
-extend n (dir m d s r) = dir m d s (extend n r)
 
 -- the directory t by two views, with page `page` more at its end, on which the new entries are
 pub record Longer (v v′ : View) (t page : ℕ) (new : List ℕ) : Type 0 where

@@ -20,23 +20,25 @@ use Rattle.volume.proofs.Lawful.{Sized, Kept}
 use Rattle.volume.proofs.Pages.{off-link}
 use Rattle.volume.proofs.Grow.{Gained, gained-is, not-gained, Room, Grown, grown-is}
 use Rattle.model.specs.Entry.{Entry}
-use Rattle.model.specs.View.{View}
-use Rattle.model.specs.Sound.{goodDirectory, owned}
+use Rattle.model.specs.Numbers.{Numbers}
+use Rattle.model.specs.View.{View, pageBit}
+use Rattle.model.specs.Sound.{goodDirectory, owned, allOwned}
+use Rattle.model.specs.Tree.{extend}
 use Rattle.model.specs.Path.{Name}
 use Rattle.model.specs.Image.{rowAt}
 use Rattle.model.specs.Walk.{changeAt}
 use Rattle.view_laws.proofs.Owns.{subtree}
-use Rattle.view_laws.proofs.Facts.{pageBit, allOwned, Facts, root-once}
+use Rattle.view_laws.proofs.Facts.{Facts, root-once}
 use Rattle.view_laws.proofs.Focus.{Leads, leads-sub, leads-below}
 use Rattle.view_laws.proofs.Slots.{Real, known-page}
 use Rattle.view_laws.proofs.Shelf.{seen, SameBytes}
-use Rattle.view_laws.proofs.Grown.{extend, Longer, directory-grown}
+use Rattle.view_laws.proofs.Grown.{Longer, directory-grown}
 use Rattle.view_laws.proofs.Chained.{linked, linked-is, chained, Slotted, chained-shelved, mem-flat}
 
-module _ (g : Geometry) (home : ℕ → ℕ) (N : ℕ) (pagesFor : ℕ → ℕ) (on : ℕ → List ℕ) (read : Bytes → ℕ → Entry) (slots : Slotted g home N pagesFor on read)
+module _ (g : Geometry) (home : ℕ → ℕ) (N : ℕ) (numbers : Numbers) (on : ℕ → List ℕ) (read : Bytes → ℕ → Entry) (placed : Bytes → (directory entry : ℕ) → ℕ × ℕ) (slots : Slotted g home N numbers on read placed)
     (b : Bytes) (sized : Sized g N b) where
   abbrev v : View
-  v = seen (chained g home N pagesFor on read) b
+  v = seen (chained g home N numbers on read placed) b
 
   module _ (f : Facts v) (names : List Name) (e t j : ℕ) (leads : Leads v N 0 names (suc e) t) (is : linked (next g b) N t ≡ suc j)
       (ends : T (v .directoryEnds t)) (enough : 1 ≤ On.zeroBits g b N) where
@@ -53,20 +55,20 @@ module _ (g : Geometry) (home : ℕ → ℕ) (N : ℕ) (pagesFor : ℕ → ℕ) 
     b′ = grown g N 1 (g .link last) b
 
     abbrev v′ : View
-    v′ = seen (chained g home N pagesFor on read) b′
+    v′ = seen (chained g home N numbers on read placed) b′
 
     pages-are : v .directoryPages t ≡ ps
     pages-are = ap (λ (k : ℕ). chain (next g b) k t) is
 
     one : (q : ℕ) → occ q (subtree N v 0) ≤ 1
-    one = root-once f (slots .law .header) (chained-shelved g home N pagesFor on read slots .rooted b)
+    one = root-once f (slots .law .header) (chained-shelved g home N numbers on read placed slots .rooted b)
 
     sub : (q : ℕ) → occ q (v .directoryPages t) ≤ occ q (subtree N v 0)
     sub q = omega (arith, leads-sub v names N 0 (suc e) t q leads, occ-append q (v .directoryPages t) (owned (suc e) v t))
 
     -- a page of the root or owned is real, in the image and marked, and so is one of the directory
     known : (q : ℕ) → Mem q (subtree N v 0) → Real v q × (pageBit v q ≡ 1)
-    known = known-page f (slots .law .header) (slots .high) (chained-shelved g home N pagesFor on read slots .rooted b)
+    known = known-page f (slots .law .header) (slots .high) (chained-shelved g home N numbers on read placed slots .rooted b)
 
     of-directory : (q : ℕ) → Mem q ps → Real v q × (pageBit v q ≡ 1)
     of-directory q m = known q (omega (arith, m, sub q, ap (occ q) pages-are))
@@ -122,7 +124,7 @@ module _ (g : Geometry) (home : ℕ → ℕ) (N : ℕ) (pagesFor : ℕ → ℕ) 
     off-last : (q i : ℕ) → home i ≡ q → q ≢ last → Off (g .link last) i
     off-last q i h ne = off-link g home N (slots .law) last i (of-directory last last-mem .0 .1) (λ x. ne (sym h ∙ x))
 
-    outside : (q : ℕ) → Mem q (subtree N v 0) → occ q (v .directoryPages t) ≡ 0 → SameBytes (chained g home N pagesFor on read) b b′ q
+    outside : (q : ℕ) → Mem q (subtree N v 0) → occ q (v .directoryPages t) ≡ 0 → SameBytes (chained g home N numbers on read placed) b b′ q
     outside q m z =
         let k = known q m in
         let ne : q ≢ last = λ x. mem-apart last q ps last-mem (ap (occ q) (sym pages-are) ∙ z) (sym x) in
@@ -200,7 +202,7 @@ module _ (g : Geometry) (home : ℕ → ℕ) (N : ℕ) (pagesFor : ℕ → ℕ) 
       pages = grew;
       ends = subst (λ (k : ℕ). T (eqb k 0)) (sym (ap (λ (k : ℕ). beyond (next g b′) k t) linked′ ∙ longer .1)) (eqb-refl 0);
       positions = ap (flatMap on) grew ∙ flatMap-append on (v .directoryPages t) (page ∷ []);
-      once = chained-shelved g home N pagesFor on read slots .regular b′ .apart t (subst (λ (l : List ℕ). Nodup l) (sym pages′) both-once);
+      once = chained-shelved g home N numbers on read placed slots .regular b′ .apart t (subst (λ (l : List ℕ). Nodup l) (sym pages′) both-once);
       fields = λ x m.
           let o = mem-flat on (v .directoryPages t) x m in
           let k = of-directory (o .0) (subst (λ (l : List ℕ). Mem (o .0) l) pages-are (o .1)) in
@@ -226,7 +228,7 @@ module _ (g : Geometry) (home : ℕ → ℕ) (N : ℕ) (pagesFor : ℕ → ℕ) 
     pub lengthened-sound : T (goodDirectory (suc e) v t)
         → Facts v′ × (rowAt N v′ 0 ≡ changeAt names (extend (length (flatMap on (page ∷ [])))) (rowAt N v 0))
     lengthened-sound good =
-        let s = chained-shelved g home N pagesFor on read slots in
+        let s = chained-shelved g home N numbers on read placed slots in
         directory-grown (s .follows b b′ (w .size)) (s .regular b)
         (record { pages = refl; geometry = refl; low = slots .law .header; high = slots .high; rooted = s .rooted b; rooted′ = s .rooted b′ })
         f names e t page (flatMap on (page ∷ [])) leads longer-view outside good

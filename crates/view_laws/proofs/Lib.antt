@@ -3,6 +3,7 @@ pub mod Owns
 pub mod Frame
 -- What a sound image is as facts, and what a change in one entry leaves of them.
 pub mod Facts
+pub mod Owners
 pub mod Level
 pub mod Focus
 pub mod Change
@@ -20,3 +21,6 @@ pub mod Grown
 pub mod Chained
 pub mod Lengthened
 pub mod Ends
+-- The judge: a principle of its walk, and that it decides soundness.
+pub mod Comes
+pub mod Judged

@@ -13,15 +13,16 @@ use Rattle.volume.specs.Geometry.{Geometry}
 use Rattle.volume.proofs.Occ.{occ, Mem, mem-apart}
 use Rattle.volume.proofs.Lawful.{Sized, Kept, Lawful}
 use Rattle.model.specs.Entry.{Entry, vacant}
-use Rattle.model.specs.View.{View}
-use Rattle.model.specs.Sound.{goodDirectory}
+use Rattle.model.specs.Numbers.{Numbers}
+use Rattle.model.specs.View.{View, pageBit}
+use Rattle.model.specs.Sound.{goodDirectory, allOwned}
 use Rattle.model.specs.Tree.{Row}
 use Rattle.model.specs.Path.{Name}
 use Rattle.model.specs.Image.{rowAt}
 use Rattle.model.specs.Walk.{changeAt}
 use Rattle.view_laws.proofs.Owns.{own, subtree}
 use Rattle.view_laws.proofs.Frame.{Follows}
-use Rattle.view_laws.proofs.Facts.{pageBit, allOwned, Facts, Rooted}
+use Rattle.view_laws.proofs.Facts.{Facts, Rooted}
 use Rattle.view_laws.proofs.Focus.{Regular, Leads}
 use Rattle.view_laws.proofs.Change.{Balance, Works, SameBut, directory-untouched, changed}
 use Rattle.view_laws.proofs.Slots.{Real, known-page, directory-page}
@@ -31,11 +32,12 @@ pub record Shelf : Type 0 where
   pub geometry : Geometry
   pub home : ℕ → ℕ
   pub pages : ℕ
-  pub pagesFor : ℕ → ℕ
+  pub numbers : Numbers
   pub directoryPages : Bytes → ℕ → List ℕ
   pub directoryEnds : Bytes → ℕ → Bool
   pub entries : Bytes → ℕ → List ℕ
   pub entryAt : Bytes → ℕ → Entry
+  pub placeOf : Bytes → ℕ → ℕ → ℕ × ℕ
 
 -- an image of the shelf as a view
 abbrev pub seen : Shelf → Bytes → View
@@ -43,11 +45,12 @@ seen s b = record {
   bytes = b;
   geometry = s .geometry;
   pages = s .pages;
-  pagesFor = s .pagesFor;
+  numbers = s .numbers;
   directoryPages = s .directoryPages b;
   directoryEnds = s .directoryEnds b;
   entries = s .entries b;
   entryAt = s .entryAt b;
+  placeOf = s .placeOf b;
 }
 
 -- page q, with its link, has the same bytes in both

@@ -6,11 +6,11 @@ use native.Mathlib.Omega.{arith}
 use native.Mathlib.Decide.{ℕ-discrete}
 use mathlib.Core.List.{List, tail}
 use Rattle.volume.proofs.Occ.{occ, Mem, Nodup, hit-ne, occ-append}
-use Rattle.model.specs.View.{View}
-use Rattle.model.specs.Sound.{owned}
+use Rattle.model.specs.View.{View, pageBit}
+use Rattle.model.specs.Sound.{owned, allOwned}
 use Rattle.model.specs.Path.{Name}
 use Rattle.view_laws.proofs.Owns.{own, subtree, own-le}
-use Rattle.view_laws.proofs.Facts.{pageBit, allOwned, Facts, once, Rooted, root-all, root-once}
+use Rattle.view_laws.proofs.Facts.{Facts, once, Rooted, root-all, root-once}
 use Rattle.view_laws.proofs.Focus.{Leads, leads-sub, leads-owned}
 
 -- a page that a directory or a file may have

@@ -97,20 +97,20 @@ module _ (v v′ : View) (e t at : ℕ) (good : T (goodDirectory (suc e) v t)) (
 module _ (v v′ : View) (e t at : ℕ) (good : T (goodDirectory (suc e) v t)) (n : Bytes) (found : entryNamed v t n ≡ some at)
     {locked : Bool} {name date : Bytes} {start size : ℕ} (is : v .entryAt at ≡ aFile locked name date start size) where
   -- a good file's name is legal and its last page has link 0
-  pub file-good : T (legalName name) × (beyond (next v) (v .pagesFor size) start ≡ 0)
+  pub file-good : T (legalName name) × (beyond (next v) (v .numbers .pagesFor size) start ≡ 0)
   unfolding goodEntry
   file-good =
-      let r = and-both (legalName name) (eqb (beyond (next v) (v .pagesFor size) start) 0)
+      let r = and-both (legalName name) (eqb (beyond (next v) (v .numbers .pagesFor size) start) 0)
       (subst (λ (x : Entry). T (goodEntry v x)) is (good-split e v t good .each at (named-found v t n at found .0))) in
-      (r .0, eqb→eq (beyond (next v) (v .pagesFor size) start) 0 (r .1))
+      (r .0, eqb→eq (beyond (next v) (v .numbers .pagesFor size) start) 0 (r .1))
 
   -- other content: the pages afterwards hold the bytes w
-  pub rewrite-works : {start′ size′ : ℕ} → v′ .entryAt at ≡ aFile locked name date start′ size′ → beyond (next v′) (v′ .pagesFor size′) start′ ≡ 0
-      → {w : Bytes} → contentOf v′ size′ (chain (next v′) (v′ .pagesFor size′) start′) ≡ w → Works v v′ e t at (rewrite n w) (isNamed n)
+  pub rewrite-works : {start′ size′ : ℕ} → v′ .entryAt at ≡ aFile locked name date start′ size′ → beyond (next v′) (v′ .numbers .pagesFor size′) start′ ≡ 0
+      → {w : Bytes} → contentOf v′ size′ (chain (next v′) (v′ .numbers .pagesFor size′) start′) ≡ w → Works v v′ e t at (rewrite n w) (isNamed n)
   unfolding goodEntry entryRow pagesOf
   rewrite-works {start′} {size′} is′ ends {w} c =
       file-works v v′ e t at good n found locked locked name date start start′ size size′ is is′ (rewrite n w)
-      (both-and (legalName name) (eqb (beyond (next v′) (v′ .pagesFor size′) start′) 0) (file-good .0) (eq-eqb ends))
+      (both-and (legalName name) (eqb (beyond (next v′) (v′ .numbers .pagesFor size′) start′) 0) (file-good .0) (eq-eqb ends))
       (rewrite-skip v (rowAt e v) n w)
       (λ h rest. rewrite-work v (rowAt e v) n w locked name date start size h rest ∙ ap {B = Row} (λ x. file locked name date x rest) (sym c))
 
@@ -135,7 +135,7 @@ module _ {s : Shelf} (w : Shelved s) {b : Bytes} (sized : Sized (s .geometry) (s
     (is : s .entryAt b at ≡ aFile locked name date (load field b) size) where
   -- its pages
   abbrev pub ps : List ℕ
-  ps = chain (On.next (s .geometry) b) (s .pagesFor size) (load field b)
+  ps = chain (On.next (s .geometry) b) (s .numbers .pagesFor size) (load field b)
 
   pub entry : Mem at (s .entries b t)
   entry = named-found (seen s b) t n at found .0
@@ -147,7 +147,7 @@ module _ {s : Shelf} (w : Shelved s) {b : Bytes} (sized : Sized (s .geometry) (s
   file-owned : Owned (seen s b) ps
   file-owned = subst (Owned (seen s b)) mine (entry-owned f names e t at leads entry)
 
-  file-ends : beyond (On.next (s .geometry) b) (s .pagesFor size) (load field b) ≡ 0
+  file-ends : beyond (On.next (s .geometry) b) (s .numbers .pagesFor size) (load field b) ≡ 0
   file-ends = file-good (seen s b) (seen s b) e t at good n found is .1
 
   -- the directory's pages are none of the file's
@@ -189,13 +189,13 @@ module _ {s : Shelf} (w : Shelved s) {b : Bytes} (sized : Sized (s .geometry) (s
   -- Other content: u goes to place `from` of it, and the size is put at `sp` as the bytes x.
   module _ (low : at ≤ place field) (high : place field + wide field ≤ at + 32)
       (sp : ℕ) (x : Bytes) (sp-low : at ≤ sp) (sp-high : sp + length x ≤ at + 32) (sp-off : (i : ℕ) → sp ≤ i → i < sp + length x → Off field i)
-      (fill-up : (m : ℕ) → m ≤ s .geometry .room * s .pagesFor m) (rise : (m m′ : ℕ) → m ≤ m′ → s .pagesFor m + (s .pagesFor m′ - s .pagesFor m) ≡ s .pagesFor m′)
-      (from : ℕ) (u : Bytes) (hf : from ≤ size) (space : s .pagesFor (max size (from + length u)) - s .pagesFor size ≤ On.zeroBits (s .geometry) b (s .pages)) where
+      (fill-up : (m : ℕ) → m ≤ s .geometry .room * s .numbers .pagesFor m) (rise : (m m′ : ℕ) → m ≤ m′ → s .numbers .pagesFor m + (s .numbers .pagesFor m′ - s .numbers .pagesFor m) ≡ s .numbers .pagesFor m′)
+      (from : ℕ) (u : Bytes) (hf : from ≤ size) (space : s .numbers .pagesFor (max size (from + length u)) - s .numbers .pagesFor size ≤ On.zeroBits (s .geometry) b (s .pages)) where
     abbrev size′ : ℕ
     size′ = max size (from + length u)
 
     abbrev k : ℕ
-    k = s .pagesFor size′ - s .pagesFor size
+    k = s .numbers .pagesFor size′ - s .numbers .pagesFor size
 
     abbrev qs : List ℕ
     qs = On.gained (s .geometry) (s .pages) k b
@@ -206,13 +206,13 @@ module _ {s : Shelf} (w : Shelved s) {b : Bytes} (sized : Sized (s .geometry) (s
     write-gained : Gained (s .geometry) (s .pages) k b
     write-gained = gained-is (w .law) k b sized (f .aside) space
 
-    total : s .pagesFor size + k ≡ s .pagesFor size′
+    total : s .numbers .pagesFor size + k ≡ s .numbers .pagesFor size′
     total = rise size size′ (omega arith)
 
     pub write-bytes : Written (s .geometry) (s .home) (s .pages) b b′ field (lies w f names e t leads at entry .page) sp x from u size size′ ps qs
     write-bytes =
         let o = lies w f names e t leads at entry in
-        written-is (w .law) b field (o .page) (s .pagesFor size) k sp x from u size size′
+        written-is (w .law) b field (o .page) (s .numbers .pagesFor size) k sp x from u size size′
         (record {
           size = sized;
           aside = f .aside;
@@ -233,8 +233,8 @@ module _ {s : Shelf} (w : Shelved s) {b : Bytes} (sized : Sized (s .geometry) (s
         })
         hf (fill-up size) refl (subst (λ (m : ℕ). size′ ≤ s .geometry .room * m) (sym total) (fill-up size′)) space
 
-    many : length (ps ++ qs) ≡ s .pagesFor size′
-    many = length-append ps qs ∙ ap₂ (λ (y z : ℕ). y + z) (chain-length (On.next (s .geometry) b) (s .pagesFor size) (load field b)) (write-gained .many) ∙ total
+    many : length (ps ++ qs) ≡ s .numbers .pagesFor size′
+    many = length-append ps qs ∙ ap₂ (λ (y z : ℕ). y + z) (chain-length (On.next (s .geometry) b) (s .numbers .pagesFor size) (load field b)) (write-gained .many) ∙ total
 
     inside′ : (q : ℕ) → Mem q (ps ++ qs) → (s .geometry .aside ≤ q) × (q < s .pages)
     inside′ q m = elim (mem-or-not q ps) [
@@ -242,7 +242,7 @@ module _ {s : Shelf} (w : Shelved s) {b : Bytes} (sized : Sized (s .geometry) (s
       | inr h ↦ let r = write-gained .new q (omega (arith, m, h, occ-append q ps qs)) in (r .0, r .1)
     ]
 
-    pages′ : chain (On.next (s .geometry) b′) (s .pagesFor size′) (load field b′) ≡ ps ++ qs
+    pages′ : chain (On.next (s .geometry) b′) (s .numbers .pagesFor size′) (load field b′) ≡ ps ++ qs
     pages′ = ap (λ (m : ℕ). chain (On.next (s .geometry) b′) m (load field b′)) (sym many) ∙ write-bytes .pages
 
     -- that the entry reads as the larger file is the version's to show, from `write-bytes`

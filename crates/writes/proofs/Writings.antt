@@ -19,8 +19,10 @@ use Rattle.model.specs.Path.{pathOf}
 use Rattle.model.specs.Image.{treeOf}
 use Rattle.model.specs.Effect.{rewritten, written}
 use Rattle.model.specs.Call.{write, Refusal, refusal, refused, granted}
-use Rattle.model.specs.Refusal.{Line, pathLine, walkLines, isLockedNode, contentIn, walked, node, wanted, earlier, later, refusals, settle}
-use Rattle.model.specs.Meaning.{told, isFormat, effect, answer, after}
+use Rattle.model.specs.Refusal.{Line, pathLine, walkLines, isLockedNode, contentIn, walked, node, wanted, refusals, settle}
+use Rattle.model.specs.Meaning.{isFormat, answer, after}
+use Rattle.model.specs.MeaningOf
+use Rattle.model.specs.RefusalOf
 use Rattle.laws.proofs.Facts.{Facts}
 use Rattle.laws.proofs.Counting.{fill-up, free-number}
 use Rattle.laws.proofs.Slots.{size}
@@ -106,19 +108,19 @@ module _ (b path : Bytes) (from : ℕ) (v : Bytes) where
   rest n = (isLockedNode n, refusal 25) ∷ pastOr from space n
 
   its-lines : refusals (write path from v) (treeOf b) ≡ pathLine path ∷ (walkLines (walked path (treeOf b)) ++ fileCall rest (node path (treeOf b)))
-  unfolding refusals earlier later wanted
+  unfolding RefusalOf.refusals RefusalOf.earlier RefusalOf.later RefusalOf.wanted
   its-lines = refl
 
   abbrev result : Node → Bytes
   result n = written (pathOf path) from v b
 
   pub write-refused : {m : Refusal} → refused m ≡ placed b path → Refuses m
-  unfolding answer after told effect isFormat
+  unfolding MeaningOf.answer MeaningOf.after MeaningOf.told MeaningOf.effect isFormat
   write-refused e =
       (refused-does b path (write path from v) refl rest its-lines refused (λ n. granted (tt {0})) e, refused-does b path (write path from v) refl rest its-lines (λ m. b) result e)
 
   pub write-directory : (a : Arrival) (p : Place) → a ≡ At p → (tagOf the-type p ≡ 0) ⊎ (tagOf the-type p ≡ 2) → arrivalOf a ≡ placed b path → Refuses (refusal 7)
-  unfolding answer after told effect isFormat
+  unfolding MeaningOf.answer MeaningOf.after MeaningOf.told MeaningOf.effect isFormat
   write-directory a p here k e =
       (directory-does b path (write path from v) refl rest its-lines refused (λ n. granted (tt {0})) here k e, directory-does b path (write path from v) refl rest its-lines (λ m. b) result here k e)
 
@@ -143,11 +145,11 @@ module _ (b path : Bytes) (from : ℕ) (v : Bytes) where
 
     -- what the lines behind 7 give is what the call gives
     answers : settle (rest (fileAt b entry start k)) refused (granted (tt {0})) ≡ answer (write path from v) b
-    unfolding answer told isFormat
+    unfolding MeaningOf.answer MeaningOf.told isFormat
     answers = file-does b path (write path from v) refl rest its-lines refused (λ n. granted (tt {0})) e
 
     leaves : settle (rest (fileAt b entry start k)) (λ m. b) (written (pathOf path) from v b) ≡ after (write path from v) b
-    unfolding after effect isFormat
+    unfolding MeaningOf.after MeaningOf.effect isFormat
     leaves = file-does b path (write path from v) refl rest its-lines (λ m. b) result e
 
     -- the code says r of the mark

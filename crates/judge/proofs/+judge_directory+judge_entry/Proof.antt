@@ -3,7 +3,7 @@
 use borrow.Fn.PlainCycle.{Measures, is, falls, and}
 use Rattle.fields.proofs as fields
 use Rattle.fields.proofs.Plain.{needs, arith, ℕ, _+_, _*_, _-_, _≤_, _<_}
-use Rattle.judge.specs.Walk.{unowned}
+use Rattle.view_laws.specs.Marks.{unowned}
 use Rattle.judge.proofs.Marks.{clean-of, page-made}
 use Rattle.judge.proofs.Walk.{Stands, stands-first, stands-next, stands-vacant, stands-faulty, stands-last}
 use Rattle.judge.proofs.Walk.{vacant-entry, file-flags, directory-flags, stale-file, fresh-file, stale-directory, sized-directory, faulty-page, directory-below}
