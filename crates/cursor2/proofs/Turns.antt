@@ -11,10 +11,10 @@ use lib.Dec.{eqb}
 use borrow.Author.Tests.{eq-eqb, ne-eqb}
 use Rattle.volume.specs.Bytes.{Bytes, if_then_else_}
 use Rattle.volume.specs.Lists.{countFrom}
-use Rattle.volume.specs.Chain.{chain}
+use Rattle.volume.specs.Chain.{chain, linked}
 use Rattle.volume.specs.Geometry as On
 use Rattle.volume.proofs.Occ.{mem-tail}
-use Rattle.model2.specs.Version2.{linked, linkedPages, entryCount, entriesStart, entriesOn}
+use Rattle.model2.specs.Version2.{linkedPages, entryCount, entriesStart, entriesOn}
 use Rattle.shape.specs.declared.Shape.{Shape}
 use Rattle.shape.specs.Geometry.{geometryOf}
 use Rattle.cursor2.specs.Row.{behind, entriesFrom, AllLie}

@@ -12,7 +12,7 @@ use Rattle.model.specs.Entry.{nameAt, dateAt}
 copy-over : (s old : Bytes) → length old ≡ length s → take (length s) s ++ drop (length s) old ≡ s
 copy-over s old e = rw (take-length s, drop-of-length-le old {i = length s} (omega arith), append-nil s)
 
-part-copied : (b old : Bytes) (from to n : ℕ) → to ≡ from + n → to ≤ length b → length old ≡ n
+pub part-copied : (b old : Bytes) (from to n : ℕ) → to ≡ from + n → to ≤ length b → length old ≡ n
     → take (length (take (to - from) (drop from b))) (take (to - from) (drop from b)) ++ drop (length (take (to - from) (drop from b))) old ≡ part from n b
 part-copied b old from to n e h l =
     let d : to - from ≡ n = omega arith in

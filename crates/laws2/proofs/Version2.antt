@@ -9,7 +9,7 @@ use lib.ListN.{length, length-append, length-map}
 use lib.Dec.{T, eqb, eqb·suc-zero}
 use Rattle.volume.specs.Bytes.{Bytes, if_then_else_}
 use Rattle.volume.specs.Lists.{countFrom}
-use Rattle.volume.specs.Chain.{chain, beyond}
+use Rattle.volume.specs.Chain.{chain, beyond, linked}
 use Rattle.volume.specs.Geometry as On
 use Rattle.volume.proofs.Lawful.{Sized, Kept}
 use Rattle.volume.proofs.Pages.{page-in}
@@ -24,22 +24,15 @@ use Rattle.model.specs.Walk.{changeAt}
 use Rattle.view_laws.proofs.Facts.{Facts}
 use Rattle.view_laws.proofs.Focus.{Leads}
 use Rattle.view_laws.proofs.Shelf.{Shelf, seen, Shelved}
-use Rattle.view_laws.proofs.Chained as Chained
 use Rattle.view_laws.proofs.Chained.{chained, Slotted, chained-shelved}
 use Rattle.view_laws.proofs.Lengthened.{lengthened-sound}
 use Rattle.view_laws.proofs.Ends.{Ending, chains-end}
 use Rattle.model2.specs.Layout.{pageSize, pageCount, isWide, setAside, geometry2, codeIn}
 use Rattle.model2.specs.Entry.{entryAt}
-use Rattle.model2.specs.Version2.{linked, linkedPages, linkedEnds, entriesOn, numbers2, nextBy, placeBy, viewBy, view2}
+use Rattle.model2.specs.Version2.{linkedPages, linkedEnds, entriesOn, numbers2, nextBy, placeBy, viewBy, view2}
 use Rattle.laws2.proofs.Bounds.{Allowed, Bounds, bounds}
 use Rattle.laws2.proofs.Lawful2.{Tabled, home2, lawful2}
 use Rattle.laws2.proofs.Slots2.{slotted2}
-
--- a directory's pages are counted as `view_laws` counts them
-linked-same : (next : ℕ → ℕ) (most p : ℕ) → linked next most p ≡ Chained.linked next most p
-unfolding linked Chained.linked
-linked-same next zero p = refl
-linked-same next (suc most) p = ap (λ (k : ℕ). if eqb (next p) 0 then 1 else suc k) (linked-same next most (next p))
 
 -- ---- the shelf
 
@@ -50,36 +43,13 @@ module _ (code n : ℕ) where
   abbrev on : ℕ → List ℕ
   on = entriesOn (pageSize code) (pageCount code n)
 
+  -- directories are chains
   abbrev pub shelf2 : Shelf
-  shelf2 = record {
-    geometry = geometry2 code n;
-    home = home;
-    pages = pageCount code n;
-    numbers = numbers2 code n;
-    directoryPages = λ b p. linkedPages (nextBy code n b) (pageCount code n) p;
-    directoryEnds = λ b p. linkedEnds (nextBy code n b) (pageCount code n) p;
-    entries = λ b p. flatMap on (linkedPages (nextBy code n b) (pageCount code n) p);
-    entryAt = entryAt;
-    placeOf = placeBy code n;
-  }
+  shelf2 = chained (geometry2 code n) home (pageCount code n) (numbers2 code n) on entryAt (placeBy code n)
 
   -- what stands on it is what the definitions read
   pub seen2 : (b : Bytes) → seen shelf2 b ≡ viewBy code n b
   seen2 b = refl
-
-  -- and it is one of directories that are chains
-  pub shelf-is : chained (geometry2 code n) home (pageCount code n) (numbers2 code n) on entryAt (placeBy code n) ≡ shelf2
-  shelf-is = λ i. record {
-    geometry = geometry2 code n;
-    home = home;
-    pages = pageCount code n;
-    numbers = numbers2 code n;
-    directoryPages = λ b p. chain (nextBy code n b) (sym (linked-same (nextBy code n b) (pageCount code n) p) i) p;
-    directoryEnds = λ b p. eqb (beyond (nextBy code n b) (sym (linked-same (nextBy code n b) (pageCount code n) p) i) p) 0;
-    entries = λ b p. flatMap on (chain (nextBy code n b) (sym (linked-same (nextBy code n b) (pageCount code n) p) i) p);
-    entryAt = entryAt;
-    placeOf = placeBy code n;
-  }
 
 -- an image that keeps its length and its page code stays on its shelf
 pub view-stays : (b b′ : Bytes) → length b′ ≡ length b → codeIn b′ ≡ codeIn b → view2 b′ ≡ viewBy (codeIn b) (length b) b′
@@ -114,7 +84,7 @@ module _ {code n : ℕ} (a : Allowed code n) where
 
   -- what a version owes the laws of the calls
   pub shelved2 : Shelved (shelf2 code n)
-  shelved2 = subst Shelved (shelf-is code n) (chained-shelved _ _ _ _ _ _ _ slots)
+  shelved2 = chained-shelved _ _ _ _ _ _ _ slots
 
   pub sized2 : (b : Bytes) → length b ≡ n → Sized (geometry2 code n) (pageCount code n) b
   sized2 b e = e ∙ bounds a .whole
@@ -128,8 +98,8 @@ module _ {code n : ℕ} (a : Allowed code n) where
 
   -- a directory whose pages differ and are in range ends
   pub directories-end : (b : Bytes) → Ending (viewBy code n b)
-  directories-end b = subst (λ (s : Shelf). Ending (seen s b)) (shelf-is code n)
-      (chains-end (geometry2 code n) (home code n) (pageCount code n) (numbers2 code n) (on code n) entryAt (placeBy code n) (two-aside (isWide n)) (tabled .some) b)
+  directories-end b = 
+      chains-end (geometry2 code n) (home code n) (pageCount code n) (numbers2 code n) (on code n) entryAt (placeBy code n) (two-aside (isWide n)) (tabled .some) b
 
   -- the page code is neither count nor bitmap, so taking and giving back pages leaves it
   pub code-kept : Kept (geometry2 code n) (pageCount code n) 6
@@ -153,14 +123,9 @@ module _ {code n : ℕ} (a : Allowed code n) where
         → T (goodDirectory (suc e) (viewBy code n b) t)
         → Facts (viewBy code n longer)
         × (rowAt (pageCount code n) (viewBy code n longer) 0 ≡ changeAt names (extend (pageSize code / 32)) (rowAt (pageCount code n) (viewBy code n b) 0))
-    lengthened2 f =
+    lengthened2 f leads ends good =
         let m : length (flatMap (on code n) (On.lowestFree (geometry2 code n) (pageCount code n) b ∷ [])) ≡ pageSize code / 32 =
         page-entries (pageSize code) (pageCount code n) (On.lowestFree (geometry2 code n) (pageCount code n) b) (new-page (f .aside)) in
-        subst (λ (s : Shelf). Facts (seen s b) → Leads (seen s b) (pageCount code n) 0 names (suc e) t → T (seen s b .directoryEnds t)
-        → T (goodDirectory (suc e) (seen s b) t)
-        → Facts (seen s longer) × (rowAt (pageCount code n) (seen s longer) 0 ≡ changeAt names (extend (pageSize code / 32)) (rowAt (pageCount code n) (seen s b) 0)))
-        (shelf-is code n)
-        (λ f leads ends good.
         let r = lengthened-sound (geometry2 code n) (home code n) (pageCount code n) (numbers2 code n) (on code n) entryAt (placeBy code n) slots b (sized2 b len)
-        f names e t j leads (sym (linked-same (nextBy code n b) (pageCount code n) t) ∙ is) ends enough good in
-        (r .0, r .1 ∙ ap (λ (k : ℕ). changeAt names (extend k) (rowAt (pageCount code n) (seen (chained (geometry2 code n) (home code n) (pageCount code n) (numbers2 code n) (on code n) entryAt (placeBy code n)) b) 0)) m)) f
+        f names e t j leads is ends enough good in
+        (r .0, r .1 ∙ ap (λ (k : ℕ). changeAt names (extend k) (rowAt (pageCount code n) (viewBy code n b) 0)) m)

@@ -125,3 +125,28 @@ desk272 = laid 0xE5 0 139264 (
     ∷ (134144, stretch 0 512)
     ∷ (134656, stretch 1024 276)
     ∷ [])
+
+-- 6,144 bytes in pages of 256, with no empty entry in the root nor in /D, and two free pages, 6 and 22, of which the links and all bytes are stale. /D is on
+-- page 2 and holds eight empty files; /f has pages 10, 18, 19, 20, 21 and 23.
+unfoldable pub full2 : Bytes
+full2 = laid 0xEE 0 6144 (
+    (0, 0x5A ∷ 2 ∷ 3 ∷ 0 ∷ 2 ∷ 0 ∷ 0 ∷ 0xBF ∷ 0xFF ∷ 0xBF ∷ [])
+    ∷ (32, slot 0x81 (called "D") 2 0 0x00 0x01 0 0 day1)
+    ∷ (64, slot 0x80 (called "a") 3 0 0 0 0 0 day1)
+    ∷ (96, slot 0x80 (called "b") 4 0 0 0 0 0 day1)
+    ∷ (128, slot 0x80 (called "c") 5 0 0 0 0 0 day1)
+    ∷ (160, slot 0x80 (called "d") 7 0 0 0 0 0 day1)
+    ∷ (192, slot 0x80 (called "e") 9 0 0 0 0 0 day1)
+    ∷ (224, slot 0x80 (called "f") 10 0 0xDC 0x05 0 0 day1)
+    -- the links of pages 0 to 23, then what stands past them
+    ∷ (256, 0 ∷ 0x77 ∷ 0 ∷ 0 ∷ 0 ∷ 0 ∷ 0xE5 ∷ 0 ∷ 0 ∷ 0 ∷ 18 ∷ 0 ∷ 0 ∷ 0 ∷ 0 ∷ 0 ∷ 0 ∷ 0 ∷ 19 ∷ 20 ∷ 21 ∷ 23 ∷ 0xE5 ∷ 0 ∷ replicate 232 0xE5)
+    -- /D
+    ∷ (512, slot 0x80 (called "0") 8 0 0 0 0 0 day2)
+    ∷ (544, slot 0x80 (called "1") 11 0 0 0 0 0 day2)
+    ∷ (576, slot 0x80 (called "2") 12 0 0 0 0 0 day2)
+    ∷ (608, slot 0x80 (called "3") 13 0 0 0 0 0 day2)
+    ∷ (640, slot 0x80 (called "4") 14 0 0 0 0 0 day2)
+    ∷ (672, slot 0x80 (called "5") 15 0 0 0 0 0 day2)
+    ∷ (704, slot 0x80 (called "6") 16 0 0 0 0 0 day2)
+    ∷ (736, slot 0x80 (called "7") 17 0 0 0 0 0 day2)
+    ∷ [])

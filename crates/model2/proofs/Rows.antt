@@ -13,12 +13,18 @@ use Rattle.volume.specs.Geometry as On
 use Rattle.model.specs.Entry.{vacant, aFile, aDirectory}
 use Rattle.model.specs.Walk.{arrived, entryNamed, walkOn}
 use Rattle.model.specs.Sound.{pagesAt, goodDirectory}
+use Rattle.model.specs.Tree.{Tree, emptyRow}
+use Rattle.model.specs.Call.{formatAs, verdict, find, list, makeFile, makeDirectory, write, isDirectory, empty, granted}
+use Rattle.model.specs.MeaningOf.{numbers, treeOf, treeAfter}
+use Rattle.model.specs.DemandsOf.{freshOf}
+use Rattle.model.specs.Text.{text}
 use Rattle.model2.specs.Layout.{rootStart, geometry2, pagesFor, headerLines}
 use Rattle.model2.specs.Entry.{startField, sizePlace, sizeBytes, entryAt, newEntry}
 use Rattle.model2.specs.Version2.{entryCount, view2}
 use Rattle.model2.specs.Format.{formatLines, formatted}
-use Rattle.model2.proofs.Run2.{computing2, toldBy}
-use Rattle.model2.proofs.Desk2.{day1, day2, called, slot, desk2, desk512}
+use Rattle.model2.specs.Calls.{v2}
+use Rattle.model2.proofs.Run2.{computing2, toldBy, Case, _gives_, done, sized, answered, unsound, refusal, Hold, computed, stated, hold}
+use Rattle.model2.proofs.Desk2.{day1, day2, called, slot, desk2, desk512, full2}
 
 -- ---- numbers, on no image
 
@@ -118,3 +124,37 @@ pub walked : (entryNamed (view2 desk2) 0 (called "B") ≡ some 2528)
     × (goodDirectory 8 (view2 desk512) 0 ≡ true)
 unfolding computing2 desk2 desk512
 walked = (refl, refl, refl, refl, refl)
+
+-- ---- calls
+
+-- 9 is never given, and format gives 1 and 26 alone
+pub given : (numbers v2 (makeFile [] []) ≡ 1 ∷ 2 ∷ 26 ∷ 16 ∷ 17 ∷ 18 ∷ 20 ∷ 19 ∷ 3 ∷ 4 ∷ 11 ∷ 5 ∷ 6 ∷ 8 ∷ 10 ∷ []) × (numbers v2 (formatAs 0) ≡ 1 ∷ 26 ∷ [])
+unfolding computing2
+given = (refl, refl)
+
+-- 26 after 2; a make of two pages with two free and with one; and what a directory of 512 bytes tells
+pub calls : List Case
+calls =
+    unsound (set (set desk2 1 1) 6 9) 2 0 0 0
+    ∷ unsound (set desk2 6 9) 26 0 0 0
+    ∷ unsound (set desk2 7 0xFD) 3 0 0 0
+    ∷ answered desk2 (formatAs 1 gives refusal 26 ∷ [])
+    ∷ answered full2 (makeFile (text "/7") day2 gives done ∷ verdict gives sized 24 0 ∷ list (text "/") 14 gives granted empty ∷ makeFile (text "/8") day2 gives refusal 10 ∷ [])
+    ∷ answered full2 (write (text "/f") 1500 (replicate 37 1) gives done ∷ makeDirectory (text "/D/x") day2 gives refusal 10 ∷ verdict gives sized 24 1 ∷ [])
+    ∷ answered desk512 (
+    verdict gives sized 8 2
+    ∷ find (text "/D") gives granted (record { kind = isDirectory; size = 512; date = day1 })
+    ∷ list (text "/") 31 gives refusal 12
+    ∷ [])
+    ∷ []
+
+pub calls-hold : Hold calls
+unfolding computing2 computed stated calls desk2 desk512 full2
+calls-hold = hold calls refl
+
+-- N and the code of a fresh tree are those of the new page size
+pub fresh-trees : (freshOf v2 1 69632 ≡ record { pages = 136; code = 1; root = emptyRow 15 })
+    × (treeAfter v2 (formatAs 2) (record { pages = 32; code = 0; root = emptyRow 3 }) ≡ record { pages = 8; code = 2; root = emptyRow 31 })
+    × (treeAfter v2 (formatAs 0) (treeOf v2 desk512) ≡ record { pages = 16; code = 0; root = emptyRow 7 })
+unfolding computing2 desk512
+fresh-trees = (refl, refl, refl)

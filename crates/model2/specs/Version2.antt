@@ -1,12 +1,12 @@
 -- Version 2 as a view: what paper 02 §12 says, with its numbers, in the order of a view's fields. `Layout` and `Entry` have the definitions.
-use Prim.Native.Nat.{ℕ, zero, suc, _+_, _-_, _*_, _/_}
+use Prim.Native.Nat.{ℕ, _+_, _-_, _*_, _/_}
 use mathlib.Core.Bool.{Bool, true}
 use mathlib.Core.List.{List, [], _∷_, map, flatMap}
 use lib.ListN.{length}
 use lib.Dec.{eqb, ltb}
 use Rattle.volume.specs.Bytes.{Bytes, if_then_else_}
 use Rattle.volume.specs.Lists.{upTo}
-use Rattle.volume.specs.Chain.{chain, beyond}
+use Rattle.volume.specs.Chain.{chain, beyond, linked}
 use Rattle.volume.specs.Geometry as On
 use Rattle.model.specs.Numbers.{Numbers}
 use Rattle.model.specs.View.{View, EntryLayout}
@@ -14,11 +14,6 @@ use Rattle.model2.specs.Layout.{pageSize, pageCount, setAside, rootStart
 use Rattle.model2.specs.Entry.{startField, sizeAt, sizePlace, sizeBytes, entryAt, newEntry}
 
 -- ---- a directory's pages: "A drawer's chain runs to link 0"
-
--- how many pages there are from p on to the first with link 0, at most so many
-unfoldable pub linked : (next : ℕ → ℕ) → (most : ℕ) → ℕ → ℕ
-linked next zero p = 0
-linked next (suc most) p = let rest = linked next most (next p) in if eqb (next p) 0 then 1 else suc rest
 
 abbrev pub linkedPages : (next : ℕ → ℕ) → (most : ℕ) → ℕ → List ℕ
 linkedPages next most p = chain next (linked next most p) p

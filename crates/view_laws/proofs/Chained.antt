@@ -10,7 +10,7 @@ use mathlib.Core.List.{List, [], _∷_, flatMap}
 use lib.ListN.{length}
 use lib.Dec.{eqb, eqb·suc-zero}
 use Rattle.volume.specs.Bytes.{Bytes, byteAt, if_then_else_}
-use Rattle.volume.specs.Chain.{chain, beyond}
+use Rattle.volume.specs.Chain.{chain, beyond, linked}
 use Rattle.volume.specs.Geometry.{Geometry, start, content, next}
 use Rattle.volume.proofs.Occ.{occ, Mem, Nodup, mem-head, mem-tail, nodup-head, nodup-tail, occ-append, not-mem, mem-or-not}
 use Rattle.volume.proofs.Puts.{part-bytes}
@@ -21,11 +21,6 @@ use Rattle.model.specs.Entry.{Entry, vacant}
 use Rattle.model.specs.Numbers.{Numbers}
 use Rattle.view_laws.proofs.Facts.{Rooted}
 use Rattle.view_laws.proofs.Shelf.{Shelf, seen, SameBytes, Shelved}
-
--- how many pages there are from p on to the first with link 0, at most so many
-unfoldable pub linked : (next : ℕ → ℕ) → (most : ℕ) → ℕ → ℕ
-linked next zero p = 0
-linked next (suc most) p = let rest = linked next most (next p) in if eqb (next p) 0 then 1 else suc rest
 
 linked-frame : (f f′ : ℕ → ℕ) (n p : ℕ) → ((q : ℕ) → Mem q (chain f (linked f n p) p) → f′ q ≡ f q) → linked f′ n p ≡ linked f n p
 unfolding linked chain

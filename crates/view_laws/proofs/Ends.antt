@@ -9,7 +9,7 @@ use mathlib.Core.List.{List, [], _∷_, tail}
 use lib.ListN.{length}
 use lib.Dec.{T, eqb, eqb→eq, eqb-refl}
 use Rattle.volume.specs.Bytes.{Bytes, if_then_else_}
-use Rattle.volume.specs.Chain.{beyond}
+use Rattle.volume.specs.Chain.{beyond, linked}
 use Rattle.volume.specs.Geometry.{Geometry, next}
 use Rattle.volume.proofs.Occ.{occ, Mem, Nodup, Under, not-mem, hit-cases, hit-ne, sum-occ, sum-one, under-of-mem, under-cons}
 use Rattle.volume.proofs.Chains.{chain-length}
@@ -17,7 +17,7 @@ use Rattle.model.specs.Entry.{Entry}
 use Rattle.model.specs.Numbers.{Numbers}
 use Rattle.model.specs.View.{View}
 use Rattle.view_laws.proofs.Shelf.{seen}
-use Rattle.view_laws.proofs.Chained.{linked, linkedPages, chained}
+use Rattle.view_laws.proofs.Chained.{linkedPages, chained}
 
 -- pages that can have their owners end
 abbrev pub Ending : View → Type 0

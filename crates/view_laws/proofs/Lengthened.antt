@@ -9,7 +9,7 @@ use mathlib.Core.List.{List, [], _∷_, _++_, flatMap, tail}
 use lib.ListN.{length, length-append}
 use lib.Dec.{T, eqb, eqb→eq, eqb-refl}
 use Rattle.volume.specs.Bytes.{Bytes, byteAt}
-use Rattle.volume.specs.Chain.{chain, beyond}
+use Rattle.volume.specs.Chain.{chain, beyond, linked}
 use Rattle.volume.specs.Geometry as On
 use Rattle.volume.specs.Geometry.{Geometry, next, gained, grown}
 use Rattle.volume.proofs.Occ.{occ, Mem, Nodup, Under, hit, hit-refl, mem-cons, occ-append, not-mem, mem-or-not, mem-apart, sum-occ, sum-one, under-of-mem}
@@ -33,7 +33,7 @@ use Rattle.view_laws.proofs.Focus.{Leads, leads-sub, leads-below}
 use Rattle.view_laws.proofs.Slots.{Real, known-page}
 use Rattle.view_laws.proofs.Shelf.{seen, SameBytes}
 use Rattle.view_laws.proofs.Grown.{Longer, directory-grown}
-use Rattle.view_laws.proofs.Chained.{linked, linked-is, chained, Slotted, chained-shelved, mem-flat}
+use Rattle.view_laws.proofs.Chained.{linked-is, chained, Slotted, chained-shelved, mem-flat}
 
 module _ (g : Geometry) (home : ℕ → ℕ) (N : ℕ) (numbers : Numbers) (on : ℕ → List ℕ) (read : Bytes → ℕ → Entry) (placed : Bytes → (directory entry : ℕ) → ℕ × ℕ) (slots : Slotted g home N numbers on read placed)
     (b : Bytes) (sized : Sized g N b) where

@@ -2,7 +2,7 @@
 use Prim.Native.Nat.{ℕ, zero, suc, _+_, _-_}
 use mathlib.Core.List.{List, [], _∷_}
 use lib.ListN.{take, drop}
-use lib.Dec.{ltb}
+use lib.Dec.{eqb, ltb}
 use Rattle.volume.specs.Bytes.{Bytes, put, if_then_else_}
 
 -- the k pages from p on by their links
@@ -14,6 +14,11 @@ chain next (suc k) p = p ∷ chain next k (next p)
 unfoldable pub beyond : (ℕ → ℕ) → ℕ → ℕ → ℕ
 beyond next zero p = p
 beyond next (suc k) p = beyond next k (next p)
+
+-- how many pages there are from p on to the first with link 0, at most so many
+unfoldable pub linked : (next : ℕ → ℕ) → (most : ℕ) → ℕ → ℕ
+linked next zero p = 0
+linked next (suc most) p = let rest = linked next most (next p) in if eqb (next p) 0 then 1 else suc rest
 
 -- v written from place `at` of the content along the pages: each has `room` bytes of it, the first at position `first p`
 unfoldable pub spread : (first : ℕ → ℕ) (room : ℕ) → List ℕ → ℕ → Bytes → Bytes → Bytes

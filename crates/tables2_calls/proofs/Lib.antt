@@ -1,0 +1,3 @@
+-- The calls of version 2 computed, by theme. Images and arguments are those of crates/model2/proofs/Desk2.antt, and how a case is written is in Run2.antt there.
+pub mod Grows
+pub mod Changes
