@@ -1,5 +1,5 @@
 // Tidy pages (02 §13): a proposal says for every page of an image its new place; an accepted one is carried out into a second buffer. Crate `proposals`
-// judges one, `targets` carries it out. All of it goes page by page, by the owners' row of the second judge.
+// judges one, `targets` carries it out. All of it goes page by page, by the owners' row, which crate `owner_rows` fills.
 // The two public calls have no `requires`, and no function can change the image, which is lent to be read alone.
 use fields::Entry;
 use fields::Page;
@@ -13,6 +13,7 @@ ghost use Rattle.volume.specs.Lists.{keep, countFrom};
 ghost use Rattle.volume.specs.Chain.{chain};
 ghost use Rattle.volume.proofs.Occ.{Under};
 ghost use Rattle.model.specs.Layout.{pageCount, link};
+ghost use Rattle.owner_rows.specs.Unnamed.{Unnamed};
 ghost use Rattle.moves.specs.Tidy.{tidyAnswer, tidyAfter};
 ghost use Rattle.moves.specs.Propose.{fileFrom, isOther, order, numbered, proposeAnswer, proposeAfter};
 ghost use Rattle.proposals.specs.Steps.{Judged, otherAt};
@@ -57,19 +58,27 @@ fn tidy_sound(image: &[u8], owners: &[usize], places: &[u8], target: &mut [u8]) 
     tidy_judged(image, owners, places, target)
 }
 
-// Writes the image to the target with its pages where the proposal puts them, if it is accepted. The verdict's refusals come first: the second judge,
-// which tells the owners, is asked once, and the first only for the fault of an image that is not sound.
+// On a sound image and a row of zeros, which becomes the owners of its pages.
+fn tidy_owned(image: &[u8], owners: &mut [usize], places: &[u8], target: &mut [u8]) -> TidyAnswer
+    requires { ⌜ Unnamed (now image) (now owners) ⌝ }
+    ensures { λ r. ⌜ answerOf r ≡ tidyAnswer (now (image .entry)) (now (places .entry)) (now (target .entry)) ⌝ }
+    ensures { λ _. ⌜ now (target .exit) ≡ tidyAfter (now (image .entry)) (now (places .entry)) (now (target .entry)) ⌝ }
+{
+    owner_rows::name_owners(image, owners);
+    tidy_sound(image, owners, places, target)
+}
+
+// Writes the image to the target with its pages where the proposal puts them, if it is accepted. The verdict's refusals come first. It says that the
+// image is sound, so the owners are named by a walk that asks nothing.
 pub fn tidy(image: &[u8], places: &[u8], target: &mut [u8]) -> TidyAnswer
     ensures { λ r. ⌜ answerOf r ≡ tidyAnswer (now (image .entry)) (now (places .entry)) (now (target .entry)) ⌝ }
     ensures { λ _. ⌜ now (target .exit) ≡ tidyAfter (now (image .entry)) (now (places .entry)) (now (target .entry)) ⌝ }
 {
-    let findings = audit::audit(image);
-    if findings.sound {
-        let owners = findings.owners;
-        return tidy_sound(image, &owners, places, target);
-    }
     match zealfs::verdict(image) {
-        VerdictAnswer::Sound(pages, free) => TidyAnswer::NotAccepted,
+        VerdictAnswer::Sound(pages, free) => {
+            let mut owners = [0usize; 256];
+            tidy_owned(image, &mut owners, places, target)
+        }
         VerdictAnswer::Refused(r) => TidyAnswer::Refused(r),
     }
 }
@@ -189,18 +198,26 @@ fn propose_sound(image: &[u8], owners: &[usize], places: &mut [u8]) -> TidyAnswe
     TidyAnswer::Done
 }
 
-// Our own helper: on any sound image it puts an accepted proposal into a row of N numbers. The judges are asked as by `tidy`.
+// On a sound image and a row of zeros, which becomes the owners of its pages.
+fn propose_owned(image: &[u8], owners: &mut [usize], places: &mut [u8]) -> TidyAnswer
+    requires { ⌜ Unnamed (now image) (now owners) ⌝ }
+    ensures { λ r. ⌜ answerOf r ≡ proposeAnswer (now (image .entry)) (now (places .entry)) ⌝ }
+    ensures { λ _. ⌜ now (places .exit) ≡ proposeAfter (now (image .entry)) (now (places .entry)) ⌝ }
+{
+    owner_rows::name_owners(image, owners);
+    propose_sound(image, owners, places)
+}
+
+// Our own helper: on any sound image it puts an accepted proposal into a row of N numbers. The verdict is asked and the owners are named as by `tidy`.
 pub fn propose(image: &[u8], places: &mut [u8]) -> TidyAnswer
     ensures { λ r. ⌜ answerOf r ≡ proposeAnswer (now (image .entry)) (now (places .entry)) ⌝ }
     ensures { λ _. ⌜ now (places .exit) ≡ proposeAfter (now (image .entry)) (now (places .entry)) ⌝ }
 {
-    let findings = audit::audit(image);
-    if findings.sound {
-        let owners = findings.owners;
-        return propose_sound(image, &owners, places);
-    }
     match zealfs::verdict(image) {
-        VerdictAnswer::Sound(pages, free) => TidyAnswer::NotAccepted,
+        VerdictAnswer::Sound(pages, free) => {
+            let mut owners = [0usize; 256];
+            propose_owned(image, &mut owners, places)
+        }
         VerdictAnswer::Refused(r) => TidyAnswer::Refused(r),
     }
 }
