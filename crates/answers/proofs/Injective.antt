@@ -1,9 +1,9 @@
 -- The model's answer tells the case of a call's enum: two cases that differ answer differently.
 use mathlib.Core.Path.{_≡_, refl, sym, ap, ap₂, _∙_}
 use Prim.Native.Nat.{ℕ}
-use mathlib.Core.Bool.{Bool}
 use Rattle.volume.specs.Bytes.{Bytes}
-use Rattle.model.specs.Call.{Kind, isFile, isDirectory, Verdict, Found as Finding, Listed as Listing, empty, holds, Answer, refused, granted}
+use Rattle.model.specs.Call.{Verdict, Found as Finding, Listed as Listing, empty, holds, Answer, refused, granted}
+use Rattle.arrivals.specs.Beside.{kindOf}
 use Rattle.refusals.proofs.Injective.{case, case-told}
 use Rattle.answers.specs.Answers.{changeAnswer, verdictAnswer, findAnswer, FindSays, listAnswer, ListSays, readAnswer}
 use Rattle.answers.specs.declared.ChangeAnswer.{ChangeAnswer}
@@ -44,10 +44,6 @@ pub verdict-injective : (r s : VerdictAnswer) → verdictAnswer r ≡ verdictAns
 verdict-injective r s e = sym (verdict-case r) ∙ ap verdictCase e ∙ verdict-case s
 
 -- ---- with what stands beside the answer: at most one result says what the model says
-
-kindOf : {A : Type 0} → (Bool → A) → A → Kind → A
-kindOf x y (isFile locked) = x locked
-kindOf x y isDirectory = y
 
 unfoldable findCase : Answer Finding → FindAnswer
 findCase (refused m) = find.Refused (case m)

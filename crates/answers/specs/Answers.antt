@@ -1,13 +1,14 @@
 -- The model's answer for each case of a call's enum.
 use mathlib.Core.Path.{_≡_}
-use lib.ListN.{replicate}
 use Rattle.volume.specs.Bytes.{Bytes, if_then_else_}
 use Prim.Native.Nat.{ℕ, _+_, _*_}
 use lib.Dec.{leb}
 use Rattle.model.specs.Layout.{pageSize}
-use Rattle.model.specs.Entry.{entryCount, entriesStart, Entry, vacant, aFile, aDirectory, entryAt}
+use Rattle.model.specs.Entry.{entryCount, entriesStart, Entry, entryAt}
 use Rattle.model.specs.Call.{isFile, isDirectory, Verdict, Found as Finding, Listed as Listing, empty, holds, refusal, Answer, refused, granted}
+use Rattle.arrivals.specs.Listed as Of
 use Rattle.refusals.specs.Told.{told}
+unfoldable pub use Rattle.arrivals.specs.Beside.{findDate, listName, listDate}
 use Rattle.answers.specs.declared.ChangeAnswer.{ChangeAnswer}
 use Rattle.answers.specs.declared.ChangeAnswer.the-variants as change
 use Rattle.answers.specs.declared.VerdictAnswer.{VerdictAnswer}
@@ -35,11 +36,6 @@ findAnswer (find.File size locked) date = granted (record { kind = isFile locked
 findAnswer find.Directory date = granted (record { kind = isDirectory; size = pageSize; date = date })
 findAnswer (find.Refused r) date = refused (told r)
 
--- beside a refusal it is zeros
-unfoldable pub findDate : Answer Finding → Bytes
-findDate (refused m) = replicate 8 0
-findDate (granted found) = found .date
-
 abbrev pub FindSays : Found → Answer Finding → Type 0
 FindSays r a = (findAnswer (r .answer) (r .date) ≡ a) × (r .date ≡ findDate a)
 
@@ -49,17 +45,6 @@ listAnswer list.Empty name date = granted empty
 listAnswer (list.File size locked) name date = granted (holds (isFile locked) name size date)
 listAnswer list.Directory name date = granted (holds isDirectory name pageSize date)
 listAnswer (list.Refused r) name date = refused (told r)
-
--- beside an empty entry and a refusal they are zeros
-unfoldable pub listName : Answer Listing → Bytes
-listName (refused m) = replicate 16 0
-listName (granted empty) = replicate 16 0
-listName (granted (holds kind name size date)) = name
-
-unfoldable pub listDate : Answer Listing → Bytes
-listDate (refused m) = replicate 8 0
-listDate (granted empty) = replicate 8 0
-listDate (granted (holds kind name size date)) = date
 
 abbrev pub ListSays : Listed → Answer Listing → Type 0
 ListSays r a = (listAnswer (r .answer) (r .name) (r .date) ≡ a) × (r .name ≡ listName a) × (r .date ≡ listDate a)
@@ -71,10 +56,8 @@ readAnswer (read.Refused r) = refused (told r)
 -- ---- what a function of the crate asks the bytes
 
 -- an entry as list tells it
-unfoldable pub entryTold : Entry → Listing
-entryTold vacant = empty
-entryTold (aFile locked name date start size) = holds (isFile locked) name size date
-entryTold (aDirectory name date start size) = holds isDirectory name pageSize date
+abbrev pub entryTold : Entry → Listing
+entryTold e = Of.entryTold pageSize e
 
 -- entry i of the directory on page p
 unfoldable pub entryListed : Bytes → (page i : ℕ) → Answer Listing

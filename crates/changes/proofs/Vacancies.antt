@@ -1,19 +1,12 @@
--- A directory holds nothing exactly if all its entries are vacant, since a row has one place for each entry and counts those that are not free.
-use mathlib.Core.Path.{_≡_, refl, sym, ap, _∙_, subst}
-use mathlib.Core.Logic.{_↔_}
-use Prim.Native.Nat.{ℕ, suc, _+_, _*_, _<_}
+-- Whether an entry is vacant is read off its flags, as a search reads it; and every directory has a first entry.
+use mathlib.Core.Path.{_≡_, sym, _∙_, subst}
+use Prim.Native.Nat.{ℕ, _+_, _*_, _<_}
 use native.Mathlib.Omega.{arith}
-use mathlib.Core.Bool.{Bool, true, false, not, _&&_}
-use mathlib.Core.List.{List, [], _∷_}
-use lib.Dec.{ltb, eqb}
-use borrow.Author.Tests.{ltb-false, not-false, lt-ltb, le-ltb}
+use mathlib.Core.Bool.{Bool, true, false}
+use lib.Dec.{eqb}
 use Rattle.volume.specs.Bytes.{Bytes, if_then_else_}
-use Rattle.volume.specs.Lists.{all}
 use Rattle.volume.proofs.Occ.{Mem, mem-head}
-use Rattle.model.specs.Entry.{Entry as Model, vacant, aFile, aDirectory, entriesStart, entries, isLocked, nameAt, dateAt, entryAt}
-use Rattle.model.specs.Version1.{view}
-use Rattle.model.specs.Tree.{Row, held}
-use Rattle.model.specs.Image.{entryRow, rowOf, rowAt}
+use Rattle.model.specs.Entry.{entriesStart, entries, isLocked, nameAt, dateAt, entryAt}
 use Rattle.model.specs.Effect.{isVacant}
 use Rattle.fields.specs.declared.Page.{Page}
 use Rattle.fields.specs.declared.Entry.{Entry}
@@ -45,19 +38,3 @@ first-entry p = subst (Mem (entriesStart p + 32 * 0)) (sym (all-entries p ∙ en
     some-entries : (c : Bool) → 0 < (if c then 6 else 8)
     some-entries true = omega arith
     some-entries false = omega arith
-
--- ---- what a directory holds
-
-row-holds : (b : Bytes) (g : ℕ → Row) (ats : List ℕ) → ltb 0 (held (rowOf (view b) g ats)) ≡ not (all (vacancy b) ats)
-unfolding held rowOf entryRow all isVacant
-row-holds b g [] = refl
-row-holds b g (x ∷ xs) = go (entryAt b x) (row-holds b g xs)
-  where
-    go : (y : Model) → ltb 0 (held (rowOf (view b) g xs)) ≡ not (all (vacancy b) xs) → ltb 0 (held (entryRow (view b) g y (rowOf (view b) g xs))) ≡ not (isVacant y && all (vacancy b) xs)
-    go vacant e = e
-    go (aFile locked name date start size) e = lt-ltb 0 (suc (held (rowOf (view b) g xs))) (omega arith)
-    go (aDirectory name date start size) e = lt-ltb 0 (suc (held (rowOf (view b) g xs))) (omega arith)
-
-pub directory-holds : (d : ℕ) (b : Bytes) (p : ℕ) → ltb 0 (held (rowAt (suc d) (view b) p)) ≡ not (all (vacancy b) (entries p))
-unfolding rowAt
-directory-holds d b p = row-holds b (rowAt d (view b)) (entries p)

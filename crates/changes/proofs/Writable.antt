@@ -1,12 +1,11 @@
--- A file that a path leads to on a sound image can be written: its chain is its own and ends in 0, and since its pages and the free ones are fewer than
--- 256, at 255 bytes each, the new size fits two bytes. What a write makes of the bytes is the model's effect, since the entry stands at the path's position.
+-- A file that a path leads to on a sound image can be written: its chain is its own and ends in 0, and since its pages and the free ones are fewer than 256, at
+-- 255 bytes each, the new size fits two bytes.
 use mathlib.Core.Path.{_≡_, sym, ap, _∙_, subst}
 use Prim.Native.Nat.{ℕ, _+_, _-_, _≤_, _<_, max}
 use native.Mathlib.Omega.{arith}
 use mathlib.Core.List.{List}
 use lib.ListN.{length}
 use lib.Dec.{T, eqb, eqb→eq}
-use borrow.Author.Tests.{eq-eqb, ne-eqb}
 use Rattle.volume.specs.Bytes.{Bytes}
 use Rattle.volume.specs.Chain.{chain, beyond}
 use Rattle.volume.specs.Field.{byte}
@@ -21,8 +20,6 @@ use Rattle.model.specs.Entry.{isLocked, nameAt, startAt, dateAt, Entry, aFile, 
 use Rattle.model.specs.Version1.{view}
 use Rattle.model.specs.Sound.{pagesOf, goodEntry}
 use Rattle.model.specs.Path.{Path}
-use Rattle.model.specs.Effect.{rewritten, written}
-use Rattle.model.specs.EffectOf
 use Rattle.model.proofs.Version1.{home}
 use Rattle.laws.proofs.Facts.{Facts}
 use Rattle.laws.proofs.Owns.{own}
@@ -31,7 +28,7 @@ use Rattle.laws.proofs.Slots.{size, header-marked, held, Owned, entry-apart}
 use Rattle.places.proofs.Arrivals.{EntryOf}
 use Rattle.places.proofs.Entries.{leads, among, entry-slot, entry-inside, file-owned}
 use Rattle.changes.specs.Asked.{Writing}
-use Rattle.changes.proofs.Entries.{file-fields, entry-position, entry-good, own-few}
+use Rattle.changes.proofs.Entries.{file-fields, entry-good, own-few}
 use Rattle.changes.proofs.Writes.{pages-rise}
 
 module _ (b : Bytes) (f : Facts b) (p : Path) (at begins : ℕ) (x : EntryOf b p at begins) {start k : ℕ} (is : entryAt b at ≡ aFile (isLocked b at) (nameAt b at) (dateAt b at) start k) where
@@ -91,12 +88,3 @@ module _ (b : Bytes) (f : Facts b) (p : Path) (at begins : ℕ) (x : EntryOf b p
       space = space;
       fits = omega (arith, few);
     }
-
--- what a write makes of the bytes: a write of none changes nothing
-pub bytes-written : (b : Bytes) (p : Path) (at begins : ℕ) → EntryOf b p at begins → (from : ℕ) (v : Bytes) → 0 < length v → rewritten at from v b ≡ written p from v b
-unfolding EffectOf.written
-bytes-written b p at begins x from v h = sym (rw (ne-eqb (length v) 0 (λ e. omega arith), entry-position b p at begins x))
-
-pub none-written : (b : Bytes) (p : Path) (from : ℕ) (v : Bytes) → length v ≡ 0 → b ≡ written p from v b
-unfolding EffectOf.written
-none-written b p from v h = sym (rw (eq-eqb (length v) 0 h))

@@ -1,17 +1,17 @@
-// What make, write, remove and lock do to the bytes of an image once they are granted: an entry is put, changed or cleared, and its chain grows or goes.
+// What make, write and remove do to the bytes of an image once they are granted: an entry is put, changed or cleared, and its chain grows or goes.
 // Nothing is judged here. What a function asks of the image holds on every sound one, and its contract is the model's effect, byte for byte.
 ghost use mathlib.Core.Path.{_≡_};
 ghost use Prim.Native.Nat.{_+_, _<_, _≤_};
 ghost use mathlib.Core.List.{foldl};
 ghost use lib.ListN.{length, set};
-ghost use Rattle.volume.specs.Bytes.{byteAt, put, le16};
+ghost use Rattle.volume.specs.Bytes.{put, le16};
 ghost use Rattle.volume.specs.Lists.{all, first};
 ghost use Rattle.volume.specs.Chain.{chain};
 ghost use Rattle.volume.specs.Field.{byte};
 ghost use Rattle.volume.specs.Geometry as On;
 ghost use Rattle.model.specs.Layout.{version1, pageCount, link};
 ghost use Rattle.model.specs.Entry.{entries, entryAt, newEntry};
-ghost use Rattle.model.specs.Effect.{isVacant, rewritten, withLock};
+ghost use Rattle.model.specs.Effect.{isVacant, rewritten};
 ghost use Rattle.chains.specs.Asked.{Inside as PagesInside, Returned};
 ghost use Rattle.walk.specs.Steps.{spotOf, Inside};
 ghost use Rattle.changes.specs.Asked.{Making, Writing};
@@ -72,34 +72,7 @@ pub fn remove_entry(image: &mut [u8], entry: usize, start: Page, k: usize)
     image[entry] = 0;
 }
 
-// ---- lock and unlock
-
-// A file's flags with the mark set or cleared; the other bits stay (02 §10).
-fn with_lock(flags: u8, locked: bool) -> u8
-    ensures { λ r. ⌜ r ≡ withLock locked flags ⌝ }
-{
-    let unlocked = flags - 64 * (flags / 64 % 2);
-    if locked { unlocked + 64 } else { unlocked }
-}
-
-// Sets or clears the mark of an entry. No other byte changes.
-pub fn lock_entry(image: &mut [u8], entry: usize, locked: bool)
-    requires { ⌜ entry < length (now image) ⌝ }
-    ensures { λ _. ⌜ now (image .exit) ≡ set (now (image .entry)) entry (withLock locked (byteAt (now (image .entry)) entry)) ⌝ }
-{
-    image[entry] = with_lock(image[entry], locked);
-}
-
 // ---- the bytes of an entry
-
-// Puts bytes into the image. The routine that copies is lent their place alone, and cannot reach past it.
-fn put(image: &mut [u8], at: usize, source: &[u8])
-    requires { ⌜ at + length (now source) ≤ length (now image) ⌝ }
-    ensures { λ _. ⌜ now (image .exit) ≡ put at (now (source .entry)) (now (image .entry)) ⌝ }
-{
-    let end = at + source.len();
-    pages::copy_in(&mut image[at..end], 0, source);
-}
 
 // A size as an entry has it: two bytes, the low one first.
 fn size_bytes(size: usize) -> [u8; 2]
@@ -194,7 +167,7 @@ pub fn write_entry(
     let joint = joint_of(image, entry, start, held);
     chains::grow(image, n, joint, wanted - held);
     let sized = size_bytes(new_size);
-    put(image, entry + 18, &sized);
+    entry_bytes::put(image, entry + 18, &sized);
     // Growth may have put it there: nothing here leans on a file having pages before.
     let first = fields::start_of(image, entry);
     chains::write_chain(image, first, wanted, position, bytes);

@@ -1,3 +1,2 @@
-pub mod Stops
 pub mod Fits
 pub mod Codes

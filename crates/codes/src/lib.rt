@@ -3,21 +3,23 @@
 use judge::Fault;
 use refusals::Refusal;
 ghost use mathlib.Core.Path.{_≡_};
+ghost use Rattle.model.specs.Call.{isFile};
 ghost use Rattle.model.specs.Meaning.{faultTold};
 ghost use Rattle.judge.specs.Answers.{faultOf};
 ghost use Rattle.refusals.specs.Told.{told};
 ghost use Rattle.codes.specs.Codes.{packed, refusalCode, Fits};
+ghost use Rattle.codes.specs.Outs.{lockNumber};
 
-// The three numbers of a place as one.
-fn pack(a: usize, b: usize, c: usize) -> u64
+// The three numbers of a place as one. Places are packed the same in version 2.
+pub fn pack(a: usize, b: usize, c: usize) -> u64
     requires { ⌜ Fits (a, b, c) ⌝ }
     ensures { λ n. ⌜ n ≡ packed (a, b, c) ⌝ }
 {
     a as u64 + 65536 * (b as u64 + 65536 * c as u64)
 }
 
-// Where the image is unsound.
-fn fault_place(fault: Fault) -> u64
+// Where the image is unsound. A fault is told the same in version 2.
+pub fn fault_place(fault: Fault) -> u64
     requires { ⌜ Fits (faultTold (faultOf fault) .place) ⌝ }
     ensures { λ n. ⌜ n ≡ packed (faultTold (faultOf fault) .place) ⌝ }
 {
@@ -51,4 +53,11 @@ pub fn code(r: Refusal) -> u64
     ensures { λ n. ⌜ n ≡ refusalCode (told r) ⌝ }
 {
     refusals::number(r) as u64 + 256 * place(r)
+}
+
+// A file's lock as a number; it is told the same in version 2.
+pub fn lock_number(locked: bool) -> u64
+    ensures { λ n. ⌜ n ≡ lockNumber (isFile locked) ⌝ }
+{
+    if locked { 1 } else { 0 }
 }

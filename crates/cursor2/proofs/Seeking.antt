@@ -69,6 +69,11 @@ module _ {s : Shape} {n : ℕ} {b : Bytes} {c : Cursor} (t : Stands s n b c) whe
   pub entry-in : Roomy (s .size) n → positionAt s n c + 32 ≤ length b
   entry-in r = omega (arith, entry-lies r (c .page .0) (c .number) (t .within), page-lies)
 
+-- what is left grows shorter by the entry at hand
+pub row-shorter : (b : Bytes) (s : Shape) (n : ℕ) (c : Cursor) (r : Step) → rowFrom s n b c ≡ positionAt s n c ∷ rowAfter s n b r
+    → (next : Cursor) → r ≡ At next → length (rowFrom s n b next) < length (rowFrom s n b c)
+row-shorter b s n c r turn next e = omega (arith, ap (λ (l : List ℕ). length l) turn, ap (λ (x : Step). length (rowAfter s n b x)) e)
+
 -- ---- the search
 
 pub record Seeking (f : ℕ → Bool) (s : Shape) (n : ℕ) (b : Bytes) (c₀ c : Cursor) : Type 0 where
@@ -90,10 +95,7 @@ module _ {f : ℕ → Bool} {s : Shape} {n : ℕ} {b : Bytes} {c₀ c : Cursor} 
     unfolding first
     past = let t : f (positionAt s n c) ≡ false = ap f (sym here) ∙ e in sym (sym (o .left) ∙ ap (first f) row ∙ rw t)
 
-    -- or the search goes on behind it, with one entry fewer
-    pub fewer : {next : Cursor} → r ≡ At next → length (rowFrom s n b next) < length (rowFrom s n b c)
-    fewer z = omega (arith, ap (λ (xs : List ℕ). length xs) row, ap (λ (x : Step). length (rowAfter s n b x)) z)
-
+    -- or the search goes on behind it
     pub seek-next : {next : Cursor} → r ≡ At next → StandsAfter s n b r → Seeking f s n b c₀ next
     seek-next {next} z t = record {
       stands = subst (λ (x : Step). StandsAfter s n b x) z t;

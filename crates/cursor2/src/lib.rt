@@ -82,7 +82,7 @@ pub fn next_entry(image: &[u8], shape: Shape, pages: usize, cursor: Cursor) -> S
     })
 }
 
-fn is_vacant(image: &[u8], at: usize) -> bool
+pub fn is_vacant(image: &[u8], at: usize) -> bool
     requires { ⌜ at < length (now image) ⌝ }
     ensures { λ r. ⌜ r ≡ isVacant (entryAt (now (image .entry)) at) ⌝ }
 {

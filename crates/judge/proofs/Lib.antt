@@ -3,5 +3,6 @@ pub mod Names
 pub mod Image
 pub mod Placed
 pub mod Walk
-pub mod Rest
+pub mod Lost
 pub mod Owned
+pub mod Rest

@@ -4,15 +4,18 @@ use mathlib.Core.Logic.{_≢_}
 use Prim.Native.Nat.{ℕ, zero, suc, _+_, _-_, _*_, _≤_, _<_, min, max}
 use native.Mathlib.Omega.{arith}
 use native.Mathlib.Decide.{decLt}
-use mathlib.Core.Bool.{Bool, true, false, not, _&&_, and-true, and-assoc}
+use mathlib.Core.Bool.{Bool, true, not, _&&_, and-true, and-assoc}
 use mathlib.Core.List.{List}
 use lib.ListN.{length, getD}
 use lib.Dec.{eqb}
 use borrow.Author.Tests.{ne-eqb}
 use Rattle.volume.specs.Bytes.{Bytes}
+use Rattle.volume.specs.Geometry.{Geometry}
 use Rattle.model.specs.Judge.{Judged, clean, lostOr}
-use Rattle.judge.specs.Walk.{ownedFrom}
-use Rattle.judge.proofs.Rest.{lostFrom, page-owned, none-lost}
+use Rattle.shape.specs.declared.Shape.{Shape}
+use Rattle.shape.specs.Geometry.{geometryOf}
+use Rattle.judge.specs.Walk.{Searched, ownedFrom}
+use Rattle.judge.proofs.Lost.{lostFrom, page-owned, none-lost}
 
 -- ---- the loop: the answer so far is f, and page from + i comes next
 
@@ -46,27 +49,43 @@ has-owner : (marks : List ℕ) (p k : ℕ) → ownedFrom marks p (suc k) ≡ tru
 unfolding ownedFrom
 has-owner marks p k e = next-owned (getD marks p 0) (ownedFrom marks (p + 1) k) e
 
+-- the later ones of some pages that have their owner have theirs
+owned-behind : (marks : List ℕ) (i k p : ℕ) → ownedFrom marks p (i + k) ≡ true → ownedFrom marks (p + i) k ≡ true
+owned-behind marks zero k p e =
+    let here : p + 0 ≡ p = omega arith in
+    let all : 0 + k ≡ k = omega arith in
+    ap (λ (q : ℕ). ownedFrom marks q k) here ∙ ap (λ (n : ℕ). ownedFrom marks p n) (sym all) ∙ e
+owned-behind marks (suc i) k p e =
+    let here : p + suc i ≡ p + 1 + i = omega arith in
+    let all : suc (i + k) ≡ suc i + k = omega arith in
+    ap (λ (q : ℕ). ownedFrom marks q k) here
+    ∙ owned-behind marks i k (p + 1) (has-owner marks p (i + k) (ap (λ (n : ℕ). ownedFrom marks p n) all ∙ e) .1)
+
 -- the k pages from p on have their owner, the search ends among them, and it has come to p
-none-among : (b : Bytes) (marks : List ℕ) (k from to p : ℕ) → lostFrom b marks to from ≡ lostFrom b marks to p → ownedFrom marks p k ≡ true → to ≤ p + k
-    → clean marks ≡ lostOr (clean marks) (lostFrom b marks to from)
-none-among b marks zero from to p so-far e h = none-lost b marks from to p so-far (omega arith)
-none-among b marks (suc k) from to p so-far e h = elim (decLt p to) [
-  | yes l ↦ let here = has-owner marks p k e in none-among b marks k from to (p + 1) (page-owned b marks from to p so-far l (here .0)) (here .1) (omega arith)
-  | no l ↦ none-lost b marks from to p so-far (omega (arith, l))
+none-among : (g : Geometry) (b : Bytes) (marks : List ℕ) (k from to p : ℕ) → lostFrom g b marks to from ≡ lostFrom g b marks to p → ownedFrom marks p k ≡ true
+    → to ≤ p + k → clean marks ≡ lostOr (clean marks) (lostFrom g b marks to from)
+none-among g b marks zero from to p so-far e h = none-lost g b marks from to p so-far (omega arith)
+none-among g b marks (suc k) from to p so-far e h = elim (decLt p to) [
+  | yes l ↦ let here = has-owner marks p k e in none-among g b marks k from to (p + 1) (page-owned g b marks from to p so-far l (here .0)) (here .1) (omega arith)
+  | no l ↦ none-lost g b marks from to p so-far (omega (arith, l))
 ]
 
-pub eight-owned : (b : Bytes) (marks : List ℕ) (byte : ℕ) (r : Bool) → r ≡ ownedFrom marks (8 * byte) 8 → r ≡ true
-    → clean marks ≡ lostOr (clean marks) (lostFrom b marks (min (8 * byte + 8) (length marks)) (max 1 (8 * byte)))
-eight-owned b marks byte r e o = elim (decLt 0 byte) [
-  | yes l ↦
-      let p : max 1 (8 * byte) ≡ 8 * byte = omega (arith, l) in
-      none-among b marks 8 (max 1 (8 * byte)) _ (max 1 (8 * byte)) refl (ap (λ (q : ℕ). ownedFrom marks q 8) p ∙ sym e ∙ o) (omega arith)
-  | no l ↦
-      let p : max 1 (8 * byte) ≡ 8 * byte + 1 = omega (arith, l) in
-      none-among b marks 7 (max 1 (8 * byte)) _ (max 1 (8 * byte)) refl (ap (λ (q : ℕ). ownedFrom marks q 7) p ∙ has-owner marks (8 * byte) 7 (sym e ∙ o) .1) (omega (arith, l))
-]
+module _ (b : Bytes) (s : Shape) (marks : List ℕ) (byte : ℕ) where
+  -- of the eight only those behind the pages set aside are searched
+  pub eight-owned : Searched b s marks → (r : Bool) → r ≡ ownedFrom marks (8 * byte) 8 → r ≡ true
+      → clean marks ≡ lostOr (clean marks) (lostFrom (geometryOf s) b marks (min (8 * byte + 8) (length marks)) (max (s .aside) (8 * byte)))
+  eight-owned asked r e o =
+      let low = max (s .aside) (8 * byte) in
+      let left = max (s .aside) (8 * byte) - 8 * byte in
+      let all : left + (8 - left) ≡ 8 = omega (arith, asked .low) in
+      let here : 8 * byte + left ≡ low = omega arith in
+      none-among (geometryOf s) b marks (8 - left) low _ low refl
+      (ap (λ (p : ℕ). ownedFrom marks p (8 - left)) (sym here)
+      ∙ owned-behind marks left (8 - left) (8 * byte) (ap (λ (k : ℕ). ownedFrom marks (8 * byte) k) all ∙ sym e ∙ o))
+      (omega (arith, asked .low))
 
--- else they are looked at one by one
-pub byte-searched : (b : Bytes) (marks : List ℕ) (byte : ℕ) {from to : ℕ} → from ≡ max 1 (8 * byte) → to ≡ min (8 * byte + 8) (length marks) → {j : Judged}
-    → j ≡ lostOr (clean marks) (lostFrom b marks to from) → j ≡ lostOr (clean marks) (lostFrom b marks (min (8 * byte + 8) (length marks)) (max 1 (8 * byte)))
-byte-searched b marks byte low high e = rw (← low, ← high) e
+  -- else they are looked at one by one
+  pub byte-searched : {from to : ℕ} → from ≡ max (s .aside) (8 * byte) → to ≡ min (8 * byte + 8) (length marks) → {j : Judged}
+      → j ≡ lostOr (clean marks) (lostFrom (geometryOf s) b marks to from)
+      → j ≡ lostOr (clean marks) (lostFrom (geometryOf s) b marks (min (8 * byte + 8) (length marks)) (max (s .aside) (8 * byte)))
+  byte-searched low high e = rw (← low, ← high) e

@@ -1,201 +1,84 @@
--- After the walk: the search for a lost page goes by what is left of the pages to look at, and passes over pages that no bit marks.
-use mathlib.Core.Path.{_≡_, refl, sym, ap, _∙_}
+-- After the walk: a lost page decides, whatever the rest; without one the bits of the pages set aside and the count decide, in every version.
+use mathlib.Core.Path.{_≡_, refl, sym, ap, ap₂, _∙_}
 use mathlib.Core.Logic.{_≢_}
-use Prim.Native.Nat.{ℕ, zero, suc, _+_, _-_, _≤_, _<_, _*_, min, max}
-use native.Mathlib.Nat.{add-zero, zero-add}
-use native.Mathlib.Numerals.{add-one}
-use native.Mathlib.Omega.{arith}
-use native.Mathlib.Decide.{decLt}
+use Prim.Native.Nat.{ℕ}
 use mathlib.Core.Bool.{Bool, true, false, _&&_}
 use mathlib.Core.Option.{Option, none, some}
 use mathlib.Core.List.{List}
-use lib.ListN.{length, getD}
+use lib.ListN.{length}
 use lib.Dec.{eqb}
 use borrow.Author.Tests.{eq-eqb, ne-eqb}
 use Rattle.volume.specs.Bytes.{Bytes, if_then_else_}
-use Rattle.volume.specs.Lists.{first, countFrom}
-use Rattle.model.specs.Layout.{pageCount, freeCount, pageBit, zeroBits}
+use Rattle.model.specs.Layout.{version1, pageCount}
+use Rattle.model.specs.Layout as One
+use Rattle.model.specs.View.{View, zeroBits, freeCount}
 use Rattle.model.specs.Version1.{view}
+use Rattle.model.specs.Sound.{markedBelow}
 use Rattle.model.specs.Judge as Model
-use Rattle.model.specs.Judge.{badCount, lostPage, Judged, fault, clean, lostOr, judgeRest}
-use Rattle.bitmap.specs.Words.{Clear}
-use Rattle.judge.specs.Walk.{isLost}
+use Rattle.model.specs.Judge.{badCount, Judged, fault, clean, lostOr, judgeRest}
+use Rattle.judge.specs.Walk.{Marked}
 use Rattle.judge.specs.declared.Check.{Check}
 use Rattle.judge.specs.declared.Check.the-variants.{Clean, Faulty}
 use Rattle.judge.specs.declared.Fault.{Fault}
 use Rattle.judge.specs.Answers.{faultOf, outcome}
 use Rattle.judge.proofs.Marks.{clean-of, fault-of, never}
+use Rattle.judge.proofs.Lost.{lostFrom}
 
--- the first of two answers
-abbrev pub orElse : Option ℕ → Option ℕ → Option ℕ
-orElse none r = r
-orElse (some x) r = some x
+lost-faulty : (m : List ℕ) {x : Model.Fault} (rest : Judged) (l : Option ℕ) → fault x ≡ lostOr (clean m) l → fault x ≡ lostOr rest l
+unfolding lostOr
+lost-faulty m rest none e = never (sym e)
+lost-faulty m rest (some p) e = e
 
-first-split : (f : ℕ → Bool) (k m i : ℕ) → first f (countFrom i (k + m)) ≡ orElse (first f (countFrom i k)) (first f (countFrom (i + k) m))
-unfolding first countFrom
-first-split f zero m i = rw (add-zero i, zero-add m) refl
-first-split f (suc k) m i =
-    let e : suc k + m ≡ suc (k + m) = omega arith in
-    let next : i + suc k ≡ suc i + k = omega arith in
-    rw (e, next, first-split f k m (suc i)) (here (f i))
-  where
-    here : (t : Bool) → (if t then some i else orElse (first f (countFrom (suc i) k)) (first f (countFrom (suc i + k) m)))
-        ≡ orElse (if t then some i else first f (countFrom (suc i) k)) (first f (countFrom (suc i + k) m))
-    here true = refl
-    here false = refl
+lost-clean : (m : List ℕ) (rest : Judged) (l : Option ℕ) → clean m ≡ lostOr (clean m) l → rest ≡ lostOr rest l
+unfolding lostOr
+lost-clean m rest none e = refl
+lost-clean m rest (some p) e = never e
 
-module _ (b : Bytes) (marks : List ℕ) where
-  -- the lowest lost page of n from p on
-  abbrev pub lostFrom : (n p : ℕ) → Option ℕ
-  lostFrom n p = first (isLost b marks) (countFrom p (n - p))
+-- ---- of any view, where the answer of the search is q
 
-  turn : (n p : ℕ) (c : Bool) → p < n → isLost b marks p ≡ c → lostFrom n p ≡ (if c then some p else lostFrom n (p + 1))
-  unfolding first countFrom
-  turn n p c h l = let e : n - p ≡ suc (n - (p + 1)) = omega arith in rw (e, l, add-one p)
+module _ (v : View) (m : List ℕ) (q : Check)
+    (lost : outcome q m ≡ lostOr (clean m) (lostFrom (v .geometry) (v .bytes) m (v .pages) (v .geometry .aside))) where
+  abbrev lowest : Option ℕ
+  lowest = lostFrom (v .geometry) (v .bytes) m (v .pages) (v .geometry .aside)
 
-  lost-here : (n p : ℕ) → p < n → getD marks p 0 ≡ 0 → pageBit b p ≡ 1 → lostFrom n p ≡ some p
-  lost-here n p h m k = turn n p true h (rw (eq-eqb _ _ m, eq-eqb _ _ k))
+  abbrev verdict : (marked counted : Bool) → Judged
+  verdict marked counted = if marked && counted then clean m else fault badCount
 
-  owned-here : (n p : ℕ) → p < n → getD marks p 0 ≢ 0 → lostFrom n p ≡ lostFrom n (p + 1)
-  owned-here n p h m = turn n p false h (rw (ne-eqb _ _ m))
+  pub lost-decides : (x : Fault) → q ≡ Faulty x → fault (faultOf x) ≡ judgeRest v m
+  unfolding judgeRest
+  lost-decides x e = lost-faulty m _ lowest (fault-of m lost e)
 
-  free-here : (n p : ℕ) → p < n → getD marks p 0 ≡ 0 → pageBit b p ≢ 1 → lostFrom n p ≡ lostFrom n (p + 1)
-  free-here n p h m k = turn n p false h (rw (eq-eqb _ _ m, ne-eqb _ _ k))
+  pub none-lost-decides : q ≡ Clean → {marked counted : Bool} → markedBelow v (v .geometry .aside) ≡ marked
+      → eqb (freeCount v) (zeroBits v (v .pages)) ≡ counted → verdict marked counted ≡ judgeRest v m
+  unfolding judgeRest
+  none-lost-decides e k c =
+      ap₂ verdict (sym k) (sym c)
+      ∙ lost-clean m (verdict (markedBelow v (v .geometry .aside)) (eqb (freeCount v) (zeroBits v (v .pages)))) lowest (clean-of lost e)
 
-  lost-none : (n p : ℕ) → n ≤ p → lostFrom n p ≡ none
-  unfolding first countFrom
-  lost-none n p h = let e : n - p ≡ 0 = omega arith in rw e
+-- ---- of version 1
 
-  -- the lowest of some is the lowest of all, and where there is none the search goes on behind them
-  lost-on : (to n p : ℕ) → p ≤ to → to ≤ n → lostFrom n p ≡ orElse (lostFrom to p) (lostFrom n to)
-  lost-on to n p l h =
-      let all : n - p ≡ (to - p) + (n - to) = omega arith in
-      let end : p + (to - p) ≡ to = omega arith in
-      ap (λ (k : ℕ). first (isLost b marks) (countFrom p k)) all ∙ first-split (isLost b marks) (to - p) (n - to) p
-      ∙ ap (λ (i : ℕ). orElse (lostFrom to p) (first (isLost b marks) (countFrom i (n - to)))) end
+module _ (b : Bytes) (m : List ℕ) (marked : Marked b m) (q : Check) (lost : outcome q m ≡ lostOr (clean m) (lostFrom version1 b m (length m) 1)) where
+  searched : outcome q m ≡ lostOr (clean m) (lostFrom version1 b m (pageCount b) 1)
+  searched = lost ∙ ap (λ (n : ℕ). lostOr (clean m) (lostFrom version1 b m n 1)) (marked .each)
 
-  -- the pages from `from` on, up to page p: the search goes on, or ends with page p, or with none
-  module _ (from to p : ℕ) (so-far : lostFrom to from ≡ lostFrom to p) where
-    pub page-lost : p < to → getD marks p 0 ≡ 0 → (set : ℕ) → set ≡ pageBit b p → set ≡ 1 → fault (lostPage p) ≡ lostOr (clean marks) (lostFrom to from)
-    unfolding lostOr
-    page-lost h m set e k = rw (so-far, lost-here to p h m (sym e ∙ k))
+  pub rest-faulty : (x : Fault) → q ≡ Faulty x → fault (faultOf x) ≡ judgeRest (view b) m
+  rest-faulty x e = lost-decides (view b) m q searched x e
 
-    pub page-free : p < to → getD marks p 0 ≡ 0 → (set : ℕ) → set ≡ pageBit b p → set ≢ 1 → lostFrom to from ≡ lostFrom to (p + 1)
-    page-free h m set e k = so-far ∙ free-here to p h m (λ (o : pageBit b p ≡ 1). k (e ∙ o))
+  module _ (e : q ≡ Clean) (set : ℕ) (bit : set ≡ One.pageBit b 0) where
+    pub rest-unmarked : set ≢ 1 → fault badCount ≡ judgeRest (view b) m
+    rest-unmarked h = none-lost-decides (view b) m q searched e {marked = false} (ne-eqb _ _ (λ z. h (bit ∙ z))) refl
 
-    pub page-owned : p < to → getD marks p 0 ≢ 0 → lostFrom to from ≡ lostFrom to (p + 1)
-    page-owned h m = so-far ∙ owned-here to p h m
+    module _ (one : set ≡ 1) (zeros : ℕ) (bits : zeros ≡ One.zeroBits b (length m)) (free : ℕ) (byte : free ≡ One.freeCount b) where
+      zeros-are : zeros ≡ One.zeroBits b (pageCount b)
+      zeros-are = bits ∙ ap (λ (n : ℕ). One.zeroBits b n) (marked .each)
 
-    pub none-lost : to ≤ p → clean marks ≡ lostOr (clean marks) (lostFrom to from)
-    unfolding lostOr
-    none-lost h = rw (so-far, lost-none to p h)
+      header-marked : eqb (One.pageBit b 0) 1 ≡ true
+      header-marked = eq-eqb _ _ (sym bit ∙ one)
 
-  -- behind the pages of byte q of the bitmap: those of the next byte, or none
-  behind-byte : (n q : ℕ) → lostFrom n (min (8 * q + 8) n) ≡ lostFrom n (max 1 (8 * (q + 1)))
-  behind-byte n q = elim (decLt (8 * q + 8) n) [
-    | yes l ↦ let e : min (8 * q + 8) n ≡ max 1 (8 * (q + 1)) = omega (arith, l) in ap (lostFrom n) e
-    | no l ↦ lost-none n (min (8 * q + 8) n) (omega (arith, l)) ∙ sym (lost-none n (max 1 (8 * (q + 1))) (omega (arith, l)))
-  ]
+      pub rest-miscounted : free ≢ zeros → fault badCount ≡ judgeRest (view b) m
+      rest-miscounted h =
+          none-lost-decides (view b) m q searched e {marked = true} {counted = false} header-marked (ne-eqb _ _ (λ z. h (byte ∙ z ∙ sym zeros-are)))
 
-  unmarked-here : (n p : ℕ) → pageBit b p ≡ 0 → lostFrom n p ≡ lostFrom n (p + 1)
-  unmarked-here n p e = elim (decLt p n) [
-    | yes l ↦ turn n p false l (not-marked (eqb (getD marks p 0) 0))
-    | no l ↦ lost-none n p (omega (arith, l)) ∙ sym (lost-none n (p + 1) (omega (arith, l)))
-  ]
-    where
-      not-marked : (t : Bool) → (t && eqb (pageBit b p) 1) ≡ false
-      not-marked true = ne-eqb (pageBit b p) 1 (λ (o : pageBit b p ≡ 1). absurd (omega (arith, e, o)))
-      not-marked false = refl
-
-  unmarked-run : (k n p : ℕ) → ((j : ℕ) → p ≤ j → j < p + k → pageBit b j ≡ 0) → lostFrom n p ≡ lostFrom n (p + k)
-  unmarked-run zero n p h = ap (lostFrom n) (sym (add-zero p))
-  unmarked-run (suc k) n p h =
-      let next : (p + 1) + k ≡ p + suc k = omega arith in
-      unmarked-here n p (h p (omega arith) (omega arith)) ∙ unmarked-run k n (p + 1) (λ j l m. h j (omega arith) (omega arith)) ∙ ap (lostFrom n) next
-
-  -- k bytes of the bitmap from byte q on that mark no page
-  unmarked-bytes : (n : ℕ) {q k : ℕ} → Clear b q k → lostFrom n (max 1 (8 * q)) ≡ lostFrom n (max 1 (8 * (q + k)))
-  unmarked-bytes n {q} {k} h =
-      let e : max 1 (8 * q) + (max 1 (8 * (q + k)) - max 1 (8 * q)) ≡ max 1 (8 * (q + k)) = omega arith in
-      unmarked-run (max 1 (8 * (q + k)) - max 1 (8 * q)) n (max 1 (8 * q)) (λ j l m. h .each j (omega arith) (omega arith)) ∙ ap (lostFrom n) e
-
--- ---- a lost page decides, whatever the rest; without one the rest decides
-
-module _ (b : Bytes) (m : List ℕ) where
-  lost-faulty : {x : Model.Fault} (rest : Judged) (l : Option ℕ) → fault x ≡ lostOr (clean m) l → fault x ≡ lostOr rest l
-  unfolding lostOr
-  lost-faulty rest none e = never (sym e)
-  lost-faulty rest (some p) e = e
-
-  lost-clean : (rest : Judged) (l : Option ℕ) → clean m ≡ lostOr (clean m) l → rest ≡ lostOr rest l
-  unfolding lostOr
-  lost-clean rest none e = refl
-  lost-clean rest (some p) e = never e
-
-  -- the same of the first of two answers
-  some-faulty : {x : Model.Fault} (l r : Option ℕ) → fault x ≡ lostOr (clean m) l → fault x ≡ lostOr (clean m) (orElse l r)
-  unfolding lostOr
-  some-faulty none r e = never (sym e)
-  some-faulty (some p) r e = e
-
-  some-clean : (l r : Option ℕ) → clean m ≡ lostOr (clean m) l → orElse l r ≡ r
-  unfolding lostOr
-  some-clean none r e = refl
-  some-clean (some p) r e = never e
-
-  -- the rest of the judge, where the answer of the search is q: bit 0 and the count
-  module _ (q : Check) (lost : outcome q m ≡ lostOr (clean m) (lostFrom b m (pageCount b) 1)) where
-    pub rest-faulty : (x : Fault) → q ≡ Faulty x → fault (faultOf x) ≡ judgeRest (view b) m
-    unfolding judgeRest
-    rest-faulty x e = lost-faulty _ (lostFrom b m (pageCount b) 1) (fault-of m lost e)
-
-    module _ (e : q ≡ Clean) (set : ℕ) (marked : set ≡ pageBit b 0) where
-      pub rest-unmarked : set ≢ 1 → fault badCount ≡ judgeRest (view b) m
-      unfolding judgeRest
-      rest-unmarked h = rw (← lost-clean _ (lostFrom b m (pageCount b) 1) (clean-of lost e), ← marked, ne-eqb _ _ h)
-
-      module _ (one : set ≡ 1) (each : length m ≡ pageCount b) (zeros : ℕ) (bits : zeros ≡ zeroBits b (length m)) (free : ℕ) (byte : free ≡ freeCount b) where
-        pub rest-miscounted : free ≢ zeros → fault badCount ≡ judgeRest (view b) m
-        unfolding judgeRest
-        rest-miscounted h =
-            rw (← lost-clean _ (lostFrom b m (pageCount b) 1) (clean-of lost e), ← marked, eq-eqb _ _ one, ← each, ← bits, ← byte, ne-eqb _ _ h)
-
-        pub rest-clean : free ≡ zeros → clean m ≡ judgeRest (view b) m
-        unfolding judgeRest
-        rest-clean h =
-            rw (← lost-clean _ (lostFrom b m (pageCount b) 1) (clean-of lost e), ← marked, eq-eqb _ _ one, ← each, ← bits, ← byte, eq-eqb _ _ h)
-
--- ---- one byte of the bitmap a turn: the pages before byte `byte` have none that is lost
-
-module _ (b : Bytes) (m : List ℕ) (byte : ℕ) (so-far : lostFrom b m (length m) 1 ≡ lostFrom b m (length m) (max 1 (8 * byte))) where
-  -- the answer for the pages of that byte is q
-  module _ (more : 8 * byte < length m) (q : Check)
-      (here : outcome q m ≡ lostOr (clean m) (lostFrom b m (min (8 * byte + 8) (length m)) (max 1 (8 * byte)))) where
-    abbrev from : ℕ
-    from = max 1 (8 * byte)
-
-    abbrev to : ℕ
-    to = min (8 * byte + 8) (length m)
-
-    split : lostFrom b m (length m) 1 ≡ orElse (lostFrom b m to from) (lostFrom b m (length m) to)
-    split = so-far ∙ lost-on b m to (length m) from (omega arith) (omega arith)
-
-    pub byte-faulty : length m ≡ pageCount b → (x : Fault) → q ≡ Faulty x → fault (faultOf x) ≡ lostOr (clean m) (lostFrom b m (pageCount b) 1)
-    byte-faulty each x e = rw (← each, split) (some-faulty b m (lostFrom b m to from) (lostFrom b m (length m) to) (fault-of m here e))
-
-    pub byte-clean : q ≡ Clean → (clear step : ℕ) → clear ≡ 0 → step ≡ max 1 clear
-        → lostFrom b m (length m) 1 ≡ lostFrom b m (length m) (max 1 (8 * (byte + step)))
-    byte-clean e clear step c s =
-        let next : byte + 1 ≡ byte + step = omega arith in
-        split ∙ some-clean b m (lostFrom b m to from) (lostFrom b m (length m) to) (clean-of here e)
-        ∙ behind-byte b m (length m) byte ∙ ap (λ (k : ℕ). lostFrom b m (length m) (max 1 (8 * k))) next
-
-  pub bytes-clear : (clear step : ℕ) → Clear b byte clear → clear ≢ 0 → step ≡ max 1 clear
-      → lostFrom b m (length m) 1 ≡ lostFrom b m (length m) (max 1 (8 * (byte + step)))
-  bytes-clear clear step c n s =
-      let next : byte + clear ≡ byte + step = omega (arith, n) in
-      so-far ∙ unmarked-bytes b m (length m) c ∙ ap (λ (k : ℕ). lostFrom b m (length m) (max 1 (8 * k))) next
-
-  pub bytes-done : length m ≤ 8 * byte → length m ≡ pageCount b → clean m ≡ lostOr (clean m) (lostFrom b m (pageCount b) 1)
-  unfolding lostOr
-  bytes-done h each = rw (← each, so-far, lost-none b m (length m) (max 1 (8 * byte)) (omega arith))
+      pub rest-clean : free ≡ zeros → clean m ≡ judgeRest (view b) m
+      rest-clean h =
+          none-lost-decides (view b) m q searched e {marked = true} {counted = true} header-marked (eq-eqb _ _ (sym byte ∙ h ∙ zeros-are))

@@ -1,13 +1,15 @@
--- What the judges' contracts name besides the model's definitions: the owner marks that are lent, and the entries before one.
+-- What the judges' contracts name besides the model's definitions: the owner marks that are lent, the entries before one, and what a lost page is.
 use mathlib.Core.Path.{_≡_}
-use Prim.Native.Nat.{ℕ, zero, suc, _+_, _*_, _≤_}
+use Prim.Native.Nat.{ℕ, zero, suc, _+_, _*_, _/_, _≤_}
 use mathlib.Core.Bool.{Bool, true, not, _&&_}
 use mathlib.Core.List.{List, [], _∷_}
 use lib.ListN.{length, getD}
 use lib.Dec.{eqb}
 use Rattle.volume.specs.Bytes.{Bytes}
-use Rattle.model.specs.Layout.{pageCount, pageBit}
+use Rattle.volume.specs.Geometry.{Geometry, pageBit}
+use Rattle.model.specs.Layout.{pageCount}
 use Rattle.model.specs.Entry.{entriesStart}
+use Rattle.shape.specs.declared.Shape.{Shape}
 
 -- a mark for each page of the image; page numbers are bytes, so there are at most 256
 pub record Marked (b : Bytes) (marks : List ℕ) : Type 0 where
@@ -24,9 +26,17 @@ unfoldable pub earlier : (page i : ℕ) → List ℕ
 earlier p zero = []
 earlier p (suc i) = position p i ∷ earlier p i
 
+-- what the search for a lost page asks of an image of any shape: the pages set aside are among the first eight, and the bitmap lies in the image,
+-- with a word from each of its bytes on
+pub record Searched (b : Bytes) (s : Shape) (marks : List ℕ) : Type 0 where
+  pub low : s .aside ≤ 8
+  pub some : s .aside ≤ length marks
+  pub few : length marks ≤ 65536
+  pub lies : s .map + length marks / 8 + 8 ≤ length b
+
 -- page p is marked in the bitmap and has no owner
-abbrev pub isLost : Bytes → List ℕ → ℕ → Bool
-isLost b marks p = eqb (getD marks p 0) 0 && eqb (pageBit b p) 1
+abbrev pub isLost : Geometry → Bytes → List ℕ → ℕ → Bool
+isLost g b marks p = eqb (getD marks p 0) 0 && eqb (pageBit g b p) 1
 
 -- the k pages from p on have their owner
 unfoldable pub ownedFrom : List ℕ → (p k : ℕ) → Bool

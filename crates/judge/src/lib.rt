@@ -1,8 +1,10 @@
 // The judge of an image (01, "A sound image"; the order and the places of faults: 02 §2): a walk down the tree of directories that
 // gives each page its owner and stops at the first fault.
 // No function changes the image. The one public function has no `requires`: it says of any bytes what they are.
+use bitmap::VERSION1;
 use fields::Entry;
 use fields::Page;
+use shape::Shape;
 ghost use mathlib.Core.Path.{_≡_};
 ghost use Prim.Native.Nat.{ℕ, suc, _+_, _-_, _*_, _≤_, _<_, min, max};
 ghost use lib.ListN.{length, replicate};
@@ -15,7 +17,8 @@ ghost use Rattle.model.specs.Sound.{isNamed};
 ghost use Rattle.model.specs.Judge.{clean, judgePage, judgeChain, freshName, judgeEntry, judgeDirectory, lostOr, judgeRest, judgeWalk, judge};
 ghost use Rattle.view_laws.specs.Marks.{unowned};
 ghost use Rattle.judge.specs.Answers.{faultOf, outcome, findingOf, judgedAs};
-ghost use Rattle.judge.specs.Walk.{Marked, isLost, ownedFrom, position, earlier};
+ghost use Rattle.shape.specs.Geometry.{geometryOf};
+ghost use Rattle.judge.specs.Walk.{Marked, Searched, isLost, ownedFrom, position, earlier};
 
 // The first fault of an image, with its place; in brackets the number of paper 02 §2, which `refusals` tells.
 pub enum Fault {
@@ -196,15 +199,16 @@ fn judge_directory(image: &[u8], marks: &mut [u8], directory: Page) -> Check
 
 // ---- the image
 
-// The lowest page from `from` on and below `to` that is marked in the bitmap and has no owner.
-fn lost_among(image: &[u8], marks: &[u8], from: usize, to: usize) -> Check
-    requires { ⌜ Marked (now image) (now marks) × (to ≤ length (now marks)) ⌝ }
+// The lowest page from `from` on and below `to` that is marked in the bitmap and has no owner. Here and below the shape is any: where the bitmap is
+// and how many pages are set aside is all that the two versions (02 §12) differ in.
+fn lost_among(image: &[u8], shape: Shape, marks: &[u8], from: usize, to: usize) -> Check
+    requires { ⌜ Searched (now image) shape (now marks) × (to ≤ length (now marks)) ⌝ }
     ensures { λ r. ⌜ outcome r (now (marks .entry))
-        ≡ lostOr (clean (now (marks .entry))) (first (isLost (now (image .entry)) (now (marks .entry))) (countFrom from (to - from))) ⌝ }
+        ≡ lostOr (clean (now (marks .entry))) (first (isLost (geometryOf shape) (now (image .entry)) (now (marks .entry))) (countFrom from (to - from))) ⌝ }
 {
     for p in from..to {
         if marks[p] == 0 {
-            if bitmap::bit(image, Page(p)) == 1 {
+            if shape_bitmap::bit(image, shape, Page(p)) == 1 {
                 return Check::Faulty(Fault::LostPage(Page(p)));
             }
         }
@@ -224,12 +228,12 @@ fn eight_are_owned(marks: &[u8], from: usize) -> bool
     owned
 }
 
-// The lowest lost page among those of one byte of the bitmap. The header is no such page: `judge_rest` asks for its bit.
-fn lost_in_byte(image: &[u8], marks: &[u8], byte: usize) -> Check
-    requires { ⌜ Marked (now image) (now marks) × (8 * byte < length (now marks)) ⌝ }
+// The lowest lost page among those of one byte of the bitmap. A page set aside is none: the rest of the judge asks for its bit.
+fn lost_in_byte(image: &[u8], shape: Shape, marks: &[u8], byte: usize) -> Check
+    requires { ⌜ Searched (now image) shape (now marks) × (8 * byte < length (now marks)) ⌝ }
     ensures { λ r. ⌜ outcome r (now (marks .entry))
-        ≡ lostOr (clean (now (marks .entry))) (first (isLost (now (image .entry)) (now (marks .entry)))
-        (countFrom (max 1 (8 * byte)) (min (8 * byte + 8) (length (now (marks .entry))) - max 1 (8 * byte)))) ⌝ }
+        ≡ lostOr (clean (now (marks .entry))) (first (isLost (geometryOf shape) (now (image .entry)) (now (marks .entry)))
+        (countFrom (max (shape .aside) (8 * byte)) (min (8 * byte + 8) (length (now (marks .entry))) - max (shape .aside) (8 * byte)))) ⌝ }
 {
     let from = 8 * byte;
     if from + 8 <= marks.len() {
@@ -239,25 +243,26 @@ fn lost_in_byte(image: &[u8], marks: &[u8], byte: usize) -> Check
     }
     lost_among(
         image,
+        shape,
         marks,
-        fields::larger(1, from),
+        fields::larger(shape.aside, from),
         fields::least(from + 8, marks.len()),
     )
 }
 
 // The lowest of all, a byte of the bitmap at a time, or a word: where no bit is set no page is lost.
-fn lost_page(image: &[u8], marks: &[u8]) -> Check
-    requires { ⌜ Marked (now image) (now marks) ⌝ }
+pub fn lost_page(image: &[u8], shape: Shape, marks: &[u8]) -> Check
+    requires { ⌜ Searched (now image) shape (now marks) ⌝ }
     ensures { λ r. ⌜ outcome r (now (marks .entry))
         ≡ lostOr (clean (now (marks .entry)))
-        (first (isLost (now (image .entry)) (now (marks .entry))) (countFrom 1 (pageCount (now (image .entry)) - 1))) ⌝ }
+        (first (isLost (geometryOf shape) (now (image .entry)) (now (marks .entry))) (countFrom (shape .aside) (length (now (marks .entry)) - shape .aside))) ⌝ }
 {
     let n = marks.len();
     let mut byte = 0;
     while 8 * byte < n {
-        let clear = bitmap::clear_bytes(image, byte);
+        let clear = shape_bitmap::clear_bytes(image, shape, byte);
         if clear == 0 {
-            let lost = lost_in_byte(image, marks, byte);
+            let lost = lost_in_byte(image, shape, marks, byte);
             if let Check::Faulty(fault) = lost {
                 return Check::Faulty(fault);
             }
@@ -272,7 +277,7 @@ fn judge_rest(image: &[u8], marks: &[u8]) -> Check
     requires { ⌜ Marked (now image) (now marks) ⌝ }
     ensures { λ r. ⌜ outcome r (now (marks .entry)) ≡ judgeRest (view (now (image .entry))) (now (marks .entry)) ⌝ }
 {
-    let lost = lost_page(image, marks);
+    let lost = lost_page(image, VERSION1, marks);
     if let Check::Faulty(fault) = lost {
         return Check::Faulty(fault);
     }

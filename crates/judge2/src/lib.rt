@@ -1,122 +1,162 @@
-// The pages of a version 2 image get their owner (paper 02 §2 and §12): one page, a file's chain, a directory's pages, and the root's after page 0.
-// No function changes the image. Faults are those of `judge`, told by the page that an entry stands on and its number there.
+// The judge of a version 2 image (paper 02 §2 and §12): a walk down the tree of directories that gives each page its owner, to the first fault.
+// No function changes the image. The one public function has no `requires`: it says of any bytes what they are.
+use cursor2::Cursor;
+use cursor2::Step;
+use fields::Entry;
 use fields::Page;
+use fields2::Header;
 use judge::Check;
 use judge::Fault;
 use shape::Shape;
+use shape2::Cartridge;
 ghost use mathlib.Core.Path.{_≡_};
-ghost use mathlib.Core.List.{tail};
-ghost use Rattle.model.specs.Judge.{clean, judgePage, judgeChain, judgePages};
-ghost use Rattle.model2.specs.Version2.{linkedPages, view2};
-ghost use Rattle.judge.specs.Answers.{faultOf, outcome};
-ghost use Rattle.judge2.specs.Ready.{Ready, follows};
+ghost use Prim.Native.Nat.{ℕ, suc, _≤_};
+ghost use lib.ListN.{length, replicate};
+ghost use Rattle.model.specs.Judge.{judgeEntry, judgeDirectory, judgeRoot, judgeView};
+ghost use Rattle.model2.specs.Entry.{entryAt};
+ghost use Rattle.model2.specs.Version2.{view2};
+ghost use Rattle.view_laws.specs.Marks.{unowned};
+ghost use Rattle.view_laws.proofs.Comes.{Inside};
+ghost use Rattle.judge.specs.Answers.{outcome};
+ghost use Rattle.cursor2.specs.Row.{positionAt};
+ghost use Rattle.known2.specs.Known.{Formed};
+ghost use Rattle.names2.specs.Reached.{earlier, Reached};
+ghost use Rattle.judge2.specs.Answers.{findingOf, concluded, judgedAs, Shaped};
 
-// A page gets its owner. `range` is the fault of a page that an entry cannot own, for only the entry knows its place.
-fn own_page(image: &[u8], shape: Shape, marks: &mut [u8], page: Page, range: Fault) -> Check
-    requires { ⌜ Ready (now image) shape (now marks) ⌝ }
-    ensures { λ r. ⌜ outcome r (now (marks .exit)) ≡ judgePage (view2 (now (image .entry))) (faultOf range) (page .0) (now (marks .entry)) ⌝ }
-{
-    let p = page.0;
-    if p < shape.aside {
-        return Check::Faulty(range);
-    }
-    if p >= marks.len() {
-        return Check::Faulty(range);
-    }
-    if marks[p] != 0 {
-        return Check::Faulty(Fault::OwnedTwice(page));
-    }
-    if shape_bitmap::bit(image, shape, page) != 1 {
-        return Check::Faulty(Fault::MarkedFree(page));
-    }
-    marks[p] = 1;
-    Check::Clean
+// What any bytes are: refused by 1, 2 or 26, unsound by their first fault, or sound, with their shape, N and the number of free pages.
+pub enum Judgement {
+    Sound(Cartridge, usize),
+    BadLength,
+    BadVersion,
+    BadShape,
+    Unsound(Fault),
 }
 
-// The k pages of a file get their owner; its entry is number i on page `on`. Behind the last of them stands 0.
-pub fn own_chain(
+// ---- the walk: a directory judges its entries, and an entry that is a directory is judged as one in turn
+
+// Judges entry `number` of a directory, at which the cursor stands, and all below it. A directory's pages get their owner before it is judged, so fewer
+// pages have none: any depth f from their number on is enough, and the walk ends. A fault is told by the cursor's own page and the number there (§12).
+fn judge_entry(
     image: &[u8],
     shape: Shape,
+    pages: usize,
     marks: &mut [u8],
-    on: Page,
-    i: usize,
-    k: usize,
-    start: Page,
+    directory: Page,
+    cursor: Cursor,
+    number: usize,
 ) -> Check
-    requires { ⌜ Ready (now image) shape (now marks) ⌝ }
-    ensures { λ r. ⌜ outcome r (now (marks .exit)) ≡ judgeChain (view2 (now (image .entry))) (on .0) i k 0 (start .0) (now (marks .entry)) ⌝ }
+    requires { ⌜ Formed (now image) shape pages × (length (now marks) ≡ pages) × Inside (view2 (now image)) (directory .0)
+        × Reached (now image) shape pages (view2 (now image) .entries (directory .0)) cursor number ⌝ }
+    ensures { λ r. ⌜ ((f : ℕ) → unowned (now (marks .entry)) ≤ f →
+        outcome r (now (marks .exit))
+        ≡ judgeEntry (judgeDirectory f (view2 (now (image .entry)))) (view2 (now (image .entry))) (directory .0) number
+        (earlier (view2 (now (image .entry)) .entries (directory .0)) number) (entryAt (now (image .entry)) (positionAt shape pages cursor))
+        (now (marks .entry))) ⌝ }
 {
-    let mut page = start;
-    let mut passed = 0;
-    while passed < k {
-        let owned = own_page(image, shape, marks, page, Fault::BadChain(on, i, passed));
-        if let Check::Faulty(fault) = owned {
+    let on = cursor.page;
+    let i = cursor.number;
+    match fields2::entry_at(image, cursor2::position_of(image, shape, pages, cursor)) {
+        Entry::Vacant => Check::Clean,
+        Entry::File(start, size) => {
+            if !names2::name_is_fresh(image, shape, pages, directory, cursor, number) {
+                return Check::Faulty(Fault::BadEntry(on, i));
+            }
+            let k = fields2::pages_for(shape, size);
+            owning2::own_chain(image, shape, marks, on, i, k, start)
+        }
+        Entry::Directory(start, size) => {
+            if size != shape.size {
+                return Check::Faulty(Fault::BadEntry(on, i));
+            }
+            if !names2::name_is_fresh(image, shape, pages, directory, cursor, number) {
+                return Check::Faulty(Fault::BadEntry(on, i));
+            }
+            let owned = owning2::own_directory(image, shape, marks, on, i, start);
+            if let Check::Faulty(fault) = owned {
+                return Check::Faulty(fault);
+            }
+            judge_directory(image, shape, pages, marks, start)
+        }
+    }
+}
+
+// Judges the entries of a directory in order, on all its pages. The root is the directory on page 0.
+fn judge_directory(
+    image: &[u8],
+    shape: Shape,
+    pages: usize,
+    marks: &mut [u8],
+    directory: Page,
+) -> Check
+    requires { ⌜ Formed (now image) shape pages × (length (now marks) ≡ pages) × Inside (view2 (now image)) (directory .0) ⌝ }
+    ensures { λ r. ⌜ ((f : ℕ) → unowned (now (marks .entry)) ≤ f →
+        outcome r (now (marks .exit)) ≡ judgeDirectory (suc f) (view2 (now (image .entry))) (directory .0) (now (marks .entry))) ⌝ }
+{
+    let mut cursor = cursor2::first_entry(image, shape, pages, directory);
+    let mut number = 0;
+    loop {
+        let judged = judge_entry(image, shape, pages, marks, directory, cursor, number);
+        if let Check::Faulty(fault) = judged {
             return Check::Faulty(fault);
         }
-        page = shape::link(image, shape, page);
-        passed += 1;
-    }
-    if page.0 != 0 {
-        return Check::Faulty(Fault::BadChain(on, i, passed));
-    }
-    Check::Clean
-}
-
-// The pages from `start` on by their links, to link 0 and at most so many: the definitions go no further either.
-fn own_linked(
-    image: &[u8],
-    shape: Shape,
-    marks: &mut [u8],
-    on: Page,
-    i: usize,
-    most: usize,
-    start: Page,
-) -> Check
-    requires { ⌜ Ready (now image) shape (now marks) ⌝ }
-    ensures { λ r. ⌜ outcome r (now (marks .exit))
-        ≡ judgePages (view2 (now (image .entry))) (on .0) i 0 (linkedPages (follows (now (image .entry))) most (start .0)) clean (now (marks .entry)) ⌝ }
-{
-    let mut page = start;
-    for passed in 0..most {
-        let owned = own_page(image, shape, marks, page, Fault::BadChain(on, i, passed));
-        if let Check::Faulty(fault) = owned {
-            return Check::Faulty(fault);
-        }
-        page = shape::link(image, shape, page);
-        if page.0 == 0 {
-            return Check::Clean;
+        number += 1;
+        match cursor2::next_entry(image, shape, pages, cursor) {
+            Step::At(next) => cursor = next,
+            Step::End => return Check::Clean,
         }
     }
-    Check::Clean
 }
 
-// The pages of a directory, whose entry is number i on page `on`.
-pub fn own_directory(
-    image: &[u8],
-    shape: Shape,
-    marks: &mut [u8],
-    on: Page,
-    i: usize,
-    start: Page,
-) -> Check
-    requires { ⌜ Ready (now image) shape (now marks) ⌝ }
-    ensures { λ r. ⌜ outcome r (now (marks .exit))
-        ≡ judgePages (view2 (now (image .entry))) (on .0) i 0 (view2 (now (image .entry)) .directoryPages (start .0)) clean (now (marks .entry)) ⌝ }
-{
-    let n = marks.len();
-    own_linked(image, shape, marks, on, i, n, start)
-}
+// ---- the image
 
-// The root has no entry: its pages after page 0 are told as those of entry 255 of page 0.
-pub fn own_root(image: &[u8], shape: Shape, marks: &mut [u8]) -> Check
-    requires { ⌜ Ready (now image) shape (now marks) ⌝ }
-    ensures { λ r. ⌜ outcome r (now (marks .exit))
-        ≡ judgePages (view2 (now (image .entry))) 0 255 0 (tail (view2 (now (image .entry)) .directoryPages 0)) clean (now (marks .entry)) ⌝ }
+// The walk alone: every owned page gets its owner mark, none having one at the beginning. The root's pages after page 0 come first (§12).
+fn own_pages(image: &[u8], shape: Shape, pages: usize, marks: &mut [u8]) -> Check
+    requires { ⌜ Formed (now image) shape pages × (now marks ≡ replicate pages 0) ⌝ }
+    ensures { λ r. ⌜ outcome r (now (marks .exit)) ≡ judgeRoot (view2 (now (image .entry))) ⌝ }
 {
-    let first = shape::link(image, shape, Page(0));
-    if first.0 == 0 {
-        return Check::Clean;
+    let owned = owning2::own_root(image, shape, marks);
+    if let Check::Faulty(fault) = owned {
+        return Check::Faulty(fault);
     }
-    let n = marks.len();
-    own_linked(image, shape, marks, Page(0), 255, n - 1, first)
+    judge_directory(image, shape, pages, marks, Page(0))
+}
+
+// The walk, and what comes after it.
+fn judge_all(image: &[u8], shape: Shape, pages: usize, marks: &mut [u8]) -> Check
+    requires { ⌜ Formed (now image) shape pages × (now marks ≡ replicate pages 0) ⌝ }
+    ensures { λ r. ⌜ outcome r (now (marks .exit)) ≡ judgeView (view2 (now (image .entry))) ⌝ }
+{
+    let judged = own_pages(image, shape, pages, marks);
+    if let Check::Faulty(fault) = judged {
+        return Check::Faulty(fault);
+    }
+    rest2::judge_rest(image, shape, marks)
+}
+
+// An image whose header is right. The free number of a sound one is the header's, for `judge_rest` has counted it.
+fn judge_formed(image: &[u8], cartridge: Cartridge) -> Judgement
+    requires { ⌜ Formed (now image) (cartridge .shape) (cartridge .pages) ⌝ }
+    ensures { λ r. ⌜ (findingOf r ≡ concluded (view2 (now (image .entry))) (judgeView (view2 (now (image .entry))))) × Shaped (now (image .entry)) r ⌝ }
+{
+    let shape = cartridge.shape;
+    let n = cartridge.pages;
+    let mut marks = [0u8; 1024];
+    let judged = judge_all(image, shape, n, &mut marks[..n]);
+    if let Check::Faulty(fault) = judged {
+        return Judgement::Unsound(fault);
+    }
+    let count = shape.count;
+    Judgement::Sound(cartridge, shape::load(image, count))
+}
+
+// The length is judged first, then the version, then the page code with the bitmap's bytes, then the rest: 1, 2 and 26 stand above the faults.
+pub fn judge_image(image: &[u8]) -> Judgement
+    ensures { λ r. ⌜ (findingOf r ≡ judgedAs (now (image .entry))) × Shaped (now (image .entry)) r ⌝ }
+{
+    match fields2::read_header(image) {
+        Header::BadLength => Judgement::BadLength,
+        Header::BadVersion => Judgement::BadVersion,
+        Header::BadShape => Judgement::BadShape,
+        Header::Right(cartridge) => judge_formed(image, cartridge),
+    }
 }

@@ -36,7 +36,7 @@ pub headed : (b : Bytes) → Headed (view b)
 headed b p = mem-head p []
 
 module _ (b b′ : Bytes) (len : length b′ ≡ length b) where
-  follows : Follows (view b) (view b′) (SamePage b b′)
+  pub follows : Follows (view b) (view b′) (SamePage b b′)
   follows = record {
     size = refl;
     counts = λ s. refl;

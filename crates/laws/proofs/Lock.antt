@@ -1,20 +1,20 @@
 -- A granted lock or unlock: bit 6 of the file's flags is what is asked for, and every other bit and byte stays, so the tree's file has this mark and
 -- nothing else changes.
-use mathlib.Core.Path.{_≡_, refl, sym, ap, ap₂, _∙_, subst}
-use Prim.Native.Nat.{ℕ, _+_, _-_, _*_, _/_, _%_, _<_}
+use mathlib.Core.Path.{_≡_, sym, ap, ap₂, _∙_, subst}
+use Prim.Native.Nat.{ℕ, _+_, _*_, _/_, _%_, _<_}
 use native.Mathlib.Omega.{arith}
-use mathlib.Core.Bool.{Bool, true, false, not}
+use mathlib.Core.Bool.{Bool, not}
 use mathlib.Core.List.{List}
 use lib.ListN.{length, set, length-set}
 use lib.Dec.{T, eqb}
 use lib.Seq.{getD-set-same, getD-set-other}
 use mathlib.Core.Logic.{_≢_}
-use Rattle.volume.specs.Bytes.{Bytes, byteAt, bit, if_then_else_}
+use Rattle.volume.specs.Bytes.{Bytes, byteAt, bit}
 use Rattle.volume.specs.Field.{byte}
 use Rattle.volume.specs.Geometry as On
 use Rattle.volume.proofs.Puts.{part-bytes}
 use Rattle.model.specs.Layout.{pageCount, pageBit}
-use Rattle.model.specs.Entry.{occupied, isDirectory, isLocked, nameAt, startAt, sizeAt, dateAt, vacant, aFile, aDirectory, entryAt}
+use Rattle.model.specs.Entry.{occupied, isDirectory, isLocked, nameAt, startAt, sizeAt, dateAt, aFile, entryAt}
 use Rattle.model.specs.Version1.{view}
 use Rattle.model.specs.Sound.{sound}
 use Rattle.model.specs.Tree.{relock, Node}
@@ -24,64 +24,23 @@ use Rattle.model.specs.Walk.{arrived, walkTo, changeAt}
 use Rattle.model.specs.Effect.{withLock, relocked}
 use Rattle.model.specs.Refusal.{isMissing, isBlocked, isDirectoryNode}
 use Rattle.model.specs.EffectOf
+pub use Rattle.view_laws.proofs.FileEntry.{lock-bits, lock-small}
+use Rattle.view_laws.proofs.FileEntry.{still-file, lock-mark}
+use Rattle.view_laws.proofs.Walks as Any
 use Rattle.view_laws.proofs.Writing.{relocked-sound}
 use Rattle.laws.proofs.Facts.{Facts, viewed}
-use Rattle.laws.proofs.Focus.{named-found}
 use Rattle.laws.proofs.Walks.{Target, target}
 use Rattle.laws.proofs.Slots.{size, Slot}
 use Rattle.laws.proofs.Shelf.{shelved, afterwards}
 use Rattle.laws.proofs.Write as W
 
--- ---- the flags byte
-
--- the byte without bit 6
-low-bits : (x : ℕ) → x - 64 * bit 6 x ≡ 128 * (x / 128) + x % 64
-low-bits x =
-    let h : x / 64 / 2 ≡ x / 128 = omega arith in
-    let l : x / 64 ≡ 2 * (x / 128) + x / 64 % 2 = omega (arith, h) in
-    omega (arith, l)
-
--- bits 7 and 0 stay, and bit 6 is the mark
-pub lock-bits : (k : Bool) (x : ℕ) → (bit 7 (withLock k x) ≡ bit 7 x) × (bit 0 (withLock k x) ≡ bit 0 x) × (bit 6 (withLock k x) ≡ (if k then 1 else 0))
-unfolding withLock
-lock-bits true x =
-    let e : x - 64 * bit 6 x + 64 ≡ 128 * (x / 128) + (x % 64 + 64) = ap (λ (y : ℕ). y + 64) (low-bits x) ∙ omega arith in
-    let h : (128 * (x / 128) + (x % 64 + 64)) / 128 ≡ x / 128 = omega arith in
-    let m : (128 * (x / 128) + (x % 64 + 64)) / 64 ≡ 2 * (x / 128) + 1 = omega arith in
-    let l : (128 * (x / 128) + (x % 64 + 64)) / 1 % 2 ≡ x / 1 % 2 = omega arith in
-    (ap (λ (y : ℕ). y / 128 % 2) e ∙ ap (λ (y : ℕ). y % 2) h, ap (λ (y : ℕ). y / 1 % 2) e ∙ l, ap (λ (y : ℕ). y / 64 % 2) e ∙ ap (λ (y : ℕ). y % 2) m ∙ omega arith)
-lock-bits false x =
-    let e : x - 64 * bit 6 x + 0 ≡ 128 * (x / 128) + x % 64 = ap (λ (y : ℕ). y + 0) (low-bits x) ∙ omega arith in
-    let h : (128 * (x / 128) + x % 64) / 128 ≡ x / 128 = omega arith in
-    let m : (128 * (x / 128) + x % 64) / 64 ≡ 2 * (x / 128) = omega arith in
-    let l : (128 * (x / 128) + x % 64) / 1 % 2 ≡ x / 1 % 2 = omega arith in
-    (ap (λ (y : ℕ). y / 128 % 2) e ∙ ap (λ (y : ℕ). y % 2) h, ap (λ (y : ℕ). y / 1 % 2) e ∙ l, ap (λ (y : ℕ). y / 64 % 2) e ∙ ap (λ (y : ℕ). y % 2) m ∙ omega arith)
-
-pub lock-small : (k : Bool) (x : ℕ) → x < 256 → withLock k x < 256
-unfolding withLock
-lock-small true x h = omega (arith, h, low-bits x)
-lock-small false x h = omega (arith, h)
-
-lock-mark : (k : Bool) → eqb (if k then 1 else 0) 1 ≡ k
-lock-mark true = refl
-lock-mark false = refl
-
 -- a file's entry whose bits 7 and 0 and other fields stay
 entry-relocked : (b b′ : Bytes) (at : ℕ) (k : Bool) → T (W.isFileEntry (entryAt b at)) → occupied b′ at ≡ occupied b at → isDirectory b′ at ≡ isDirectory b at → isLocked b′ at ≡ k
     → nameAt b′ at ≡ nameAt b at → dateAt b′ at ≡ dateAt b at → startAt b′ at ≡ startAt b at → sizeAt b′ at ≡ sizeAt b at
     → entryAt b′ at ≡ aFile k (nameAt b at) (dateAt b at) (startAt b at) (sizeAt b at)
-unfolding entryAt W.isFileEntry
-entry-relocked b b′ at k h o d l n a s z = rw (o, d, l, n, a, s, z) (go (occupied b at) (isDirectory b at) h)
-  where
-    go : (o c : Bool)
-        → T (W.isFileEntry (if o then (if c then aDirectory (nameAt b at) (dateAt b at) (startAt b at) (sizeAt b at)
-        else aFile (isLocked b at) (nameAt b at) (dateAt b at) (startAt b at) (sizeAt b at)) else vacant))
-        → (if o then (if c then aDirectory (nameAt b at) (dateAt b at) (startAt b at) (sizeAt b at)
-        else aFile k (nameAt b at) (dateAt b at) (startAt b at) (sizeAt b at)) else vacant)
-        ≡ aFile k (nameAt b at) (dateAt b at) (startAt b at) (sizeAt b at)
-    go true true h = absurd h
-    go true false h = refl
-    go false c h = absurd h
+unfolding entryAt
+entry-relocked b b′ at k h o d l n a s z = rw (o, d, l, n, a, s, z)
+    (still-file (occupied b at) (isDirectory b at) (isLocked b at) k (nameAt b at) (dateAt b at) (startAt b at) (startAt b at) (sizeAt b at) (sizeAt b at) h)
 
 -- ---- a file that some names lead to
 
@@ -145,8 +104,7 @@ module _ (b : Bytes) (f : Facts b) (ns : List Name) (n : Name) (tg : Target b ns
 -- the entry of a path that leads to no directory is a file's
 pub target-file : {b : Bytes} {ns : List Name} {n : Name} (tg : Target b ns n)
     → ((x : Node) → walkTo (below ns n) (rowAt (pageCount b) (view b) 0) ≡ arrived x → T (not (isDirectoryNode x))) → T (W.isFileEntry (entryAt b (tg .at)))
-target-file {b} {n} tg isFile =
-    W.node-file b (rowAt (tg .above .e) (view b)) (n .bytes) (entryAt b (tg .at)) (named-found b (tg .above .t) (n .bytes) (tg .at) (tg .found) .1) (isFile _ (tg .node))
+target-file tg isFile = Any.target-file tg isFile
 
 pub locked-tree : {b : Bytes} → Facts b → (ns : List Name) (n : Name) (k : Bool)
     → T (not (isMissing (walkTo (below ns n) (rowAt (pageCount b) (view b) 0)))) → T (not (isBlocked (walkTo (below ns n) (rowAt (pageCount b) (view b) 0))))

@@ -39,11 +39,12 @@ use Rattle.model.proofs.Bounds.{eight-entries}
 use Rattle.view_laws.proofs.Owns as Owns
 use Rattle.view_laws.proofs.Shelf.{seen}
 use Rattle.view_laws.proofs.Vacant.{vacant-row, vacant-owns, vacant-good}
+use Rattle.view_laws.proofs.Ways.{leads-many}
 use Rattle.view_laws.proofs.Making as Any
 use Rattle.laws.proofs.Facts.{Facts, viewed}
 use Rattle.laws.proofs.Entries.{entry-within, nodup-entries}
-use Rattle.laws.proofs.Owns.{own, own-length}
-use Rattle.laws.proofs.Focus.{named-found, Leads, leads-depth}
+use Rattle.laws.proofs.Frame.{headed}
+use Rattle.laws.proofs.Focus.{leads-depth}
 use Rattle.laws.proofs.Counting.{count-owned}
 use Rattle.laws.proofs.Walks.{Parent, parent}
 use Rattle.laws.proofs.Slots.{size, lawful, head-kept, header-marked, Slot, slot, held}
@@ -145,15 +146,6 @@ module _ {b : Bytes} (f : Facts b) {ns : List Name} {name date : Bytes} (w : Pla
 
 -- ---- a directory: its page is all zero, so it is one of 8 vacant entries
 
-leads-many : (b : Bytes) (ns : List Name) (d p e t : ℕ) → Leads b d p ns e t → length ns ≤ length (owned d (view b) p)
-unfolding own
-leads-many b [] d p e t l = omega arith
-leads-many b (n ∷ ns) zero p e t l = absurd l
-leads-many b (n ∷ ns) (suc d) p e t l =
-    let m = named-found b p (n .bytes) (l .0) (l .2) .0 in
-    let o : length (own d b (entryAt b (l .0))) ≡ suc (length (owned d (view b) (l .1))) = ap (λ (x : Entry). length (own d b x)) (l .3 .is) in
-    omega (arith, leads-many b ns d (l .1) e t (l .4), own-length d b p (l .0) m, o)
-
 module _ {b : Bytes} (f : Facts b) {ns : List Name} {name date : Bytes} (w : Place b ns name date 1) where
   directory-sound : let b′ = madeAt 0x81 0x0100 1 name date (w .at) b in
       T (sound b′) × (treeOf b′ ≡ record { pages = pageCount b; code = 0; root = changeAt ns (fill (dir name date (emptyRow 8))) (rowAt (pageCount b) (view b) 0) })
@@ -191,7 +183,7 @@ module _ {b : Bytes} (f : Facts b) {ns : List Name} {name date : Bytes} (w : Pla
       deep = omega (
         arith,
         leads-depth b ns (pageCount b) 0 (suc (w .above .e)) (w .above .t) (w .above .leads),
-        leads-many b ns (pageCount b) 0 (suc (w .above .e)) (w .above .t) (w .above .leads),
+        leads-many (view b) (headed b) ns (pageCount b) 0 (suc (w .above .e)) (w .above .t) (w .above .leads),
         count-owned f,
         w .space,
       )

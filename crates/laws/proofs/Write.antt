@@ -4,16 +4,15 @@ use mathlib.Core.Path.{_≡_, refl, sym, ap, ap₂, _∙_, subst}
 use mathlib.Core.Logic.{_≢_, inl, inr}
 use Prim.Native.Nat.{ℕ, suc, _+_, _-_, _*_, _/_, _%_, _≤_, _<_, max}
 use native.Mathlib.Omega.{arith}
-use mathlib.Core.Bool.{Bool, true, false, not}
-use mathlib.Core.List.{List, [], _∷_, _++_}
+use mathlib.Core.Bool.{not}
+use mathlib.Core.List.{List, _++_}
 use lib.ListN.{length, length-append}
-use lib.Dec.{T, eqb, eqb→eq}
+use lib.Dec.{T, eqb}
 use Rattle.volume.specs.Bytes.{Bytes, byteAt, put, le16, if_then_else_}
 use Rattle.volume.specs.Chain.{chain, beyond, along}
 use Rattle.volume.specs.Field.{byte}
 use Rattle.volume.specs.Geometry as On
 use Rattle.volume.proofs.Occ.{occ, Mem, occ-append, mem-or-not, not-mem}
-use Rattle.volume.proofs.Splice.{splice-nil}
 use Rattle.volume.proofs.Puts.{part-bytes}
 use Rattle.volume.proofs.Chains.{chain-length}
 use Rattle.volume.proofs.Fields.{Off}
@@ -23,18 +22,20 @@ use Rattle.volume.proofs.Writes.{Beside, Written, written-is}
 use Rattle.volume.proofs.Stays.{Elsewhere, written-stays}
 use Rattle.model.specs.Layout.{version1, pageCount, pagesFor, zeroBits, link}
 use Rattle.model.specs.Name.{legalName}
-use Rattle.model.specs.Entry.{entries, occupied, isDirectory, isLocked, nameAt, startAt, sizeAt, dateAt, Entry, vacant, aFile, aDirectory, entryAt}
+use Rattle.model.specs.Entry.{entries, occupied, isDirectory, isLocked, nameAt, startAt, sizeAt, dateAt, Entry, aFile, entryAt}
 use Rattle.model.specs.Version1.{view}
 use Rattle.model.specs.Sound.{pagesOf, pagesAt, isNamed, sound}
 use Rattle.model.specs.Tree.{Row, Node, rewrite}
 use Rattle.model.specs.Path.{Name, below}
 use Rattle.model.specs.Image.{contentOf, rowAt, treeOf}
-use Rattle.model.specs.Walk.{arrived, walkTo, changeAt, entryPosition}
+use Rattle.model.specs.Walk.{arrived, walkTo, changeAt}
 use Rattle.model.specs.Effect.{rewritten, written}
 use Rattle.model.specs.Refusal.{isMissing, isBlocked, isDirectoryNode, contentIn}
 use Rattle.model.specs.EffectOf
 use Rattle.model.proofs.Version1.{home}
-use Rattle.view_laws.proofs.Shelf.{entry-changed}
+unfoldable pub use Rattle.view_laws.proofs.FileEntry.{isFileEntry}
+use Rattle.view_laws.proofs.FileEntry.{still-file}
+use Rattle.view_laws.proofs.Walks as Walks
 use Rattle.view_laws.proofs.Writing as Any
 use Rattle.laws.proofs.Facts.{Facts, viewed}
 use Rattle.laws.proofs.Entries.{within-page}
@@ -47,30 +48,16 @@ use Rattle.laws.proofs.Shelf.{shelved, afterwards}
 
 -- ---- the entry of a file
 
-unfoldable pub isFileEntry : Entry → Bool
-isFileEntry vacant = false
-isFileEntry (aFile locked name date start size) = true
-isFileEntry (aDirectory name date start size) = false
-
 -- an entry with the fields of a file at `at`, and flags, name and date of another image's entry that is one
 pub file-entry : (b b′ : Bytes) (at : ℕ) → T (isFileEntry (entryAt b at)) → byteAt b′ at ≡ byteAt b at → nameAt b′ at ≡ nameAt b at → dateAt b′ at ≡ dateAt b at
     → entryAt b′ at ≡ aFile (isLocked b at) (nameAt b at) (dateAt b at) (startAt b′ at) (sizeAt b′ at)
-unfolding entryAt isFileEntry
-file-entry b b′ at h fl n d = rw (fl, n, d) (go (occupied b at) (isDirectory b at) h)
-  where
-    go : (o c : Bool) → T (isFileEntry (if o then (if c then aDirectory (nameAt b at) (dateAt b at) (startAt b at) (sizeAt b at) else aFile (isLocked b at) (nameAt b at) (dateAt b at) (startAt b at) (sizeAt b at)) else vacant))
-        → (if o then (if c then aDirectory (nameAt b at) (dateAt b at) (startAt b′ at) (sizeAt b′ at) else aFile (isLocked b at) (nameAt b at) (dateAt b at) (startAt b′ at) (sizeAt b′ at)) else vacant)
-        ≡ aFile (isLocked b at) (nameAt b at) (dateAt b at) (startAt b′ at) (sizeAt b′ at)
-    go true true k = absurd k
-    go true false k = refl
-    go false c k = absurd k
+unfolding entryAt
+file-entry b b′ at h fl n d = rw (fl, n, d)
+    (still-file (occupied b at) (isDirectory b at) (isLocked b at) (isLocked b at) (nameAt b at) (dateAt b at) (startAt b at) (startAt b′ at) (sizeAt b at) (sizeAt b′ at) h)
 
 -- a named entry whose node is no directory
 pub node-file : (b : Bytes) (g : ℕ → Row) (n : Bytes) (x : Entry) → T (isNamed n x) → T (not (isDirectoryNode (nodeOf (view b) g x))) → T (isFileEntry x)
-unfolding isNamed isDirectoryNode nodeOf isFileEntry
-node-file b g n vacant h k = h
-node-file b g n (aFile locked name date start size) h k = tt
-node-file b g n (aDirectory name date start size) h k = k
+node-file b = Walks.node-file (view b)
 
 -- the sizes of a file that grows
 pages-rise : (s₀ s : ℕ) → s₀ ≤ s → pagesFor s₀ + (pagesFor s - pagesFor s₀) ≡ pagesFor s
@@ -106,8 +93,7 @@ module _ (b : Bytes) (f : Facts b) (ns : List Name) (n : Name) (tg : Target b ns
   is = file-entry b b at isFile refl refl refl
 
   pub file-pages : pagesAt (view b) at ≡ ps
-  unfolding pagesOf
-  file-pages = ap (pagesOf (view b)) is
+  file-pages = Any.file-pages (view b) is
 
   mine : own e b (entryAt b at) ≡ ps
   unfolding own pagesOf
@@ -139,21 +125,17 @@ module _ (b : Bytes) (f : Facts b) (ns : List Name) (n : Name) (tg : Target b ns
       record { inside = h .inside; bytes = λ i l u. (h .bytes i l u .0, h .bytes i l u .1, λ x. omega arith) }
 
   pub file-content : contentIn (nodeOf (view b) (rowAt e (view b)) (entryAt b at)) ≡ content
-  unfolding contentIn nodeOf pagesOf
-  file-content = ap (λ (x : Entry). contentIn (nodeOf (view b) (rowAt e (view b)) x)) is
+  file-content = Any.file-content (view b) is (rowAt e (view b))
 
   pub file-size : length content ≡ s₀
   file-size = content-length b (startAt b at) s₀ (λ q m. let r = file-owned .inside q m in omega (arith, r .1, size f .whole))
 
   -- a write of no bytes
   unchanged : T (sound b) × (treeOf b ≡ record { pages = pageCount b; code = 0; root = changeAt ns (rewrite (n .bytes) content) (rowAt (pageCount b) (view b) 0) })
-  unfolding own
   unchanged =
       afterwards f refl (λ i l. refl)
-      (entry-changed (shelved f) (viewed f) ns e t (tg .above .leads) b at [] (found .0) (λ q k. absurd (omega arith)) refl (λ i k z u. refl)
-      (rewrite (n .bytes) content) (isNamed (n .bytes)) (tg .above .good) tt
-      (Any.rewrite-works (view b) (view b) e t at (tg .above .good) (n .bytes) (tg .found) is is (file-good .1) refl)
-      (record { bits = λ q l. refl; count = refl; fresh-in = λ q k. let r = file-owned .inside q (subst (Mem q) mine k) in (r .0, r .1) }))
+      (Any.unwritten-sound (shelved f) (size f .whole) (viewed f) ns e t at (n .bytes) (tg .above .leads) (tg .above .good) tt (tg .found)
+      (isLocked b at) (nameAt b at) (dateAt b at) s₀ (byte (at + 17)) is)
 
   module _ (from : ℕ) (v : Bytes) (hf : from ≤ s₀) (space : pagesFor (max s₀ (from + length v)) - pagesFor s₀ ≤ zeroBits b (pageCount b)) where
     -- the size, the number of pages gained, and the pages gained
@@ -238,10 +220,6 @@ module _ (b : Bytes) (f : Facts b) (ns : List Name) (n : Name) (tg : Target b ns
 
 -- ---- the call
 
-put-none : (from : ℕ) (v c : Bytes) → length v ≡ 0 → put from v c ≡ c
-put-none from [] c e = splice-nil c from
-put-none from (x ∷ v) c e = absurd (omega arith)
-
 pub written-tree : {b : Bytes} → Facts b → (ns : List Name) (n : Name) (from : ℕ) (v : Bytes)
     → T (not (isMissing (walkTo (below ns n) (rowAt (pageCount b) (view b) 0)))) → T (not (isBlocked (walkTo (below ns n) (rowAt (pageCount b) (view b) 0))))
     → (x : Node) → walkTo (below ns n) (rowAt (pageCount b) (view b) 0) ≡ arrived x → T (not (isDirectoryNode x))
@@ -249,7 +227,9 @@ pub written-tree : {b : Bytes} → Facts b → (ns : List Name) (n : Name) (from
     → T (sound (written (below ns n) from v b))
     × (treeOf (written (below ns n) from v b) ≡ record { pages = pageCount b; code = 0; root = changeAt ns (rewrite (n .bytes) (put from v (contentIn x))) (rowAt (pageCount b) (view b) 0) })
 unfolding EffectOf.written
-written-tree {b} f ns n from v u w x q nd hf space = go (eqb (length v) 0) (eqb→eq (length v) 0)
+written-tree {b} f ns n from v u w x q nd hf space =
+    subst (λ (at : ℕ). Says (if eqb (length v) 0 then b else rewritten at from v b) (put from v (contentIn x))) (sym (tg .position))
+    (Any.written-or-none Says b (rewritten (tg .at) from v b) from v (contentIn x) (subst (Says b) same-content (unchanged b f ns n tg isFile)) full)
   where
     tg : Target b ns n
     tg = target f u w
@@ -276,7 +256,3 @@ written-tree {b} f ns n from v u w x q nd hf space = go (eqb (length v) 0) (eqb�
         subst (λ (m : ℕ). pagesFor (max m (from + length v)) - pagesFor m ≤ zeroBits b (pageCount b)) same-size space in
         subst (λ (b′ : Bytes). Says b′ (put from v (contentIn x))) (sym (rewritten-is b f ns n tg isFile from v hf′ sp))
         (subst (λ (c : Bytes). Says (b′ b f ns n tg isFile from v hf′ sp) (put from v c)) same-content (rewritten-sound b f ns n tg isFile from v hf′ sp))
-
-    go : (c : Bool) → (T c → length v ≡ 0) → Says (if c then b else rewritten (entryPosition b (below ns n)) from v b) (put from v (contentIn x))
-    go true z = subst (Says b) (same-content ∙ sym (put-none from v (contentIn x) (z tt))) (unchanged b f ns n tg isFile)
-    go false z = subst (λ (at : ℕ). Says (rewritten at from v b) (put from v (contentIn x))) (sym (tg .position)) full

@@ -2,6 +2,7 @@
 -- some size, and both are letters.
 use mathlib.Core.Path.{_≡_}
 use Prim.Native.Nat.{ℕ, zero, suc, _*_, _%_, _≤_}
+use native.Mathlib.Nat.{mul-comm}
 use native.Mathlib.Omega.{arith}
 use mathlib.Core.Bool.{Bool, true, false, _||_}
 use lib.Dec.{T, eqb, leb, leb→le, eqb→eq}
@@ -81,3 +82,7 @@ bounds {code} {n} a =
     let w = conditions-cons (leb n 262144 || leb 2 code) _ (v .1) in
     let x = conditions-cons (eqb (n % (8 * pageSize code)) 0) _ (w .1) in
     by-code n code (between n (a .length)) (u .0) (v .0) (w .0) (eqb→eq (n % (8 * pageSize code)) 0 (x .0))
+
+-- the bytes of all pages
+pub all-bytes : {code n : ℕ} → Allowed code n → pageCount code n * pageSize code ≡ n
+all-bytes {code} {n} a = omega (arith, bounds a .whole, mul-comm (pageCount code n) (pageSize code))

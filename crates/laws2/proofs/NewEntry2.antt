@@ -1,17 +1,19 @@
--- The 32 bytes that a make of version 2 will write, read back, and a size put into an entry: each field is where an entry has it.
-use mathlib.Core.Path.{_≡_, refl, sym, ap, _∙_}
+-- The 32 bytes that a make of version 2 will write, read back, and a size or a lock put into an entry: each field is where an entry has it.
+use mathlib.Core.Path.{_≡_, sym, ap, ap₂, _∙_}
 use mathlib.Core.Logic.{_≢_}
-use Prim.Native.Nat.{ℕ, suc, _+_, _/_, _%_, _≤_, _<_}
+use Prim.Native.Nat.{ℕ, suc, _+_, _*_, _/_, _%_, _≤_, _<_}
 use native.Mathlib.Omega.{arith}
-use mathlib.Core.Bool.{Bool, true, false}
+use mathlib.Core.Bool.{Bool, false}
 use mathlib.Core.List.{[], _∷_, _++_}
 use lib.ListN.{length, length-append, List·getD-append}
 use lib.Seq.{ext-getD, getD-append-add}
-use lib.Dec.{T}
-use Rattle.volume.specs.Bytes.{Bytes, byteAt, part, le16, if_then_else_}
-use Rattle.volume.specs.Field.{load}
+use lib.Dec.{T, eqb}
+use Rattle.volume.specs.Bytes.{Bytes, byteAt, part, le16, bit}
+use Rattle.volume.specs.Field.{pair, load}
 use Rattle.volume.proofs.Puts.{byte-part, part-length, part-bytes}
-use Rattle.model.specs.Entry.{Entry, vacant, aFile, aDirectory}
+use Rattle.model.specs.Entry.{aFile, aDirectory}
+use Rattle.model.specs.EffectOf.{withLock}
+use Rattle.view_laws.proofs.FileEntry.{isFileEntry, still-file, lock-bits, lock-mark}
 use Rattle.model2.specs.Entry.{occupied, isDirectory, isLocked, nameAt, startField, startAt, sizeAt, dateAt, entryAt, sizeBytes, newEntry}
 
 -- a stretch is known by its bytes
@@ -98,12 +100,7 @@ module _ (fl : ℕ) (name : Bytes) (size : ℕ) (date : Bytes) (ln : length name
 
 -- ---- a file with another size, and perhaps another start page
 
-abbrev pub isFile : Entry → Bool
-isFile vacant = false
-isFile (aFile locked name date start size) = true
-isFile (aDirectory name date start size) = false
-
-pub resized : (b b′ : Bytes) (at size : ℕ) → length b′ ≡ length b → T (isFile (entryAt b at))
+pub resized : (b b′ : Bytes) (at size : ℕ) → length b′ ≡ length b → T (isFileEntry (entryAt b at))
     → ((i : ℕ) → at ≤ i → i < at + 32 → (at + 17 ≤ i → at + 23 ≤ i) → byteAt b′ i ≡ byteAt b i)
     → ((i : ℕ) → i < 4 → byteAt b′ (at + 19 + i) ≡ byteAt (sizeBytes size) i)
     → entryAt b′ at ≡ aFile (isLocked b at) (nameAt b at) (dateAt b at) (startAt b′ at) size
@@ -112,12 +109,26 @@ resized b b′ at size len file kept has =
     let f : byteAt b′ at ≡ byteAt b at = kept at (omega arith) (omega arith) (λ h. omega arith) in
     let n : nameAt b′ at ≡ nameAt b at = part-bytes (at + 1) 16 b b′ len (λ i l u. kept i (omega arith) (omega arith) (λ h. omega arith)) in
     let d : dateAt b′ at ≡ dateAt b at = part-bytes (at + 23) 8 b b′ len (λ i l u. kept i (omega arith) (omega arith) (λ h. omega arith)) in
-    rw (f, n, d, size-is size b′ at has) (go (occupied b at) (isDirectory b at) file)
-  where
-    go : (o c : Bool)
-        → T (isFile (if o then (if c then aDirectory (nameAt b at) (dateAt b at) (startAt b at) (sizeAt b at) else aFile (isLocked b at) (nameAt b at) (dateAt b at) (startAt b at) (sizeAt b at)) else vacant))
-        → (if o then (if c then aDirectory (nameAt b at) (dateAt b at) (startAt b′ at) size else aFile (isLocked b at) (nameAt b at) (dateAt b at) (startAt b′ at) size) else vacant)
-        ≡ aFile (isLocked b at) (nameAt b at) (dateAt b at) (startAt b′ at) size
-    go true true t = absurd t
-    go true false t = refl
-    go false c t = absurd t
+    rw (f, n, d, size-is size b′ at has)
+    (still-file (occupied b at) (isDirectory b at) (isLocked b at) (isLocked b at) (nameAt b at) (dateAt b at) (startAt b at) (startAt b′ at) (sizeAt b at) size file)
+
+-- a file's entry is what its fields say
+pub file-is : (b : Bytes) (at : ℕ) → T (isFileEntry (entryAt b at)) → entryAt b at ≡ aFile (isLocked b at) (nameAt b at) (dateAt b at) (startAt b at) (sizeAt b at)
+unfolding entryAt
+file-is b at h =
+    still-file (occupied b at) (isDirectory b at) (isLocked b at) (isLocked b at) (nameAt b at) (dateAt b at) (startAt b at) (startAt b at) (sizeAt b at) (sizeAt b at) h
+
+-- a file with another lock
+pub relocked : (b b′ : Bytes) (at : ℕ) (k : Bool) → length b′ ≡ length b → T (isFileEntry (entryAt b at)) → byteAt b′ at ≡ withLock k (byteAt b at)
+    → ((i : ℕ) → at < i → byteAt b′ i ≡ byteAt b i) → entryAt b′ at ≡ aFile k (nameAt b at) (dateAt b at) (startAt b at) (sizeAt b at)
+unfolding entryAt
+relocked b b′ at k len file flags kept =
+    let r = lock-bits k (byteAt b at) in
+    let o : occupied b′ at ≡ occupied b at = ap (λ (x : ℕ). eqb (bit 7 x) 1) flags ∙ ap (λ (x : ℕ). eqb x 1) (r .0) in
+    let c : isDirectory b′ at ≡ isDirectory b at = ap (λ (x : ℕ). eqb (bit 0 x) 1) flags ∙ ap (λ (x : ℕ). eqb x 1) (r .1) in
+    let l : isLocked b′ at ≡ k = ap (λ (x : ℕ). eqb (bit 6 x) 1) flags ∙ ap (λ (x : ℕ). eqb x 1) (r .2) ∙ lock-mark k in
+    let n : nameAt b′ at ≡ nameAt b at = part-bytes (at + 1) 16 b b′ len (λ i u v. kept i (omega arith)) in
+    let d : dateAt b′ at ≡ dateAt b at = part-bytes (at + 23) 8 b b′ len (λ i u v. kept i (omega arith)) in
+    let pair-kept : (i : ℕ) → at < i → load (pair i) b′ ≡ load (pair i) b = λ i h. ap₂ (λ (x y : ℕ). x + 256 * y) (kept i h) (kept (i + 1) (omega (arith, h))) in
+    rw (o, c, l, n, d, pair-kept (at + 17) (omega arith), pair-kept (at + 19) (omega arith), pair-kept (at + 21) (omega arith))
+    (still-file (occupied b at) (isDirectory b at) (isLocked b at) k (nameAt b at) (dateAt b at) (startAt b at) (startAt b at) (sizeAt b at) (sizeAt b at) file)

@@ -56,7 +56,7 @@ read-same b b′ at e h =
     let y₁ : byteAt b′ (at + 21 + 1) ≡ byteAt b (at + 21 + 1) = h (at + 21 + 1) (omega arith) (omega arith) in
     rw (f, n, d, s, s₁, x, x₁, y, y₁)
 
-zero-vacant : (b : Bytes) (at : ℕ) → byteAt b at ≡ 0 → entryAt b at ≡ vacant
+pub zero-vacant : (b : Bytes) (at : ℕ) → byteAt b at ≡ 0 → entryAt b at ≡ vacant
 unfolding entryAt
 zero-vacant b at e = rw e
 
@@ -66,14 +66,14 @@ module _ {two : Bool} {aside size N : ℕ} (t : Tabled two aside size N) (eights
   abbrev first : ℕ → ℕ
   first q = entriesStart size N q
 
-  record Lies (q x : ℕ) : Type 0 where
-    number : ℕ
-    at : x ≡ first q + 32 * number
-    from : size * q ≤ x
-    till : x + 32 ≤ size * q + size
-    behind : 7 + N / 8 ≤ x
+  pub record Lies (q x : ℕ) : Type 0 where
+    pub number : ℕ
+    pub at : x ≡ first q + 32 * number
+    pub from : size * q ≤ x
+    pub till : x + 32 ≤ size * q + size
+    pub behind : 7 + N / 8 ≤ x
 
-  lies : (q x : ℕ) → Mem x (entriesOn size N q) → Lies q x
+  pub lies : (q x : ℕ) → Mem x (entriesOn size N q) → Lies q x
   unfolding entriesOn
   lies zero x m =
       let r = mem-steps (rootStart N) 0 ((size - rootStart N) / 32) x m in

@@ -1,21 +1,21 @@
 -- Images of version 2 with one length and one page code are a shelf, whatever both are, if only they are allowed. So the laws of make, write, remove and lock
 -- over a view are version 2's, and so is the growth of a directory. The view of an image is one of its own shelf: `view2 b` is `viewBy (codeIn b) (length b) b`.
-use mathlib.Core.Path.{_≡_, refl, sym, ap, ap₂, _∙_, subst}
-use Prim.Native.Nat.{ℕ, zero, suc, _+_, _*_, _/_, _≤_, _<_}
+use mathlib.Core.Path.{_≡_, refl, ap, ap₂, _∙_}
+use Prim.Native.Nat.{ℕ, zero, suc, _+_, _-_, _*_, _/_, _≤_, _<_}
 use native.Mathlib.Omega.{arith}
 use mathlib.Core.Bool.{Bool, true, false}
-use mathlib.Core.List.{List, [], _∷_, map, flatMap}
-use lib.ListN.{length, length-append, length-map}
-use lib.Dec.{T, eqb, eqb·suc-zero}
+use mathlib.Core.List.{List, [], _∷_, flatMap, append-nil}
+use lib.ListN.{length, length-map}
+use lib.Dec.{T, eqb·suc-zero}
 use Rattle.volume.specs.Bytes.{Bytes, if_then_else_}
-use Rattle.volume.specs.Lists.{countFrom}
-use Rattle.volume.specs.Chain.{chain, beyond, linked}
+use Rattle.volume.specs.Lists.{countFrom, upTo}
+use Rattle.volume.specs.Chain.{beyond, linked}
 use Rattle.volume.specs.Geometry as On
 use Rattle.volume.proofs.Lawful.{Sized, Kept}
 use Rattle.volume.proofs.Pages.{page-in}
 use Rattle.volume.proofs.Follow.{PageLies, Lies}
 use Rattle.volume.proofs.Occ.{hit-refl}
-use Rattle.volume.proofs.Grow.{gained-is}
+use Rattle.volume.proofs.Grow.{Grown, gained-is}
 use Rattle.model.specs.Sound.{goodDirectory}
 use Rattle.model.specs.Tree.{extend}
 use Rattle.model.specs.Path.{Name}
@@ -25,13 +25,13 @@ use Rattle.view_laws.proofs.Facts.{Facts}
 use Rattle.view_laws.proofs.Focus.{Leads}
 use Rattle.view_laws.proofs.Shelf.{Shelf, seen, Shelved}
 use Rattle.view_laws.proofs.Chained.{chained, Slotted, chained-shelved}
-use Rattle.view_laws.proofs.Lengthened.{lengthened-sound}
+use Rattle.view_laws.proofs.Lengthened.{lengthened-bytes, lengthened-leads, lengthened-sound}
 use Rattle.view_laws.proofs.Ends.{Ending, chains-end}
-use Rattle.model2.specs.Layout.{pageSize, pageCount, isWide, setAside, geometry2, codeIn}
+use Rattle.model2.specs.Layout.{pageSize, pageCount, rootStart, isWide, setAside, geometry2, codeIn}
 use Rattle.model2.specs.Entry.{entryAt}
-use Rattle.model2.specs.Version2.{linkedPages, linkedEnds, entriesOn, numbers2, nextBy, placeBy, viewBy, view2}
+use Rattle.model2.specs.Version2.{entryCount, entriesStart, entriesOn, numbers2, nextBy, placeBy, viewBy, view2}
 use Rattle.laws2.proofs.Bounds.{Allowed, Bounds, bounds}
-use Rattle.laws2.proofs.Lawful2.{Tabled, home2, lawful2}
+use Rattle.laws2.proofs.Lawful2.{Tabled, home2, home-header, lawful2}
 use Rattle.laws2.proofs.Slots2.{slotted2}
 
 -- ---- the shelf
@@ -69,17 +69,20 @@ unfolding countFrom
 length-countFrom s zero = refl
 length-countFrom s (suc n) = ap suc (length-countFrom (suc s) n)
 
--- a page other than page 0 has an entry for every 32 bytes
-page-entries : (size N p : ℕ) → 1 ≤ p → length (flatMap (entriesOn size N) (p ∷ [])) ≡ size / 32
-unfolding flatMap entriesOn
+-- the entries on a page; one other than page 0 has an entry for every 32 bytes
+pub entries-count : (size N p : ℕ) → length (entriesOn size N p) ≡ entryCount size N p
+unfolding entriesOn
+entries-count size N p = length-map (upTo (entryCount size N p)) (λ i. entriesStart size N p + 32 * i) ∙ length-countFrom 0 (entryCount size N p)
+
+pub page-entries : (size N p : ℕ) → 1 ≤ p → length (entriesOn size N p) ≡ size / 32
 page-entries size N zero h = absurd (omega arith)
-page-entries size N (suc p) h = rw (eqb·suc-zero p) (omega (arith, length-append (map (λ i. size * suc p + 32 * i) (countFrom 0 (size / 32))) [], length-map (countFrom 0 (size / 32)) (λ i. size * suc p + 32 * i), length-countFrom 0 (size / 32)))
+page-entries size N (suc p) h = entries-count size N (suc p) ∙ ap (λ (c : Bool). if c then (size - rootStart N) / 32 else size / 32) (eqb·suc-zero p)
 
 module _ {code n : ℕ} (a : Allowed code n) where
   pub tabled : Tabled (isWide n) (setAside n) (pageSize code) (pageCount code n)
   tabled = by-width (isWide n) (bounds a)
 
-  slots : Slotted (geometry2 code n) (home code n) (pageCount code n) (numbers2 code n) (on code n) entryAt (placeBy code n)
+  pub slots : Slotted (geometry2 code n) (home code n) (pageCount code n) (numbers2 code n) (on code n) entryAt (placeBy code n)
   slots = slotted2 tabled (bounds a .eights) (numbers2 code n) (placeBy code n)
 
   -- what a version owes the laws of the calls
@@ -98,12 +101,19 @@ module _ {code n : ℕ} (a : Allowed code n) where
 
   -- a directory whose pages differ and are in range ends
   pub directories-end : (b : Bytes) → Ending (viewBy code n b)
-  directories-end b = 
+  directories-end b =
       chains-end (geometry2 code n) (home code n) (pageCount code n) (numbers2 code n) (on code n) entryAt (placeBy code n) (two-aside (isWide n)) (tabled .some) b
 
-  -- the page code is neither count nor bitmap, so taking and giving back pages leaves it
+  -- the version, the bitmap's bytes and the page code are neither count nor bitmap, so taking and giving back pages leaves them
+  pub head-kept : (i : ℕ) → i < 7 → (4 ≤ i → 6 ≤ i) → Kept (geometry2 code n) (pageCount code n) i
+  head-kept i l h = record { count = λ k. omega (arith, h k); map = λ q k e. omega arith }
+
   pub code-kept : Kept (geometry2 code n) (pageCount code n) 6
-  code-kept = record { count = λ h. omega arith; map = λ q l e. omega arith }
+  code-kept = head-kept 6 (omega arith) (λ l. omega arith)
+
+  -- and they belong to page 0
+  pub head-home : (i : ℕ) → i < 7 → shelf2 code n .home i ≡ 0
+  head-home i l = home-header tabled i (omega (arith, tabled .large))
 
   -- ---- growth: a directory that has suc j pages gets one more, and its row the entries of that page, all free
 
@@ -119,13 +129,29 @@ module _ {code n : ℕ} (a : Allowed code n) where
         let g = gained-is (lawful2 tabled) 1 b (sized2 b len) h enough in
         omega (arith, g .new p (omega (arith, hit-refl p)) .0, tabled .one)
 
+    -- every byte stays but bits, count, the link of its last page and the new page, and the names lead to it as before
+    module _ (f : Facts (viewBy code n b)) (leads : Leads (viewBy code n b) (pageCount code n) 0 names (suc e) t)
+        (ends : T (viewBy code n b .directoryEnds t)) where
+      pub lengthened-bytes2 : Grown (geometry2 code n) (shelf2 code n .home) (pageCount code n) (On.gained (geometry2 code n) (pageCount code n) 1 b) 1
+          (geometry2 code n .link (beyond (nextBy code n b) j t)) b longer
+      lengthened-bytes2 =
+          lengthened-bytes (geometry2 code n) (home code n) (pageCount code n) (numbers2 code n) (on code n) entryAt (placeBy code n) slots b (sized2 b len)
+          f names e t j leads is ends enough
+
+      pub lengthened-leads2 : Leads (viewBy code n longer) (pageCount code n) 0 names (suc e) t
+      lengthened-leads2 =
+          lengthened-leads (geometry2 code n) (home code n) (pageCount code n) (numbers2 code n) (on code n) entryAt (placeBy code n) slots b (sized2 b len)
+          f names e t j leads is ends enough
+
     pub lengthened2 : Facts (viewBy code n b) → Leads (viewBy code n b) (pageCount code n) 0 names (suc e) t → T (viewBy code n b .directoryEnds t)
         → T (goodDirectory (suc e) (viewBy code n b) t)
         → Facts (viewBy code n longer)
         × (rowAt (pageCount code n) (viewBy code n longer) 0 ≡ changeAt names (extend (pageSize code / 32)) (rowAt (pageCount code n) (viewBy code n b) 0))
+    unfolding flatMap
     lengthened2 f leads ends good =
-        let m : length (flatMap (on code n) (On.lowestFree (geometry2 code n) (pageCount code n) b ∷ [])) ≡ pageSize code / 32 =
-        page-entries (pageSize code) (pageCount code n) (On.lowestFree (geometry2 code n) (pageCount code n) b) (new-page (f .aside)) in
+        let p : ℕ = On.lowestFree (geometry2 code n) (pageCount code n) b in
+        let m : length (flatMap (on code n) (p ∷ [])) ≡ pageSize code / 32 =
+        ap length (append-nil (on code n p)) ∙ page-entries (pageSize code) (pageCount code n) p (new-page (f .aside)) in
         let r = lengthened-sound (geometry2 code n) (home code n) (pageCount code n) (numbers2 code n) (on code n) entryAt (placeBy code n) slots b (sized2 b len)
         f names e t j leads is ends enough good in
         (r .0, r .1 ∙ ap (λ (k : ℕ). changeAt names (extend k) (rowAt (pageCount code n) (viewBy code n b) 0)) m)

@@ -29,8 +29,10 @@ use Rattle.link_list.specs.Links.{LinkCall, readLinks, writeLinks, findLink, ch
 use Rattle.link_list.proofs.Refusals.{Broken, file-broken, list-broken}
 use Rattle.link_list.proofs.Steps.{run-sound}
 use Rattle.link_list.proofs.Headline.{link-demand}
+use Rattle.code_laws.proofs.Stops.{to-stops, directory-stops}
+use Rattle.code_laws.proofs.Room.{inCode, answerPasses, AllPass, all-append, settle-in, own-in, answer-in}
 use Rattle.codes.specs.Codes.{refusalCode}
-use Rattle.codes.proofs.Fits.{inCode, in-code, apart, answerPasses, AllPass, settle-in, to-stops, directory-stops, own-in, answer-in}
+use Rattle.codes.proofs.Fits.{in-code, apart, shallow, roomy1}
 use Rattle.link_codes.specs.Codes.{pointsToRow, mostRow, linkCode, linkCodeOf, LinkFits, AnswerFits, LinkApart}
 
 -- ---- what fits
@@ -63,13 +65,6 @@ all-base (l ∷ ls) h =
     let two = and-both (inCode (l .1)) (all (λ (m : Line). inCode (m .1)) ls) h in
     both-and (linkIn (l .1)) (all (λ (m : Line). linkIn (m .1)) ls) (base-in (l .1) (two .0)) (all-base ls (two .1))
 
-all-append : (ls ms : List Line) → AllPass linkIn ls → AllPass linkIn ms → AllPass linkIn (ls ++ ms)
-unfolding all
-all-append [] ms h k = k
-all-append (l ∷ ls) ms h k =
-    let two = and-both (linkIn (l .1)) (all (λ (m : Line). linkIn (m .1)) ls) h in
-    both-and (linkIn (l .1)) (all (λ (m : Line). linkIn (m .1)) (ls ++ ms)) (two .0) (all-append ls ms (two .1) k)
-
 -- ---- the lines of a link call
 
 bad-in : (x : Reading) → ((f : Refusal) → x ≡ bad f → Broken f) → AllPass linkIn (badLine x)
@@ -93,15 +88,15 @@ few b h = valid-sized b (sound-facts h .fits) .high
 module _ (b : Bytes) (h : T (sound b)) where
   file-in : (d : Bytes) → AllPass linkIn (fileLines d (treeOf b))
   unfolding fileLines all inCode
-  file-in d = all-base (fileLines d (treeOf b)) (rw (lt-ltb _ _ (to-stops b (few b h) (linksPath d))) tt)
+  file-in d = all-base (fileLines d (treeOf b)) (rw (lt-ltb _ _ (to-stops (treeOf b) (shallow b (few b h)) (linksPath d))) tt)
 
   judged-in : (d : Bytes) → AllPass linkIn (judgedLines d (treeOf b))
   unfolding judgedLines
-  judged-in d = all-append (fileLines d (treeOf b)) (badLine (reading d (treeOf b))) (file-in d) (bad-in (reading d (treeOf b)) (file-broken _))
+  judged-in d = all-append linkIn (fileLines d (treeOf b)) (badLine (reading d (treeOf b))) (file-in d) (bad-in (reading d (treeOf b)) (file-broken _))
 
   old-in : (d date : Bytes) → AllPass linkIn (oldLines d date (treeOf b))
   unfolding oldLines all inCode
-  old-in d date = all-base (oldLines d date (treeOf b)) (rw (lt-ltb _ _ (directory-stops b (few b h) d)) tt)
+  old-in d date = all-base (oldLines d date (treeOf b)) (rw (lt-ltb _ _ (directory-stops (treeOf b) (shallow b (few b h)) d)) tt)
 
   -- the trees that a writing's make and write are asked of are those of the images that they get
   room-in : (d date : Bytes) (rs : List Row) → AllPass linkIn (roomLines d date rs (treeOf b))
@@ -113,21 +108,21 @@ module _ (b : Bytes) (h : T (sound b)) where
       let t : Tree = replay (removal d (treeOf b)) (treeOf b) in
       let r = run-sound (removal d (treeOf b)) b h in
       let s = as-tree makes cleared (r .0) in
-      let make-in : AllPass inCode (refusals makes t) = subst (λ (u : Tree). AllPass inCode (refusals makes u)) (r .1) (own-in makes cleared (few cleared (r .0))) in
+      let make-in : AllPass inCode (refusals makes t) = subst (λ (u : Tree). AllPass inCode (refusals makes u)) (r .1) (own-in roomy1 makes (treeOf cleared) (shallow cleared (few cleared (r .0)))) in
       let write-in : AllPass inCode (refusals writes (treeAfter makes t)) =
-      subst (λ (u : Tree). AllPass inCode (refusals writes u)) (s .means ∙ ap (treeAfter makes) (r .1)) (own-in writes (after makes cleared) (few (after makes cleared) (s .isSound))) in
-      all-append (refusals makes t) (refusals writes (treeAfter makes t)) (all-base (refusals makes t) make-in) (all-base (refusals writes (treeAfter makes t)) write-in)
+      subst (λ (u : Tree). AllPass inCode (refusals writes u)) (s .means ∙ ap (treeAfter makes) (r .1)) (own-in roomy1 writes (treeOf (after makes cleared)) (shallow (after makes cleared) (few (after makes cleared) (s .isSound)))) in
+      all-append linkIn (refusals makes t) (refusals writes (treeAfter makes t)) (all-base (refusals makes t) make-in) (all-base (refusals writes (treeAfter makes t)) write-in)
 
   lines-in : (c : LinkCall) → AllPass linkIn (linkLines c (treeOf b))
   unfolding linkLines all linkIn pointsToRow inCode
-  lines-in (readLinks d list) = all-append (judgedLines d (treeOf b)) _ (judged-in d) tt
+  lines-in (readLinks d list) = all-append linkIn (judgedLines d (treeOf b)) _ (judged-in d) tt
   lines-in (writeLinks d date list) =
-      all-append (oldLines d date (treeOf b)) (badRowLine (badRow list) ++ roomLines d date list (treeOf b)) (old-in d date)
-      (all-append (badRowLine (badRow list)) (roomLines d date list (treeOf b)) (bad-row-in (badRow list) (list-broken list)) (room-in d date list))
+      all-append linkIn (oldLines d date (treeOf b)) (badRowLine (badRow list) ++ roomLines d date list (treeOf b)) (old-in d date)
+      (all-append linkIn (badRowLine (badRow list)) (roomLines d date list (treeOf b)) (bad-row-in (badRow list) (list-broken list)) (room-in d date list))
   lines-in (findLink d count value) = judged-in d
   lines-in (checkLinks d) =
       let rs = rowsIn (reading d (treeOf b)) in
-      all-append (judgedLines d (treeOf b)) (recordLines 0 d (treeOf b) rs) (judged-in d) (record-in 0 d (treeOf b) rs)
+      all-append linkIn (judgedLines d (treeOf b)) (recordLines 0 d (treeOf b) rs) (judged-in d) (record-in 0 d (treeOf b) rs)
 
   tree-in : (c : LinkCall) → T (answerPasses linkIn (treeLinkAnswer c (treeOf b)))
   unfolding treeLinkAnswer
@@ -142,7 +137,7 @@ link-in c b = go (sound b) refl
     judged : (f : Refusal) → answer verdict b ≡ refused f → T (answerPasses linkIn (linkAnswer c b))
     judged f e =
         subst (λ (a : Answer (LinkTold c)). T (answerPasses linkIn a)) (sym (link-demand .unsound c b f e))
-        (base-in f (subst (λ (a : Answer Verdict). T (answerPasses inCode a)) e (answer-in verdict b)))
+        (base-in f (subst (λ (a : Answer Verdict). T (answerPasses inCode a)) e (answer-in roomy1 verdict b)))
 
     unsound : Unsound verdict b → T (answerPasses linkIn (linkAnswer c b))
     unsound (byLength n e) = judged (refusal 1) e

@@ -31,7 +31,7 @@ use Rattle.laws.proofs.Slots.{size}
 use Rattle.laws.proofs.Lines.{settle-append}
 use Rattle.laws.proofs.Passed.{image-passed, Makes, make-passed}
 use Rattle.laws.proofs.Make.{place-of}
-use Rattle.places.proofs.Settled.{opened, settle-opened, settle-granted}
+use Rattle.arrivals.proofs.Settled.{opened, settle-opened, settle-granted}
 use Rattle.changes.specs.Asked.{Making}
 use Rattle.changes.proofs.Makes.{place-making}
 use Rattle.openings.specs.Openings.{Place, found, opening, Named}

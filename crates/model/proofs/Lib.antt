@@ -7,6 +7,8 @@ pub mod Bounds
 pub mod Run
 pub mod Desk
 pub mod Rows
+-- Directories that grow, as they do in version 2.
+pub mod Growth
 -- Which bytes calls may change.
 pub mod Touched
 -- Dates that are in the calendar, and dates that are not.

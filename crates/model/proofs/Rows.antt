@@ -1,4 +1,4 @@
--- Rows that rule out wrong definitions: for each must-fail edit of this crate there is a row here, or one of Touched or Calendar, that the edited
+-- Rows that rule out wrong definitions: for each must-fail edit of this crate there is a row here, or one of Growth, Touched or Calendar, that the edited
 -- definitions no longer give. They are few and on small images, since each edit computes all of them; the tables of every theme, in which most of them
 -- stand again among their like, are in crates/tables. Each row is computed from the definitions, so it holds by `refl`.
 use mathlib.Core.Path.{refl}

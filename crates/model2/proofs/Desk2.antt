@@ -96,7 +96,7 @@ desk1024 = laid 0 0 8192 (
 -- second has one entry, /f, on pages 135 and 3.
 unfoldable pub desk16 : Bytes
 desk16 = laid 0xE5 0 69632 (
-    (0, 0x5A ∷ 2 ∷ 17 ∷ 0 ∷ 131 ∷ 0 ∷ 1 ∷ 0b1111 ∷ replicate 15 0)
+    (0, 0x5A ∷ 2 ∷ 17 ∷ 0 ∷ 130 ∷ 0 ∷ 1 ∷ 0b1111 ∷ replicate 15 0)
     ∷ (23, 0b10000100 ∷ replicate 488 0)
     ∷ (512, 130 ∷ 0 ∷ [])
     ∷ (518, 0 ∷ 0 ∷ [])

@@ -7,21 +7,21 @@ use mathlib.Core.Bool.{Bool, true, false, not, _||_, true≢false}
 use mathlib.Core.Option.{Option, none, some, Option·getD, Option·map}
 use mathlib.Core.List.{List, [], _∷_, _++_}
 use lib.ListN.{length}
-use lib.Dec.{T, eqb, eqb·suc-suc}
-use borrow.Author.Tests.{ne-eqb, not-true, not-false}
+use lib.Dec.{T, eqb}
+use borrow.Author.Tests.{not-true, not-false}
 use Rattle.volume.specs.Bytes.{Bytes, if_then_else_}
 use Rattle.volume.specs.Lists.{first}
 use Rattle.model.specs.Layout.{pageSize, pageCount}
 use Rattle.model.specs.Date.{goodDate}
-use Rattle.model.specs.Entry.{entries, Entry, vacant, aFile, aDirectory, entryAt}
+use Rattle.model.specs.Entry.{entries, entryAt}
 use Rattle.model.specs.Version1.{view}
-use Rattle.model.specs.Tree.{Row, end, free, file, dir, width, held, lookup}
+use Rattle.model.specs.Tree.{Row, end, free, width, held, lookup}
 use Rattle.model.specs.Path.{Name, Path, below, pathOf, isNoPath, isRoot, parents, lastName}
-use Rattle.model.specs.Image.{entryRow, rowOf, rowAt, treeOf}
+use Rattle.model.specs.Image.{rowAt, treeOf}
 use Rattle.model.specs.Walk.{Walked, arrived, missing, blocked, walk, inWalked, entryNamed, walkOn, arrivedOr, parentPage}
 use Rattle.model.specs.Meaning.{faultTold}
 use Rattle.model.specs.Sound.{sound}
-use Rattle.model.specs.Effect.{isVacant, lowestVacant}
+use Rattle.model.specs.Effect.{lowestVacant}
 use Rattle.model.specs.Call.{Refusal as Model, refusal, refusalAt, Answer, refused, granted}
 use Rattle.model.specs.Refusal.{isMissing, isBlocked, stoppedAt, isThere, walkLines, settle}
 use Rattle.model.specs.EffectOf
@@ -30,7 +30,7 @@ use Rattle.laws.proofs.Facts.{Facts, sound-facts}
 use Rattle.laws.proofs.Slots.{size, slot}
 use Rattle.laws.proofs.Walks.{nodeOf, lookup-named, mapWalked, walk-bytes}
 use Rattle.walk.specs.Steps as code
-use Rattle.walk.proofs.Parents.{path-below}
+use Rattle.paths.proofs.Parents.{path-root, path-below}
 use Rattle.walk.specs.Steps.{spotOf}
 use Rattle.walk.specs.declared.Spot.{Spot}
 use Rattle.walk.specs.declared.Spot.the-variants as spots
@@ -42,11 +42,12 @@ use Rattle.judge.specs.Answers.{faultOf, findingOf, judgedAs}
 use Rattle.judge.specs.declared.Fault.{Fault}
 use Rattle.judge.specs.declared.Judgement.{Judgement}
 use Rattle.judge.specs.declared.Judgement.the-variants.{Sound, BadLength, BadHeader, Unsound}
-use Rattle.places.proofs.Places.{path-root, two, judgedTo, image-lines}
+use Rattle.arrivals.specs.Openings.{isNone}
+use Rattle.arrivals.proofs.Vacancies.{directory-full}
+use Rattle.places.proofs.Places.{two, judgedTo, image-lines}
 use Rattle.places.proofs.Entries.{leads}
 use Rattle.changes.proofs.Vacancies.{vacancy, first-entry}
 use Rattle.refusals.specs.declared.Refusal.{Refusal}
-use Rattle.refusals.specs.Told.{told}
 use Rattle.openings.specs.declared.Opening.{Opening}
 use Rattle.openings.specs.declared.Opening.the-variants.{At, Stopped}
 use Rattle.openings.specs.Openings.{Place, vacancyOr, unlessNamed, openingNamed, openingWalked, opening, openingOf, why}
@@ -77,30 +78,6 @@ module _ (b : Bytes) (p begins : ℕ) (bytes m : Bytes) (is : m ≡ bytes) (s : 
     unfolding unlessNamed vacancyOr
     none-vacant e = rw (← is, ← spot, new, ← lowest, e)
 
--- ---- a row is full exactly if no entry is vacant
-
-unfoldable isNone : Option ℕ → Bool
-isNone none = true
-isNone (some at) = false
-
-held-width : (r : Row) → held r ≤ width r
-unfolding held width
-held-width end = omega arith
-held-width (free r) = omega (arith, held-width r)
-held-width (file l n d v r) = omega (arith, held-width r)
-held-width (dir n d i r) = omega (arith, held-width r)
-
-row-full : (b : Bytes) (g : ℕ → Row) (ats : List ℕ) → eqb (held (rowOf (view b) g ats)) (width (rowOf (view b) g ats)) ≡ isNone (first (vacancy b) ats)
-unfolding held width rowOf entryRow first isVacant isNone
-row-full b g [] = refl
-row-full b g (x ∷ xs) = go (entryAt b x) (row-full b g xs)
-  where
-    go : (y : Entry) → eqb (held (rowOf (view b) g xs)) (width (rowOf (view b) g xs)) ≡ isNone (first (vacancy b) xs)
-        → eqb (held (entryRow (view b) g y (rowOf (view b) g xs))) (width (entryRow (view b) g y (rowOf (view b) g xs))) ≡ isNone (if isVacant y then some x else first (vacancy b) xs)
-    go vacant e = ne-eqb (held (rowOf (view b) g xs)) (suc (width (rowOf (view b) g xs))) (λ q. omega (arith, q, held-width (rowOf (view b) g xs)))
-    go (aFile locked name date start k) e = eqb·suc-suc (held (rowOf (view b) g xs)) (width (rowOf (view b) g xs)) ∙ e
-    go (aDirectory name date start k) e = eqb·suc-suc (held (rowOf (view b) g xs)) (width (rowOf (view b) g xs)) ∙ e
-
 -- ---- the lines behind the path and the date
 
 -- what the walk of the parents says
@@ -114,11 +91,11 @@ linesOf r n w x = settle (walkLines w ++ ((r || isThere (lookup n (arrivedOr end
 
 module _ (b : Bytes) (f : Facts b) where
   directory-asked : (t : ℕ) (n : Name) → linesOf false (n .bytes) (arrived (rowAt (pageCount b) (view b) t)) (lowestVacant b t, n .bytes) ≡ openingNamed b t n
-  unfolding settle isMissing isBlocked arrivedOr rowAt EffectOf.lowestVacant isThere unlessNamed vacancyOr isNone
+  unfolding settle isMissing isBlocked arrivedOr EffectOf.lowestVacant isThere unlessNamed vacancyOr isNone
   directory-asked t n =
       let deep : pageCount b ≡ suc (pageCount b - 1) = omega (arith, size f .low) in
       subst (λ (k : ℕ). linesOf false (n .bytes) (arrived (rowAt k (view b) t)) (lowestVacant b t, n .bytes) ≡ openingNamed b t n) (sym deep)
-      (rw (lookup-named b (pageCount b - 1) t (n .bytes), row-full b (rowAt (pageCount b - 1) (view b)) (entries t)) (go (entryNamed (view b) t (n .bytes)) (first (vacancy b) (entries t))))
+      (rw (lookup-named b (pageCount b - 1) t (n .bytes), directory-full (pageCount b - 1) (view b) t) (go (entryNamed (view b) t (n .bytes)) (first (vacancy b) (entries t))))
     where
       go : (o v : Option ℕ) → (if isThere (Option·map (λ at. nodeOf (view b) (rowAt (pageCount b - 1) (view b)) (entryAt b at)) o) then refused (refusal 8) else if isNone v then refused (refusal 9) else granted (Option·getD v 0, n .bytes))
           ≡ unlessNamed (vacancyOr (n .bytes) v) o

@@ -3,18 +3,16 @@ use mathlib.Core.Path.{_≡_, refl, sym, ap, _∙_, subst}
 use Prim.Native.Nat.{ℕ, _*_, _≤_}
 use native.Mathlib.Omega.{arith}
 use mathlib.Core.Bool.{Bool, true, false, not, true≢false}
-use mathlib.Core.Option.{Option, none, some}
-use mathlib.Core.List.{List, [], _∷_}
 use lib.ListN.{length}
-use lib.Dec.{T, eqb}
+use lib.Dec.{T}
 use borrow.Author.Tests.{not-true, not-false}
 use Rattle.volume.specs.Bytes.{Bytes, if_then_else_}
 use Rattle.model.specs.Layout.{pageSize, pageCount, validLength, validHeader}
 use Rattle.model.specs.Entry.{isLocked, nameAt, dateAt, entryAt}
 use Rattle.model.specs.Version1.{view}
 use Rattle.model.specs.Sound.{sound}
-use Rattle.model.specs.Path.{Name, Path, noPath, root, below, pathOf, isNoPath}
-use Rattle.model.specs.Walk.{Walked, arrived, missing, blocked, inWalked, entryNamed, walkOn}
+use Rattle.model.specs.Path.{Name, Path, pathOf, isNoPath}
+use Rattle.model.specs.Walk.{entryNamed}
 use Rattle.model.specs.Call.{Refusal as Model, refusal, refusalAt, Answer, refused, granted}
 use Rattle.model.specs.Refusal.{settle}
 use Rattle.model.specs.Meaning.{faultTold, firstFault, imageLines}
@@ -37,9 +35,12 @@ use Rattle.walk.specs.declared.Parent.{Parent}
 use Rattle.walk.specs.declared.Parent.the-variants.{In, Missing, Blocked}
 use Rattle.walk.specs.declared.Walk.{Walk}
 use Rattle.walk.specs.Steps.{spotOf as named-at, nameIn, parentOf, walkedParent}
-use Rattle.walk.proofs.Parents.{path-below}
+use Rattle.paths.proofs.Parents.{path-root, path-below, path-long}
 use Rattle.refusals.specs.declared.Refusal.{Refusal}
 use Rattle.refusals.specs.Told.{told}
+use Rattle.arrivals.specs.Places as Of
+use Rattle.arrivals.proofs.Placing as Placing
+use Rattle.arrivals.proofs.Placing.{placeBy, place-below, is-path}
 use Rattle.places.specs.declared.Place.{Place}
 use Rattle.places.specs.declared.Arrival.{Arrival}
 use Rattle.places.specs.declared.Arrival.the-variants.{At, Stopped}
@@ -53,13 +54,13 @@ module _ (b : Bytes) (p begins : ℕ) (bytes m : Bytes) (is : m ≡ bytes) (s : 
   name = record { begins = begins; bytes = bytes }
 
   pub not-named : s ≡ spots.Nowhere → refused (refusalAt 5 begins) ≡ placeNamed b p name
-  unfolding spotNamed walkedAnswer
+  unfolding Of.spotNamed walkedAnswer
   not-named e = rw (← is, ← spot, e)
 
   -- and what was read there is r
   module _ (at : ℕ) (found : s ≡ spots.At at) (r : Read) (read : entryOf r (isLocked b at) (nameAt b at) (dateAt b at) ≡ entryAt b at) where
     named : (x : Read) → r ≡ x → walkedAnswer (spotAt name at (entryOf x (isLocked b at) (nameAt b at) (dateAt b at))) ≡ placeNamed b p name
-    unfolding spotNamed
+    unfolding Of.spotNamed
     named x e = rw (← is, ← spot, found, ← read, e)
 
     pub named-vacant : r ≡ Vacant → refused (refusalAt 5 begins) ≡ placeNamed b p name
@@ -91,63 +92,30 @@ stopped-why a r e = rw e
 
 -- ---- the path
 
--- what the walk of a path's parents says of the place
-abbrev pub placeBy : Bytes → Walked (ℕ × Name) → Answer Spot
-placeBy b (arrived w) = placeNamed b (w .0) (w .1)
-placeBy b (missing i) = refused (refusalAt 5 i)
-placeBy b (blocked i) = refused (refusalAt 6 i)
-
-place-below : (b : Bytes) (ns : List Name) (n : Name) → placeBy b (walkedParent b (below ns n) 0) ≡ walkedAnswer (located b (below ns n))
-unfolding inWalked located walkedAnswer
-place-below b ns n = go (walkOn (view b) ns 0)
-  where
-    go : (w : Walked ℕ) → placeBy b (inWalked w (λ q. arrived (q, n))) ≡ walkedAnswer (inWalked w (λ q. spotNamed b n (entryNamed (view b) q (n .bytes))))
-    go (arrived q) = refl
-    go (missing i) = refl
-    go (blocked i) = refl
-
-pub path-root : (q : Bytes) → not (isNoPath (pathOf q)) ≡ true → length q ≡ 1 → pathOf q ≡ root
-unfolding pathOf isNoPath
-path-root [] e l = absurd (omega (arith, l))
-path-root (c ∷ []) e l = go (eqb c 0x2F) e
-  where
-    go : (z : Bool) → not (isNoPath (if z then root else noPath)) ≡ true → (if z then root else noPath) ≡ root
-    go true e = refl
-    go false e = let bad : _≡_ {A = Bool} true false = sym e in absurd (true≢false bad)
-path-root (c ∷ d ∷ r) e l = absurd (omega (arith, l))
-
 -- the code says r of whether it is a path
 module _ (path : Bytes) (r : Bool) (asked : r ≡ not (isNoPath (pathOf path))) where
   -- one that is not `/` alone has two bytes or more
   pub two : not r ≡ false → (length path ≡ 1 → ⊥) → 2 ≤ length path
-  unfolding pathOf isNoPath
-  two e h = go path (is-told asked e) h
-    where
-      go : (q : Bytes) → not (isNoPath (pathOf q)) ≡ true → (length q ≡ 1 → ⊥) → 2 ≤ length q
-      go [] e h = let bad : _≡_ {A = Bool} true false = sym e in absurd (true≢false bad)
-      go (c ∷ []) e h = absurd (h refl)
-      go (c ∷ d ∷ r) e h = omega arith
+  two e h = path-long path (is-told asked e) h
 
   module _ (b : Bytes) where
     pub no-path : not r ≡ true → refused (refusal 4) ≡ placeWalked b path
-    unfolding placeWalked settle
-    no-path e = rw (not-false (isNoPath (pathOf path)) (untold asked e))
+    no-path e = Placing.no-path (view b) path (not-false (isNoPath (pathOf path)) (untold asked e))
 
     module _ (e : not r ≡ false) where
       past-line : walkedAnswer (located b (pathOf path)) ≡ placeWalked b path
-      unfolding placeWalked settle
-      past-line = rw (not-true (isNoPath (pathOf path)) (is-told asked e))
+      past-line = is-path (view b) path (not-true (isNoPath (pathOf path)) (is-told asked e))
 
       pub at-root : length path ≡ 1 → granted theRoot ≡ placeWalked b path
-      unfolding located walkedAnswer
+      unfolding Of.located walkedAnswer
       at-root l = ap (λ (p : Path). walkedAnswer (located b p)) (sym (path-root path (is-told asked e) l)) ∙ past-line
 
       -- the code says w of the parents
       module _ (low : length path ≡ 1 → ⊥) (w : Parent) (walked : parentOf path w ≡ walkedParent b (pathOf path) 0) where
-        by-parents : (x : Parent) → w ≡ x → placeBy b (parentOf path x) ≡ placeWalked b path
+        by-parents : (x : Parent) → w ≡ x → placeBy (view b) (parentOf path x) ≡ placeWalked b path
         by-parents x is =
             let q = path-below path (two e low) (subst T (sym (is-told asked e)) tt) in
-            ap (placeBy b) ((rw is at walked) ∙ ap (λ (y : Path). walkedParent b y 0) (q .2)) ∙ place-below b (q .0) (q .1)
+            ap (placeBy (view b)) ((rw is at walked) ∙ ap (λ (y : Path). walkedParent b y 0) (q .2)) ∙ place-below (view b) (q .0) (q .1)
             ∙ ap (λ (y : Path). walkedAnswer (located b y)) (sym (q .2)) ∙ past-line
 
         pub parent-in : (q : Walk) (from : ℕ) → w ≡ In q from → {x : Answer Spot} → x ≡ placeNamed b (q .0 .0) (nameIn path from (length path)) → x ≡ placeWalked b path
@@ -191,7 +159,7 @@ module _ (b : Bytes) where
   -- the judge says j
   module _ (path : Bytes) (j : Judgement) (judged : findingOf j ≡ judgedAs b) where
     placed-judged : (x : Judgement) → j ≡ x → judgedTo refused (placeWalked b path) (findingOf x) ≡ placed b path
-    unfolding placed placeWalked settle
+    unfolding Of.placed Of.placeWalked settle
     placed-judged x e = ap (judgedTo refused (placeWalked b path)) (rw e at judged) ∙ image-lines refused (placeWalked b path)
 
     pub placed-sound : {pages free : ℕ} → j ≡ Sound pages free → {x : Answer Spot} → x ≡ placeWalked b path → x ≡ placed b path

@@ -11,7 +11,7 @@ use Rattle.refusals.specs.declared.Refusal.{Refusal}
 use Rattle.refusals.specs.declared.Refusal.the-variants.{BadLength, BadHeader, Unsound, NoPath, BadDate, IsRoot, NoSuchName, NotADirectory, NameTaken, IsADirectory, Locked, PastEnd, DirectoryFull, NoFreePages, NotEmpty, NotAPage}
 
 -- the fault of a number and a place
-abbrev faultCase : ℕ → ℕ × ℕ × ℕ → Fault
+abbrev pub faultCase : ℕ → ℕ × ℕ × ℕ → Fault
 faultCase n place =
     if eqb n 16 then BadEntry (record { 0 = place .0 }) (place .1) else if eqb n 17 then BadChain (record { 0 = place .0 }) (place .1) (place .2)
     else if eqb n 18 then OwnedTwice (record { 0 = place .0 }) else if eqb n 20 then MarkedFree (record { 0 = place .0 })

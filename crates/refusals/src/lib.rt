@@ -42,8 +42,8 @@ pub enum Refusal {
     NotAPage,
 }
 
-// The paper's number of a fault. 20 is told before 19.
-fn fault_number(fault: Fault) -> u8
+// The paper's number of a fault, in either version. 20 is told before 19.
+pub fn fault_number(fault: Fault) -> u8
     ensures { λ n. ⌜ n ≡ faultTold (faultOf fault) .number ⌝ }
 {
     match fault {

@@ -67,7 +67,7 @@ fn set_lock(image: &mut [u8], path: &[u8], locked: bool) -> ChangeAnswer
     let Place::File(target) = place else {
         return ChangeAnswer::Refused(Refusal::IsADirectory);
     };
-    changes::lock_entry(image, target.entry, locked);
+    entry_bytes::lock_entry(image, target.entry, locked);
     ChangeAnswer::Done
 }
 

@@ -35,7 +35,7 @@ use Rattle.laws.proofs.Entries.{Within}
 use Rattle.laws.proofs.NewEntry.{new-length}
 use Rattle.laws.proofs.Lines.{settle-holds, settle-append}
 use Rattle.laws.proofs.Passed.{image-passed, Makes, make-passed}
-use Rattle.places.proofs.Settled.{opened, settle-opened, settle-granted}
+use Rattle.arrivals.proofs.Settled.{opened, settle-opened, settle-granted}
 use Rattle.openings.specs.declared.Opening.{Opening}
 use Rattle.openings.specs.declared.Opening.the-variants.{At}
 use Rattle.openings.specs.Openings.{Place, found, opening, Named}

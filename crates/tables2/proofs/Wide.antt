@@ -51,7 +51,7 @@ pub two-bytes : looked (66560 ∷ []) (14 ∷ 15 ∷ []) 1 69632 desk16 ≡ (
   vacants 15 (file false (called "f") day2 (stretch 0 512 ++ (0x42 ∷ 0x43 ∷ 0x44 ∷ [])) (vacants 15 end)),
   (135 ∷ 3 ∷ []) ∷ [],
   0 ∷ 1 ∷ 2 ∷ 3 ∷ 130 ∷ 135 ∷ [],
-  131,
+  130,
   0 ∷ 130 ∷ [],
   (0, 14) ∷ (130, 0) ∷ [],
 )

@@ -9,10 +9,12 @@ use mathlib.Core.List.{List, [], _∷_, _++_, map}
 use lib.Dec.{T, eqb, ltb, eqb→eq}
 use borrow.Author.Tests.{le-ltb}
 use Rattle.volume.specs.Bytes.{if_then_else_}
-use Rattle.volume.specs.Lists.{all, keep, member}
+use Rattle.volume.specs.Lists.{all, any, keep, member}
 use Rattle.volume.proofs.Tests.{and-both, both-and}
 use Rattle.model.specs.Call.{Refusal, refusal, Answer, refused, granted}
+use Rattle.model.specs.Judge.{badEntry, badChain, ownedTwice, markedFree, lostPage, badCount, Judged, fault, clean}
 use Rattle.model.specs.RefusalOf.{Line, settle, Passes}
+use Rattle.model.specs.MeaningOf.{firstFault}
 
 -- ---- passing
 
@@ -226,3 +228,26 @@ above-ten table ls ns e =
 pub below-ten : (table : List ℕ) (ls : List Line) (ns : List ℕ) → lineNumbers ls ≡ belowTen table ns → NoTen ls
 below-ten table ls ns e =
     subst (λ (ms : List ℕ). T (all (λ n. not (eqb n 10)) ms)) (sym e) (without-ten (λ n. ltb (rankIn table 10) (rankIn table n)) (ten-apart table) ns)
+
+-- ---- the numbers of faults
+
+-- what is a member stays one behind others
+member-behind : (n : ℕ) (ms ns : List ℕ) → member n ns ≡ true → member n (ms ++ ns) ≡ true
+unfolding any
+member-behind n [] ns e = e
+member-behind n (m ∷ ms) ns e = ap (λ (c : Bool). eqb n m || c) (member-behind n ms ns e) ∙ or-true (eqb n m)
+  where
+    or-true : (c : Bool) → (c || true) ≡ true
+    or-true true = refl
+    or-true false = refl
+
+-- every fault's number stands where 3 stood, whatever numbers stand above and below
+pub fault-numbered : (ms ns : List ℕ) (j : Judged) → member (firstFault j .number) (ms ++ (16 ∷ 17 ∷ 18 ∷ 20 ∷ 19 ∷ 3 ∷ ns)) ≡ true
+unfolding any
+fault-numbered ms ns (fault (badEntry d i)) = member-behind 16 ms _ refl
+fault-numbered ms ns (fault (badChain d i passed)) = member-behind 17 ms _ refl
+fault-numbered ms ns (fault (ownedTwice p)) = member-behind 18 ms _ refl
+fault-numbered ms ns (fault (markedFree p)) = member-behind 20 ms _ refl
+fault-numbered ms ns (fault (lostPage p)) = member-behind 19 ms _ refl
+fault-numbered ms ns (fault badCount) = member-behind 3 ms _ refl
+fault-numbered ms ns (clean marks) = member-behind 3 ms _ refl

@@ -20,6 +20,7 @@ use Rattle.model.specs.Version.{Version, Calls}
 use Rattle.model.specs.RefusalOf.{Line, settle, Passes, bufferLines, bufferNumbers, handedLines, numbersFor, freeIn, wanted, makeLines, spaceLine, earlier, later, refusals, tableOf, ownNumbers}
 use Rattle.model.specs.MeaningOf.{sound, withoutPage, shown, lentShown, told, filled, changed, treeAnswer, treeBuffer, treeAfter, firstFault, treeOf, soundLine, lengthLine, headerLines, isFormat, lines, effect, answer, after, bufferAfter, toldOn, filledOn, numbers}
 use Rattle.model.specs.DemandsOf.{Untouched, Refuses, byHeader, byFault, AsTree, Formats, freshOf}
+use Rattle.view_laws.proofs.Facts.{Facts, to-facts}
 use Rattle.version_laws.proofs.Lines.{passed, settle-skip, settle-holds, settle-append, settle-open, settle-both, settle-refused, settle-first, refused-numbered, NoTen, ten-given, above-ten, below-ten}
 use Rattle.version_laws.proofs.Owed.{Owed}
 
@@ -62,6 +63,15 @@ tests-pass b (t ∷ ts) rest h =
 pub sound-headed : (w : Version) (b : Bytes) → T (sound w b) → Passes (lengthLine w b ∷ headerLines w b)
 unfolding soundBy
 sound-headed w b h = tests-pass b ((λ c. w .validLength (length c), 1) ∷ w .header) (soundFacts (w .see b .pages) (w .see b)) h
+
+-- and the facts of its view
+tests-behind : (cs ds : List Bool) → T (conditions (cs ++ ds)) → T (conditions ds)
+tests-behind [] ds h = h
+tests-behind (c ∷ cs) ds h = tests-behind cs ds (conditions-cons c (cs ++ ds) h .1)
+
+pub sound-facts : (w : Version) (b : Bytes) → T (sound w b) → Facts (w .see b)
+unfolding soundBy
+sound-facts w b h = to-facts (tests-behind (w .validLength (length b) ∷ map (λ (x : (Bytes → Bool) × ℕ). x .0 b) (w .header)) (soundFacts (w .see b .pages) (w .see b)) h)
 
 module _ {w : Version} (o : Owed w) where
   -- ---- on a sound image only the plain tree's lines count

@@ -46,7 +46,8 @@ linked-long f n p = go (eqb (f p) 0)
     go true = mem-head p []
     go false = mem-head p (chain f (linked f n (f p)) (f p))
 
-linked-first : (f : ℕ → ℕ) (n p : ℕ) → 1 ≤ n → (j : ℕ) × (linked f n p ≡ suc j)
+-- there is one at least
+pub linked-first : (f : ℕ → ℕ) (n p : ℕ) → 1 ≤ n → (j : ℕ) × (linked f n p ≡ suc j)
 unfolding linked
 linked-first f zero p h = absurd (omega arith)
 linked-first f (suc n) p h = go (eqb (f p) 0)

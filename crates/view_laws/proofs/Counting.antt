@@ -27,7 +27,7 @@ use Rattle.view_laws.proofs.Facts.{FactsTo, Facts}
 
 -- ---- marked pages
 
-zeros-marked : (v : View) (a : ℕ) (xs : List ℕ) (n : ℕ) → ((q : ℕ) → q < a → q < n → pageBit v q ≡ 1) → ((q : ℕ) → q < a → occ q xs ≡ 0)
+pub zeros-marked : (v : View) (a : ℕ) (xs : List ℕ) (n : ℕ) → ((q : ℕ) → q < a → q < n → pageBit v q ≡ 1) → ((q : ℕ) → q < a → occ q xs ≡ 0)
     → ((q : ℕ) → a ≤ q → q < n → occ q xs ≡ pageBit v q) → zeroBits v n + min n a + sum (λ p. occ p xs) n ≡ n
 unfolding On.zeroBits
 zeros-marked v a xs zero one none own = omega arith
@@ -73,6 +73,12 @@ width-row v g (x ∷ xs) = go (v .entryAt x) (width-row v g xs)
     go (aFile locked name date start size) h = ap suc h
     go (aDirectory name date start size) h = ap suc h
 
+-- the row of a directory is as wide as it has entries
+pub directory-width : (v : View) (d p : ℕ) → T (goodDirectory d v p) → width (rowAt d v p) ≡ length (v .entries p)
+unfolding goodDirectory rowAt
+directory-width v zero p h = absurd h
+directory-width v (suc d) p h = width-row v (rowAt d v) (v .entries p)
+
 -- the content of a file is as long as its size, if there is room for it on its pages and those lie in the image
 pub content-length : (v : View) (start size : ℕ) → size ≤ v .geometry .room * v .numbers .pagesFor size
     → ((q : ℕ) → Mem q (chain (next v) (v .numbers .pagesFor size) start) → content (v .geometry) q + v .geometry .room ≤ length (v .bytes))
@@ -99,11 +105,6 @@ module _ (v : View) (Real : ℕ → Type 0)
   abbrev Counts : ℕ → Type 0
   Counts d = (p : ℕ) → T (goodDirectory d v p) → Own (owned d v p) → length (owned d v p) ≡ needsOf (v .numbers) (rowAt d v p)
 
-  directory-width : (d p : ℕ) → T (goodDirectory d v p) → width (rowAt d v p) ≡ length (v .entries p)
-  unfolding goodDirectory rowAt
-  directory-width zero p h = absurd h
-  directory-width (suc d) p h = width-row v (rowAt d v) (v .entries p)
-
   entry-needs : (d : ℕ) → Counts d → (x : Entry) → T (inDirectory true (goodDirectory d v) x) → Own (own d v x) → (rest : Row)
       → length (own d v x) + needsOf (v .numbers) rest ≡ needsOf (v .numbers) (entryRow v (rowAt d v) x rest)
   unfolding own needsOf entryRow pagesOf
@@ -117,7 +118,7 @@ module _ (v : View) (Real : ℕ → Type 0)
       let two : (q : ℕ) → occ q (v .directoryPages start ++ owned d v start) ≡ occ q (v .directoryPages start) + occ q (owned d v start) =
       λ q. occ-append q (v .directoryPages start) (owned d v start) in
       let w : directoryNeeds (v .numbers) (width (rowAt d v start)) ≡ length (v .directoryPages start) =
-      ap (directoryNeeds (v .numbers)) (directory-width d start g) ∙ on-pages start (λ q. omega (arith, two q, h .0 q)) (λ q m. h .1 q (omega (arith, m, two q))) in
+      ap (directoryNeeds (v .numbers)) (directory-width v d start g) ∙ on-pages start (λ q. omega (arith, two q, h .0 q)) (λ q m. h .1 q (omega (arith, m, two q))) in
       omega (arith, length-append (v .directoryPages start) (owned d v start), w, below start g (λ q. omega (arith, two q, h .0 q), λ q m. h .1 q (omega (arith, m, two q))))
 
   row-needs : (d : ℕ) → Counts d → (ats : List ℕ) → ((x : ℕ) → Mem x ats → T (inDirectory true (goodDirectory d v) (v .entryAt x)) × Own (own d v (v .entryAt x)))

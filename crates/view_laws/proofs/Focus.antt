@@ -119,6 +119,18 @@ directory-ends : (v : View) (x : Entry) (name date : Bytes) (s size : ℕ) → x
 unfolding goodEntry
 directory-ends v x name date s size is h = and-both (v .directoryEnds s) _ (subst (λ (y : Entry). T (goodEntry v y)) is h) .0
 
+-- and so do those of the directory that some names lead to
+pub leads-ends : (v : View) (names : List Name) (d p e t : ℕ) → T (goodDirectory d v p) → T (v .directoryEnds p) → Leads v d p names e t → T (v .directoryEnds t)
+leads-ends v [] d p e t h ends l = subst (λ (q : ℕ). T (v .directoryEnds q)) (l .1) ends
+leads-ends v (n ∷ ns) zero p e t h ends l = absurd l
+leads-ends v (n ∷ ns) (suc d) p e t h ends l =
+    let m = named-found v p (n .bytes) (l .0) (l .2) .0 in
+    let i = l .3 in
+    let g = good-split d v p h in
+    leads-ends v ns d (l .1) e t
+    (subst (λ (x : Entry). T (inDirectory true (goodDirectory d v) x)) (i .is) (g .below (l .0) m))
+    (directory-ends v (v .entryAt (l .0)) (i .name) (i .date) (l .1) (i .size) (i .is) (g .each (l .0) m)) (l .4)
+
 -- ---- the focus law
 
 -- the directory that starts on page t, read to depth e, is changed by op and is good

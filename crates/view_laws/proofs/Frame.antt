@@ -214,7 +214,7 @@ good-below d v p x h m =
 abbrev pub Headed : View → Type 0
 Headed v = (p : ℕ) → Mem p (v .directoryPages p)
 
-mem-long : (p : ℕ) (ps : List ℕ) → Mem p ps → 1 ≤ length ps
+pub mem-long : (p : ℕ) (ps : List ℕ) → Mem p ps → 1 ≤ length ps
 mem-long p [] m = absurd (omega arith)
 mem-long p (x ∷ ps) m = omega arith
 

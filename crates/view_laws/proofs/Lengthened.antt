@@ -30,6 +30,7 @@ use Rattle.model.specs.Walk.{changeAt}
 use Rattle.view_laws.proofs.Owns.{subtree}
 use Rattle.view_laws.proofs.Facts.{Facts, root-once}
 use Rattle.view_laws.proofs.Focus.{Leads, leads-sub, leads-below}
+use Rattle.view_laws.proofs.Ways.{leads-kept}
 use Rattle.view_laws.proofs.Slots.{Real, known-page}
 use Rattle.view_laws.proofs.Shelf.{seen, SameBytes}
 use Rattle.view_laws.proofs.Grown.{Longer, directory-grown}
@@ -223,6 +224,15 @@ module _ (g : Geometry) (home : ℕ → ℕ) (N : ℕ) (numbers : Numbers) (on :
       where
         only : (q : ℕ) → Mem q (page ∷ []) → q ≡ page
         only q m = elim (mem-cons q page [] m) [ inl z ↦ z | inr k ↦ absurd (omega (arith, k)) ]
+
+    pub lengthened-bytes : Grown g home N qs 1 (g .link last) b b′
+    lengthened-bytes = w
+
+    -- the names lead to it as before
+    pub lengthened-leads : Leads v′ N 0 names (suc e) t
+    lengthened-leads =
+        leads-kept (chained-shelved g home N numbers on read placed slots .follows b b′ (w .size)) names N 0 (suc e) t one leads
+        (λ q m z. outside q m (omega (arith, z, occ-append q (v .directoryPages t) (owned (suc e) v t))))
 
     -- the theorem
     pub lengthened-sound : T (goodDirectory (suc e) v t)

@@ -8,7 +8,10 @@ pub mod Level
 pub mod Focus
 pub mod Change
 pub mod Counting
+pub mod FileEntry
 pub mod Walks
+pub mod Ways
+pub mod Rows
 pub mod Slots
 pub mod Vacant
 pub mod Shelf

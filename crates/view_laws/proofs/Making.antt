@@ -1,12 +1,12 @@
 -- An entry that is made: the lowest vacant one of its directory becomes the new one, so the row gains it and nothing else.
 use mathlib.Core.Path.{_≡_, refl, sym, ap, _∙_, subst}
-use Prim.Native.Nat.{ℕ, suc, _+_, _≤_}
+use Prim.Native.Nat.{ℕ, suc, _+_, _≤_, _<_}
 use native.Mathlib.Omega.{arith}
 use mathlib.Core.Bool.{true, not}
-use mathlib.Core.Option.{Option, none, some, Option·getD, Option·map}
+use mathlib.Core.Option.{Option, none, some, Option·getD, Option·map, Option·none-ne-some}
 use mathlib.Core.List.{List, [], _∷_}
 use lib.ListN.{length}
-use lib.Dec.{T, eqb, T-not}
+use lib.Dec.{T, eqb, eqb→eq, T-not, not-T}
 use Rattle.volume.specs.Bytes.{Bytes, put, if_then_else_}
 use Rattle.volume.specs.Lists.{first}
 use Rattle.volume.specs.Field.{Field, load}
@@ -20,7 +20,7 @@ use Rattle.volume.proofs.Entries.{Made, made-is}
 use Rattle.model.specs.Entry.{Entry, vacant, aFile, aDirectory}
 use Rattle.model.specs.View.{View}
 use Rattle.model.specs.Sound.{goodEntry, isNamed, sameName, inDirectory, goodDirectory}
-use Rattle.model.specs.Tree.{Row, width, held as heldIn, Node, lookup, fill}
+use Rattle.model.specs.Tree.{Row, width, held as heldIn, isFull, Node, lookup, fill}
 use Rattle.model.specs.Path.{Name}
 use Rattle.model.specs.Image.{entryRow, rowOf, rowAt}
 use Rattle.model.specs.Walk.{entryNamed, changeAt}
@@ -31,6 +31,7 @@ use Rattle.view_laws.proofs.Facts.{Facts}
 use Rattle.view_laws.proofs.Focus.{Leads}
 use Rattle.view_laws.proofs.Change.{Works}
 use Rattle.view_laws.proofs.Walks.{nodeOf, lookup-named}
+use Rattle.view_laws.proofs.Rows.{held-few}
 use Rattle.view_laws.proofs.Shelf.{Shelf, seen, Shelved, lies, entry-changed}
 
 -- ---- the lowest vacant entry, and a name that is not there
@@ -46,6 +47,30 @@ all-held v g (x ∷ xs) e = go (v .entryAt x) e (all-held v g xs)
     go vacant u next = let bad : _≡_ {A = ℕ} 0 1 = cc in absurd (omega (arith, bad))
     go (aFile locked name date start size) u next = ap suc (next u)
     go (aDirectory name date start size) u next = ap suc (next u)
+
+some-held : (v : View) (g : ℕ → Row) (ats : List ℕ) (at : ℕ) → first (λ x. isVacant (v .entryAt x)) ats ≡ some at
+    → heldIn (rowOf v g ats) < width (rowOf v g ats)
+unfolding heldIn width rowOf first entryRow isVacant
+some-held v g [] at e = absurd (Option·none-ne-some _ e)
+some-held v g (x ∷ xs) at e = go (v .entryAt x) e (some-held v g xs at)
+  where
+    go : (y : Entry) → (if isVacant y then some x else first (λ z. isVacant (v .entryAt z)) xs) ≡ some at
+        → (first (λ z. isVacant (v .entryAt z)) xs ≡ some at → heldIn (rowOf v g xs) < width (rowOf v g xs))
+        → heldIn (entryRow v g y (rowOf v g xs)) < width (entryRow v g y (rowOf v g xs))
+    go vacant u next = omega (arith, held-few (rowOf v g xs))
+    go (aFile locked name date start size) u next = omega (arith, next u)
+    go (aDirectory name date start size) u next = omega (arith, next u)
+
+-- a directory without a vacant entry is full, and one with such an entry is not
+pub none-full : (v : View) (d p : ℕ) → first (λ x. isVacant (v .entryAt x)) (v .entries p) ≡ none → T (isFull (rowAt (suc d) v p))
+unfolding rowAt
+none-full v d p e = eq-eqb (all-held v (rowAt d v) (v .entries p) e)
+
+pub some-roomy : (v : View) (d p at : ℕ) → first (λ x. isVacant (v .entryAt x)) (v .entries p) ≡ some at → T (not (isFull (rowAt (suc d) v p)))
+unfolding rowAt
+some-roomy v d p at e =
+    let r : Row = rowOf v (rowAt d v) (v .entries p) in
+    not-T (isFull r) (λ t. omega (arith, eqb→eq (heldIn r) (width r) t, some-held v (rowAt d v) (v .entries p) at e))
 
 pub some-vacant : (v : View) (d p : ℕ) → T (not (eqb (heldIn (rowAt (suc d) v p)) (width (rowAt (suc d) v p)))) → first (λ x. isVacant (v .entryAt x)) (v .entries p) ≡ some (Option·getD (first (λ x. isVacant (v .entryAt x)) (v .entries p)) 0)
 unfolding rowAt

@@ -16,9 +16,10 @@ use Rattle.model.specs.Tree.{Row, Node, fileNode, directoryNode, lookup}
 use Rattle.model.specs.Path.{Name, below}
 use Rattle.model.specs.Image.{contentOf, entryRow, rowOf, rowAt}
 use Rattle.model.specs.Walk.{Walked, arrived, missing, blocked, enter, walk, nodeNamed, inWalked, walkTo, entryNamed, enterOn, walkOn, arrivedOr}
-use Rattle.model.specs.Refusal.{isMissing, isBlocked}
+use Rattle.model.specs.Refusal.{isMissing, isBlocked, isDirectoryNode}
 use Rattle.view_laws.proofs.Frame.{Headed, depth, good-below}
 use Rattle.view_laws.proofs.Focus.{DirectoryAt, Leads, named-found, leads-depth}
+use Rattle.view_laws.proofs.FileEntry.{isFileEntry}
 
 -- ---- a name in a row
 
@@ -51,6 +52,13 @@ lookup-row v g n (x ∷ xs) =
 pub lookup-named : (v : View) (d p : ℕ) (n : Bytes) → lookup n (rowAt (suc d) v p) ≡ Option·map (λ at. nodeOf v (rowAt d v) (v .entryAt at)) (entryNamed v p n)
 unfolding rowAt entryNamed
 lookup-named v d p n = lookup-row v (rowAt d v) n (v .entries p)
+
+-- a named entry whose node is no directory is a file's
+pub node-file : (v : View) (g : ℕ → Row) (n : Bytes) (x : Entry) → T (isNamed n x) → T (not (isDirectoryNode (nodeOf v g x))) → T (isFileEntry x)
+unfolding isNamed isDirectoryNode nodeOf isFileEntry
+node-file v g n vacant h k = h
+node-file v g n (aFile locked name date start size) h k = tt
+node-file v g n (aDirectory name date start size) h k = k
 
 -- ---- the names but the last
 
@@ -175,6 +183,12 @@ module _ (v : View) (ns : List Name) (n : Name) (p : Parent v ns) (at : ℕ) (e 
 
   abbrev pub target-at : Target v ns n
   target-at = record { above = p; at = at; found = e; node = named-node; position = named-position }
+
+-- the entry of a path that leads to no directory is a file's
+pub target-file : {v : View} {ns : List Name} {n : Name} (tg : Target v ns n)
+    → ((x : Node) → walkTo (below ns n) (rowAt (v .pages) v 0) ≡ arrived x → T (not (isDirectoryNode x))) → T (isFileEntry (v .entryAt (tg .at)))
+target-file {v} {n} tg isFile =
+    node-file v (rowAt (tg .above .e) v) (n .bytes) (v .entryAt (tg .at)) (named-found v (tg .above .t) (n .bytes) (tg .at) (tg .found) .1) (isFile _ (tg .node))
 
 -- the walk on to the last name stops where that of the parents does
 inner-missing : (ns : List Name) (n : Name) (r : Row) → T (not (isMissing (walkTo (below ns n) r))) → T (not (isMissing (walk ns r)))

@@ -4,36 +4,39 @@ use mathlib.Core.Logic.{inl, inr}
 use Prim.Native.Nat.{ℕ, suc, _+_, _-_, _*_, _≤_, _<_, max}
 use native.Mathlib.Omega.{arith}
 use native.Mathlib.Decide.{decLt}
-use mathlib.Core.Bool.{Bool, true, not}
+use mathlib.Core.Bool.{Bool, true, false, not}
 use mathlib.Core.Option.{some}
-use mathlib.Core.List.{List, [], _++_, flatMap}
+use mathlib.Core.List.{List, [], _∷_, _++_, flatMap}
 use lib.ListN.{length, take, length-append}
 use lib.Dec.{T, eqb, eqb→eq}
-use Rattle.volume.specs.Bytes.{Bytes, byteAt, put, same}
+use Rattle.volume.specs.Bytes.{Bytes, byteAt, put, same, if_then_else_}
 use Rattle.volume.specs.Field.{Field, load}
 use Rattle.volume.specs.Chain.{chain, beyond}
 use Rattle.volume.specs.Geometry as On
-use Rattle.volume.proofs.Occ.{occ, Mem, mem-or-not, occ-append}
+use Rattle.volume.proofs.Occ.{occ, Mem, mem-or-not, not-mem, occ-append}
 use Rattle.volume.proofs.Tests.{if-yes, if-no, and-both, both-and, eq-eqb}
+use Rattle.volume.proofs.Splice.{splice-nil}
 use Rattle.volume.proofs.Fields.{place, wide, Off}
 use Rattle.volume.proofs.Chains.{chain-length}
-use Rattle.volume.proofs.Lawful.{Sized}
+use Rattle.volume.proofs.Lawful.{Sized, Kept}
 use Rattle.volume.proofs.Grow.{Gained, gained-is}
 use Rattle.volume.proofs.Writes.{Written, written-is}
 use Rattle.model.specs.Name.{legalName}
 use Rattle.model.specs.Entry.{Entry, vacant, aFile, aDirectory}
 use Rattle.model.specs.View.{View, next}
-use Rattle.model.specs.Sound.{pagesOf, goodEntry, isNamed, sameName, inDirectory, goodDirectory}
+use Rattle.model.specs.Sound.{pagesOf, pagesAt, goodEntry, isNamed, sameName, inDirectory, goodDirectory}
 use Rattle.model.specs.Tree.{Row, file, rewrite, relock}
 use Rattle.model.specs.Path.{Name}
 use Rattle.model.specs.Image.{contentOn, contentOf, entryRow, rowAt}
 use Rattle.model.specs.Walk.{entryNamed, changeAt}
+use Rattle.model.specs.Refusal.{contentIn}
 use Rattle.view_laws.proofs.Owns.{own}
 use Rattle.view_laws.proofs.Frame.{SamePages, unchanged-pages}
 use Rattle.view_laws.proofs.Facts.{Facts}
 use Rattle.view_laws.proofs.Level.{good-split}
 use Rattle.view_laws.proofs.Focus.{Leads, named-found}
 use Rattle.view_laws.proofs.Change.{Works}
+use Rattle.view_laws.proofs.Walks.{nodeOf}
 use Rattle.view_laws.proofs.Slots.{Owned, entry-owned, entry-apart}
 use Rattle.view_laws.proofs.Shelf.{Shelf, seen, Shelved, lies, entry-changed}
 
@@ -126,6 +129,31 @@ module _ (v v′ : View) (e t at : ℕ) (good : T (goodDirectory (suc e) v t)) (
       ∙ ap (λ (x : Bytes). file k name date (take size x) rest) (sym (kept .content))
       ∙ ap (λ (ps : List ℕ). file k name date (contentOf v′ size ps) rest) (sym (kept .pages)))
 
+-- ---- a file's pages and content
+
+module _ (v : View) {at : ℕ} {locked : Bool} {name date : Bytes} {start size : ℕ} (is : v .entryAt at ≡ aFile locked name date start size) where
+  pub file-pages : pagesAt v at ≡ chain (next v) (v .numbers .pagesFor size) start
+  unfolding pagesOf
+  file-pages = ap (pagesOf v) is
+
+  pub file-content : (g : ℕ → Row) → contentIn (nodeOf v g (v .entryAt at)) ≡ contentOf v size (chain (next v) (v .numbers .pagesFor size) start)
+  unfolding contentIn nodeOf pagesOf
+  file-content g = ap (λ (x : Entry). contentIn (nodeOf v g x)) is
+
+-- ---- a write of no bytes leaves the image, which then has the content already
+
+put-none : (from : ℕ) (v c : Bytes) → length v ≡ 0 → put from v c ≡ c
+put-none from [] c e = splice-nil c from
+put-none from (x ∷ v) c e = absurd (omega arith)
+
+pub written-or-none : (Says : (image content : Bytes) → Type 0) (b b′ : Bytes) (from : ℕ) (v c : Bytes) → Says b c → Says b′ (put from v c)
+    → Says (if eqb (length v) 0 then b else b′) (put from v c)
+written-or-none Says b b′ from v c unchanged written = go (eqb (length v) 0) (eqb→eq (length v) 0)
+  where
+    go : (none : Bool) → (T none → length v ≡ 0) → Says (if none then b else b′) (put from v c)
+    go true z = subst (Says b) (sym (put-none from v c (z tt))) unchanged
+    go false z = written
+
 -- ---- on any shelf
 
 -- the file at `at` that the names and n lead to, whose start page stands at `field`
@@ -144,7 +172,7 @@ module _ {s : Shelf} (w : Shelved s) {b : Bytes} (sized : Sized (s .geometry) (s
   unfolding own pagesOf
   mine = ap (own e (seen s b)) is
 
-  file-owned : Owned (seen s b) ps
+  pub file-owned : Owned (seen s b) ps
   file-owned = subst (Owned (seen s b)) mine (entry-owned f names e t at leads entry)
 
   file-ends : beyond (On.next (s .geometry) b) (s .numbers .pagesFor size) (load field b) ≡ 0
@@ -153,6 +181,18 @@ module _ {s : Shelf} (w : Shelved s) {b : Bytes} (sized : Sized (s .geometry) (s
   -- the directory's pages are none of the file's
   beside : (q : ℕ) → Mem q (s .directoryPages b t) → occ q ps ≡ 0
   beside q m = ap (occ q) (sym mine) ∙ entry-apart f (w .law .header) (w .high) (w .rooted b) names e t at q leads entry m
+
+  -- its bytes
+  abbrev pub content : Bytes
+  content = contentOf (seen s b) size ps
+
+  -- A write of no bytes: the row has the file's content already.
+  pub unwritten-sound : Facts (seen s b) × (rowAt (s .pages) (seen s b) 0 ≡ changeAt names (rewrite n content) (rowAt (s .pages) (seen s b) 0))
+  unfolding own
+  unwritten-sound =
+      entry-changed w f names e t leads b at [] entry (λ q k. absurd (omega arith)) refl (λ i k z u. refl) (rewrite n content) (isNamed n) good ends
+      (rewrite-works (seen s b) (seen s b) e t at good n found is is file-ends refl)
+      (record { bits = λ q l. refl; count = refl; fresh-in = λ q k. let r = file-owned .inside q (subst (Mem q) mine k) in (r .0, r .1) })
 
   -- Another lock: one byte of the entry changes, no field that holds a page or the count.
   module _ (b′ : Bytes) (k : Bool) (len : length b′ ≡ length b) (rest : (i : ℕ) → (at ≤ i → at + 32 ≤ i) → byteAt b′ i ≡ byteAt b i)
@@ -247,7 +287,7 @@ module _ {s : Shelf} (w : Shelved s) {b : Bytes} (sized : Sized (s .geometry) (s
 
     -- that the entry reads as the larger file is the version's to show, from `write-bytes`
     pub written-sound : s .entryAt b′ at ≡ aFile locked name date (load field b′) size′
-        → Facts (seen s b′) × (rowAt (s .pages) (seen s b′) 0 ≡ changeAt names (rewrite n (put from u (contentOf (seen s b) size ps))) (rowAt (s .pages) (seen s b) 0))
+        → Facts (seen s b′) × (rowAt (s .pages) (seen s b′) 0 ≡ changeAt names (rewrite n (put from u content)) (rowAt (s .pages) (seen s b) 0))
     unfolding contentOf own pagesOf
     written-sound is′ =
         let r = write-bytes in
@@ -262,7 +302,7 @@ module _ {s : Shelf} (w : Shelved s) {b : Bytes} (sized : Sized (s .geometry) (s
           ],
         ))
         (r .size) (λ i c z a. r .rest i c (λ y. omega (arith, high, z (omega (arith, y, low)))) (λ y. omega (arith, sp-high, z (omega (arith, y, sp-low)))) a)
-        (rewrite n (put from u (contentOf (seen s b) size ps))) (isNamed n) good ends
+        (rewrite n (put from u content)) (isNamed n) good ends
         (rewrite-works (seen s b) (seen s b′) e t at good n found is is′
         (ap (λ (m : ℕ). beyond (On.next (s .geometry) b′) m (load field b′)) (sym many) ∙ r .ends)
         (ap (λ (l : List ℕ). take size′ (flatMap (contentOn (seen s b′)) l)) pages′ ∙ r .content))
@@ -271,3 +311,25 @@ module _ {s : Shelf} (w : Shelved s) {b : Bytes} (sized : Sized (s .geometry) (s
           count = omega (arith, ap length mine, ap length mine′, length-append ps qs, r .count, write-gained .many, f .counted, space);
           fresh-in = λ q m. inside′ q (subst (Mem q) mine′ m);
         })
+
+    -- the image afterwards: the size and the other fields of the entry, and what stands before it on page 0; and what it means once the entry is read
+    pub record Rewritten : Type 0 where
+      pub long : length b′ ≡ length b
+      pub newSize : (i : ℕ) → i < length x → byteAt b′ (sp + i) ≡ byteAt x i
+      pub fields : (i : ℕ) → at ≤ i → i < at + 32 → Off field i → (sp ≤ i → sp + length x ≤ i) → byteAt b′ i ≡ byteAt b i
+      pub header : (i : ℕ) → i < at → s .home i ≡ 0 → Kept (s .geometry) (s .pages) i → byteAt b′ i ≡ byteAt b i
+      pub means : s .entryAt b′ at ≡ aFile locked name date (load field b′) size′
+          → Facts (seen s b′) × (rowAt (s .pages) (seen s b′) 0 ≡ changeAt names (rewrite n (put from u content)) (rowAt (s .pages) (seen s b) 0))
+
+    pub rewritten : Rewritten
+    rewritten =
+        let r = write-bytes in
+        let o = lies w f names e t leads at entry in
+        let none : occ 0 (ps ++ qs) ≡ 0 = not-mem 0 (ps ++ qs) (λ m. omega (arith, inside′ 0 m .0, w .law .header)) in
+        record {
+          long = r .size;
+          newSize = r .beside;
+          fields = λ i l h off z. r .rest i (o .bytes i l h .1) off z (ap (λ (p : ℕ). occ p (ps ++ qs)) (o .bytes i l h .0) ∙ r .apart);
+          header = λ i l h c. r .rest i c (λ y. omega (arith, y, l, low)) (λ y. omega (arith, y, l, sp-low)) (ap (λ (p : ℕ). occ p (ps ++ qs)) h ∙ none);
+          means = written-sound;
+        }

@@ -1,168 +1,39 @@
--- The names of a path, one by one: each but the last is one step of the walk, and what is left is a path again.
-use mathlib.Core.Path.{_≡_, refl, sym, ap, ap₂, subst, _∙_}
+-- The walk of a path's names, as the code's answers have it: what `paths` says of any view, by version 1's, at pages that are bytes.
+use mathlib.Core.Path.{_≡_, ap}
 use mathlib.Core.Logic.{_≢_}
-use Prim.Native.Nat.{ℕ, _+_, _-_, _≤_, _<_}
+use Prim.Native.Nat.{ℕ, _+_, _-_, _<_, _≤_}
 use native.Mathlib.Omega.{arith}
-use mathlib.Core.Bool.{Bool, true, false, not, _&&_}
-use mathlib.Core.Option.{Option, none, some, Option·map}
-use mathlib.Core.List.{List, [], _∷_, dropLast}
-use lib.ListN.{length, take, drop, length-take, length-drop}
-use lib.Dec.{T, eqb}
-use Rattle.volume.specs.Bytes.{Bytes, if_then_else_}
-use Rattle.volume.specs.Lists.{all, lastOr}
-use Rattle.volume.proofs.Tests.{and-both}
-use Rattle.model.specs.Name.{legalText, padded}
-use Rattle.model.specs.Entry.{Entry, vacant, aFile, aDirectory, entryAt}
+use mathlib.Core.Bool.{true, not}
+use lib.ListN.{length, take, drop}
+use Rattle.volume.specs.Bytes.{Bytes}
+use Rattle.model.specs.Name.{padded}
 use Rattle.model.specs.Version1.{view}
-use Rattle.model.specs.Path.{Name, Path, noPath, below, before, texts, namesFrom, pathTo, pathOf, isNoPath, parents}
-use Rattle.model.specs.Walk.{Walked, arrived, missing, blocked, inWalked, entryNamed, enterOn, walkOn}
-use Rattle.model.proofs.Bounds.{text-fits}
+use Rattle.model.specs.Path.{pathOf, isNoPath}
+use Rattle.model.specs.Walk.{missing, blocked}
 use Rattle.names.specs.Texts.{textLength}
-use Rattle.names.proofs.Paths.{text-more, text-last, legal-more, legal-last}
+use Rattle.paths.proofs.Parents as On
+pub use Rattle.paths.proofs.Parents.{standing-fits, standing-short, standing-last}
 use Rattle.walk.specs.declared.Walk.{Walk}
 use Rattle.walk.specs.declared.Reached.{Reached}
 use Rattle.walk.specs.declared.Reached.the-variants.{Into, Missing, Blocked}
-use Rattle.walk.specs.Steps.{walkedOf, Small, nameIn, last, entered, walkedParent}
+use Rattle.walk.specs.Steps.{walkedOf, Small, entered, walkedParent}
 
--- what is left of a path from the byte on at which its next name begins
-abbrev rest : Bytes → (from : ℕ) → Path
-rest path from = pathTo (namesFrom from (texts (drop from path)))
-
--- ---- a path of one name, and of more
-
-texts-one : (r : Bytes) → 1 ≤ length (texts r)
-unfolding texts before
-texts-one [] = omega arith
-texts-one (c ∷ r) = go (eqb c 0x2F) (texts r)
-  where
-    go : (z : Bool) (vs : List Bytes) → 1 ≤ length (if z then [] ∷ vs else before c vs)
-    go true vs = omega arith
-    go false [] = omega arith
-    go false (v ∷ vs) = omega arith
-
-names-one : (i : ℕ) (vs : List Bytes) → 1 ≤ length vs → 1 ≤ length (namesFrom i vs)
-unfolding namesFrom
-names-one i [] h = h
-names-one i (v ∷ vs) h = omega arith
-
-path-more : (n : Name) (ns : List Name) → 1 ≤ length ns → (parents (pathTo (n ∷ ns)) ≡ n ∷ parents (pathTo ns)) × (last (pathTo (n ∷ ns)) ≡ last (pathTo ns))
-unfolding pathTo lastOr
-path-more n [] h = absurd (omega arith)
-path-more n (m ∷ ns) h = (refl, refl)
-
--- the name that begins at `from` ends at `to`
-module _ (path : Bytes) (from to : ℕ) (low : from ≤ length path) (is : to ≡ from + textLength (drop from path)) where
-  rest-last : to ≡ length path → rest path from ≡ below [] (nameIn path from to)
-  unfolding pathTo namesFrom lastOr
-  rest-last e = rw (text-last path from to is low e)
-
-  module _ (h : to < length path) where
-    long : from + length (take (to - from) (drop from path)) + 1 ≡ to + 1
-    long = omega (arith, length-take (to - from) (drop from path), length-drop from path)
-
-    next-names : namesFrom from (texts (drop from path)) ≡ nameIn path from to ∷ namesFrom (to + 1) (texts (drop (to + 1) path))
-    unfolding namesFrom
-    next-names = rw (text-more path from to is h, long)
-
-    rest-more : (parents (rest path from) ≡ nameIn path from to ∷ parents (rest path (to + 1))) × (last (rest path from) ≡ last (rest path (to + 1)))
-    rest-more = rw next-names (path-more (nameIn path from to) (namesFrom (to + 1) (texts (drop (to + 1) path)))
-        (names-one (to + 1) (texts (drop (to + 1) path)) (texts-one (drop (to + 1) path))))
-
--- ---- one step, and then the others
-
-enter-then : (n : Name) (o : Option Entry) (on : ℕ → Walked ℕ) → enterOn n o on ≡ inWalked (enterOn n o arrived) on
-unfolding enterOn inWalked
-enter-then n none on = refl
-enter-then n (some vacant) on = refl
-enter-then n (some (aFile locked name date start size)) on = refl
-enter-then n (some (aDirectory name date start size)) on = refl
-
-walk-step : (b : Bytes) (n : Name) (ns : List Name) (p : ℕ) → walkOn (view b) (n ∷ ns) p ≡ inWalked (entered b n p) (walkOn (view b) ns)
-unfolding walkOn
-walk-step b n ns p = enter-then n (Option·map (entryAt b) (entryNamed (view b) p (n .bytes))) (walkOn (view b) ns)
-
--- ---- where the walk of a path stands: in the directory on page p, before the name that begins at `from`
-
-pub record Standing (b path : Bytes) (p from : ℕ) : Type 0 where
-  pub low : from ≤ length path
-  pub small : p < 256
-  pub legal : T (all legalText (texts (drop from path)))
-  pub left : walkedParent b (rest path from) p ≡ walkedParent b (pathOf path) 0
-
-path-names : (path : Bytes) → 2 ≤ length path → T (not (isNoPath (pathOf path))) → T (all legalText (texts (drop 1 path))) × (rest path 1 ≡ pathOf path)
-unfolding pathOf isNoPath
-path-names [] l h = absurd (omega arith)
-path-names (c ∷ []) l h = absurd (omega arith)
-path-names (c ∷ d ∷ r) l h = go (eqb c 0x2F) (all legalText (texts (d ∷ r))) (pathTo (namesFrom 1 (texts (d ∷ r)))) h
-  where
-    go : (x y : Bool) (q : Path) → T (not (isNoPath (if x && y then q else noPath))) → T y × (q ≡ (if x && y then q else noPath))
-    go true true q k = (tt, refl)
-    go true false q k = absurd k
-    go false y q k = absurd k
-
--- a path of two bytes or more has a last name
-pub path-below : (path : Bytes) → 2 ≤ length path → T (not (isNoPath (pathOf path))) → (ns : List Name) × (n : Name) × (pathOf path ≡ below ns n)
-unfolding pathTo
-path-below path l h = go (namesFrom 1 (texts (drop 1 path))) (names-one 1 (texts (drop 1 path)) (texts-one (drop 1 path))) (path-names path l h .1)
-  where
-    go : (ms : List Name) → 1 ≤ length ms → pathTo ms ≡ pathOf path → (ns : List Name) × (n : Name) × (pathOf path ≡ below ns n)
-    go [] k e = absurd (omega arith)
-    go (m ∷ ms) k e = (dropLast (m ∷ ms), lastOr m ms, sym e)
+-- the walk stands in the directory on page p, before the name that begins at `from`
+abbrev pub Standing : (b path : Bytes) (p from : ℕ) → Type 0
+Standing b path p from = (p < 256) × On.Standing (view b) path p from
 
 pub standing-first : (b path : Bytes) (p : ℕ) → p ≡ 0 → 2 ≤ length path → not (isNoPath (pathOf path)) ≡ true → Standing b path p 1
-standing-first b path p root l h =
-    let q = path-names path l (subst T (sym h) tt) in
-    record { low = omega arith; small = omega arith; legal = q .0; left = ap₂ (λ (x : Path) (z : ℕ). walkedParent b x z) (q .1) root }
+standing-first b path p root l h = (omega arith, On.standing-first (view b) path p root l h)
 
--- the next name ends at `to`
-module _ {b path : Bytes} {p from : ℕ} (s : Standing b path p from) (to : ℕ) (is : to ≡ from + textLength (drop from path)) where
-  pub standing-short : to ≡ length path → length path - from ≤ 16
-  standing-short e =
-      let short = text-fits _ (rw (legal-last path from to is (s .low) e) at (s .legal)) in
-      omega (arith, e, short, length-take (to - from) (drop from path), length-drop from path)
+-- one turn: the next name ends at `to` and is v, and the answer for the step is r
+module _ {b path : Bytes} {p from : ℕ} (s : On.Standing (view b) path p from) (to : ℕ) (is : to ≡ from + textLength (drop from path))
+    (most : to ≤ length path) (more : to ≢ length path) (v : Bytes) (name : v ≡ padded (take (to - from) (drop from path))) (r : Reached)
+    (step : walkedOf r ≡ entered b (record { begins = from; bytes = v }) p) where
+  pub standing-next : (walk : Walk) → Small r → r ≡ Into walk → Standing b path (walk .0 .0) (to + 1)
+  standing-next walk l e = (rw e at l, On.standing-next s to is most more name step (ap walkedOf e))
 
-  pub standing-last : to ≡ length path → arrived (p, nameIn path from (length path)) ≡ walkedParent b (pathOf path) 0
-  unfolding walkOn inWalked
-  standing-last e =
-      ap (λ k. arrived (p, nameIn path from k)) (sym e) ∙ ap (λ (x : Path). walkedParent b x p) (sym (rest-last path from to (s .low) is e)) ∙ s .left
+  pub standing-missing : (byte : ℕ) → r ≡ Missing byte → missing byte ≡ walkedParent b (pathOf path) 0
+  standing-missing byte e = On.standing-missing s to is most more name step (ap walkedOf e)
 
-  module _ (most : to ≤ length path) (more : to ≢ length path) where
-    h : to < length path
-    h = omega (arith, more)
-
-    legal : T (legalText (take (to - from) (drop from path))) × T (all legalText (texts (drop (to + 1) path)))
-    legal = and-both (legalText (take (to - from) (drop from path))) _ (rw (legal-more path from to is h) at (s .legal))
-
-    pub standing-fits : length (take (to - from) (drop from path)) ≤ 16
-    standing-fits = text-fits _ (legal .0)
-
-    stepped : inWalked (inWalked (entered b (nameIn path from to) p) (walkOn (view b) (parents (rest path (to + 1)))))
-        (λ q. arrived (q, last (rest path (to + 1)))) ≡ walkedParent b (pathOf path) 0
-    stepped =
-        let r = rest-more path from to (s .low) is h in
-        ap (λ (w : Walked ℕ). inWalked w (λ q. arrived (q, last (rest path (to + 1)))))
-        (sym (walk-step b (nameIn path from to) (parents (rest path (to + 1))) p))
-        ∙ ap₂ (λ (ns : List Name) (n : Name). inWalked (walkOn (view b) ns p) (λ q. arrived (q, n))) (sym (r .0)) (sym (r .1)) ∙ s .left
-
-    -- one turn: the name is v, and the answer for the step is r
-    module _ (v : Bytes) (name : v ≡ padded (take (to - from) (drop from path))) (r : Reached)
-        (step : walkedOf r ≡ entered b (record { begins = from; bytes = v }) p) where
-      gone : (x : Reached) → r ≡ x
-          → inWalked (inWalked (walkedOf x) (walkOn (view b) (parents (rest path (to + 1)))))
-          (λ q. arrived (q, last (rest path (to + 1)))) ≡ walkedParent b (pathOf path) 0
-      gone x e =
-          let stands : walkedOf x ≡ entered b (nameIn path from to) p = ap walkedOf (sym e) ∙ step
-          ∙ ap (λ (w : Bytes). entered b (record { begins = from; bytes = w }) p) name in
-          rw stands stepped
-
-      pub standing-next : (walk : Walk) → Small r → r ≡ Into walk → Standing b path (walk .0 .0) (to + 1)
-      unfolding inWalked
-      standing-next walk l e = record { low = omega (arith, h); small = rw e at l; legal = legal .1; left = gone (Into walk) e }
-
-      pub standing-missing : (byte : ℕ) → r ≡ Missing byte → missing byte ≡ walkedParent b (pathOf path) 0
-      unfolding inWalked
-      standing-missing byte e = gone (Missing byte) e
-
-      pub standing-blocked : (byte : ℕ) → r ≡ Blocked byte → blocked byte ≡ walkedParent b (pathOf path) 0
-      unfolding inWalked
-      standing-blocked byte e = gone (Blocked byte) e
+  pub standing-blocked : (byte : ℕ) → r ≡ Blocked byte → blocked byte ≡ walkedParent b (pathOf path) 0
+  standing-blocked byte e = On.standing-blocked s to is most more name step (ap walkedOf e)

@@ -1,14 +1,13 @@
--- The values of the walk's enums in the model, and what its contracts name besides: one step, and the parent of a path.
+-- The values of the walk's enums in the model, and what its contracts name besides, by version 1's view: one step, and the parent of a path.
 use Prim.Native.Nat.{ℕ, _+_, _-_, _<_, _≤_}
-use mathlib.Core.List.{[]}
-use mathlib.Core.Option.{Option, none, some, Option·map}
-use lib.ListN.{length, take, drop}
+use mathlib.Core.Option.{Option, none, some}
+use lib.ListN.{length}
 use Rattle.volume.specs.Bytes.{Bytes}
-use Rattle.model.specs.Name.{padded}
-use Rattle.model.specs.Entry.{entryAt}
 use Rattle.model.specs.Version1.{view}
-use Rattle.model.specs.Path.{Name, Path, noPath, root, below, parents}
-use Rattle.model.specs.Walk.{Walked, arrived, missing, blocked, inWalked, entryNamed, enterOn, walkOn}
+use Rattle.model.specs.Path.{Name, Path}
+use Rattle.model.specs.Walk.{Walked, arrived, missing, blocked}
+use Rattle.paths.specs.Steps as On
+pub use Rattle.paths.specs.Steps.{nameIn, last}
 use Rattle.walk.specs.declared.Spot.{Spot}
 use Rattle.walk.specs.declared.Spot.the-variants.{At, Nowhere}
 use Rattle.walk.specs.declared.Reached.{Reached}
@@ -38,22 +37,13 @@ Small (Blocked byte) = Unit {0}
 
 -- one name on from the directory on page p
 abbrev pub entered : Bytes → Name → (page : ℕ) → Walked ℕ
-entered b n p = enterOn n (Option·map (entryAt b) (entryNamed (view b) p (n .bytes))) arrived
+entered b = On.entered (view b)
 
 -- ---- the parent of a path
 
--- the name that stands in a path from one byte to another
-abbrev pub nameIn : Bytes → (from to : ℕ) → Name
-nameIn path from to = record { begins = from; bytes = padded (take (to - from) (drop from path)) }
-
-abbrev pub last : Path → Name
-last noPath = record { begins = 0; bytes = [] }
-last root = record { begins = 0; bytes = [] }
-last (below ns n) = n
-
 -- the page of the directory that all names but the last lead to from the one on page p, and the last name
 abbrev pub walkedParent : Bytes → Path → (page : ℕ) → Walked (ℕ × Name)
-walkedParent b path p = inWalked (walkOn (view b) (parents path) p) (λ q. arrived (q, last path))
+walkedParent b = On.walkedParent (view b)
 
 abbrev pub parentOf : Bytes → Parent → Walked (ℕ × Name)
 parentOf path (into.In walk from) = arrived (walk .0 .0, nameIn path from (length path))

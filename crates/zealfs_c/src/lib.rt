@@ -1,54 +1,25 @@
 // The calls of `zealfs` for C, one function for each; include/zealfs.h declares them. None has a `requires`: whatever the bytes, a function
 // returns the code of the model's `answer`, puts what the answer tells into the out arrays, zeros beside a refusal, and leaves the image and
 // the reader's buffer as `after` and `bufferAfter` say. To C a slice is a pointer and then a length, and a reference to an array a pointer.
-use fields::Position;
-use links::FindLinkAnswer;
-use store::StoreAnswer;
-use tidy::TidyAnswer;
-use zealfs::ChangeAnswer;
-use zealfs::FindAnswer;
-use zealfs::ListAnswer;
-use zealfs::ReadAnswer;
-use zealfs::VerdictAnswer;
 ghost use mathlib.Core.Path.{_≡_};
 ghost use mathlib.Core.Bool.{true, false};
-ghost use Prim.Native.Nat.{_≤_};
 ghost use lib.ListN.{length};
 ghost use Rattle.volume.specs.Bytes.{put};
 ghost use Rattle.model.specs.Listing.{listing};
 ghost use Rattle.model.specs.Sound.{sound};
-ghost use Rattle.model.specs.Call.{format, verdict, find, list, read, makeFile, makeDirectory, write, removeFile, removeDirectory, setLock, store, isFile};
+ghost use Rattle.model.specs.Call.{format, verdict, find, list, read, makeFile, makeDirectory, write, removeFile, removeDirectory, setLock, store};
 ghost use Rattle.model.specs.Meaning.{answer, after, bufferAfter, copied};
-ghost use Rattle.answers.specs.Answers.{changeAnswer, findDate, listName, listDate};
+ghost use Rattle.answers.specs.Answers.{findDate, listName, listDate};
 ghost use Rattle.repair.specs.Repair.{repairAnswer, repairAfter};
 ghost use Rattle.audit.specs.Owner.{ownerNumbers};
 ghost use Rattle.moves.specs.Tidy.{tidyAnswer, tidyAfter};
 ghost use Rattle.moves.specs.Propose.{proposeAnswer, proposeAfter};
-ghost use Rattle.tidy.specs.Answer.{answerOf};
 ghost use Rattle.link_list.specs.Links.{readLinks, writeLinks, findLink, checkLinks, linkAnswer, linkAfter};
 ghost use Rattle.link_rows.specs.Judged.{rowsOf};
 ghost use Rattle.link_looks.specs.Looks.{numbersAfter};
-ghost use Rattle.codes.specs.Codes.{codeOf, Fits, placeOf};
+ghost use Rattle.codes.specs.Codes.{codeOf};
 ghost use Rattle.link_codes.specs.Codes.{linkCodeOf};
-ghost use Rattle.zealfs_c.specs.Outs.{lockNumber, soundNumber, verdictOut, findOut, listOut, numberOut, figureOut};
-
-// The code of a call that tells nothing else.
-fn change_code(a: ChangeAnswer) -> u64
-    requires { ⌜ Fits (placeOf (changeAnswer a)) ⌝ }
-    ensures { λ n. ⌜ n ≡ codeOf (changeAnswer a) ⌝ }
-{
-    match a {
-        ChangeAnswer::Done => 0,
-        ChangeAnswer::Refused(r) => codes::code(r),
-    }
-}
-
-// A file's lock as a number.
-fn lock_number(locked: bool) -> u64
-    ensures { λ n. ⌜ n ≡ lockNumber (isFile locked) ⌝ }
-{
-    if locked { 1 } else { 0 }
-}
+ghost use Rattle.codes.specs.Outs.{soundNumber, verdictOut, findOut, listOut, numberOut, figureOut};
 
 // ---- the calls
 
@@ -57,7 +28,7 @@ pub extern "C" fn zealfs_format(image: &mut [u8]) -> u64
     ensures { λ r. ⌜ r ≡ codeOf (answer format (now (image .entry))) ⌝ }
     ensures { λ _. ⌜ now (image .exit) ≡ after format (now (image .entry)) ⌝ }
 {
-    change_code(zealfs::format(image))
+    c_changes::format(image)
 }
 
 // out: the pages, the free number.
@@ -66,16 +37,7 @@ pub extern "C" fn zealfs_verdict(image: &[u8], out: &mut [u64; 2]) -> u64
     ensures { λ r. ⌜ r ≡ codeOf (answer verdict (now (image .entry))) ⌝ }
     ensures { λ _. ⌜ now (out .exit) ≡ verdictOut (answer verdict (now (image .entry))) ⌝ }
 {
-    match zealfs::verdict(image) {
-        VerdictAnswer::Sound(pages, free) => {
-            *out = [pages as u64, free as u64];
-            0
-        }
-        VerdictAnswer::Refused(r) => {
-            *out = [0; 2];
-            codes::code(r)
-        }
-    }
+    c_looks::verdict(image, out)
 }
 
 // out: the kind (0 a file, 1 a directory), the size, 1 if it is locked.
@@ -90,24 +52,7 @@ pub extern "C" fn zealfs_find(
     ensures { λ _. ⌜ now (out .exit) ≡ findOut (answer (find (now (path .entry))) (now (image .entry))) ⌝ }
     ensures { λ _. ⌜ now (date .exit) ≡ findDate (answer (find (now (path .entry))) (now (image .entry))) ⌝ }
 {
-    let found = zealfs::find(image, path);
-    let found_date = found.date;
-    *date = found_date;
-    let answer = found.answer;
-    match answer {
-        FindAnswer::File(size, locked) => {
-            *out = [0, size as u64, lock_number(locked)];
-            0
-        }
-        FindAnswer::Directory => {
-            *out = [1, 256, 0];
-            0
-        }
-        FindAnswer::Refused(r) => {
-            *out = [0; 3];
-            codes::code(r)
-        }
-    }
+    c_looks::find(image, path, out, date)
 }
 
 // out: 1 if the entry is occupied, its kind (0 a file, 1 a directory), its size, 1 if it is locked. All are 0 for an empty one.
@@ -125,30 +70,7 @@ pub extern "C" fn zealfs_list(
     ensures { λ _. ⌜ now (name .exit) ≡ listName (answer (list (now (path .entry)) entry) (now (image .entry))) ⌝ }
     ensures { λ _. ⌜ now (date .exit) ≡ listDate (answer (list (now (path .entry)) entry) (now (image .entry))) ⌝ }
 {
-    let listed = zealfs::list(image, path, entry as usize);
-    let listed_name = listed.name;
-    *name = listed_name;
-    let listed_date = listed.date;
-    *date = listed_date;
-    let answer = listed.answer;
-    match answer {
-        ListAnswer::Empty => {
-            *out = [0; 4];
-            0
-        }
-        ListAnswer::File(size, locked) => {
-            *out = [1, 0, size as u64, lock_number(locked)];
-            0
-        }
-        ListAnswer::Directory => {
-            *out = [1, 1, 256, 0];
-            0
-        }
-        ListAnswer::Refused(r) => {
-            *out = [0; 4];
-            codes::code(r)
-        }
-    }
+    c_looks::list(image, path, entry, out, name, date)
 }
 
 // out: the number of bytes copied.
@@ -164,16 +86,7 @@ pub extern "C" fn zealfs_read(
     ensures { λ _. ⌜ now (out .exit) ≡ numberOut (answer (read (now (path .entry)) position (now (buffer .entry))) (now (image .entry))) ⌝ }
     ensures { λ _. ⌜ now (buffer .exit) ≡ bufferAfter (read (now (path .entry)) position (now (buffer .entry))) (now (image .entry)) ⌝ }
 {
-    match zealfs::read(image, path, Position(position as usize), buffer) {
-        ReadAnswer::Copied(count) => {
-            *out = [count as u64];
-            0
-        }
-        ReadAnswer::Refused(r) => {
-            *out = [0; 1];
-            codes::code(r)
-        }
-    }
+    c_looks::read(image, path, position, buffer, out)
 }
 
 #[no_mangle]
@@ -181,7 +94,7 @@ pub extern "C" fn zealfs_make_file(image: &mut [u8], path: &[u8], date: &[u8]) -
     ensures { λ r. ⌜ r ≡ codeOf (answer (makeFile (now (path .entry)) (now (date .entry))) (now (image .entry))) ⌝ }
     ensures { λ _. ⌜ now (image .exit) ≡ after (makeFile (now (path .entry)) (now (date .entry))) (now (image .entry)) ⌝ }
 {
-    change_code(zealfs::make_file(image, path, date))
+    c_changes::make_file(image, path, date)
 }
 
 #[no_mangle]
@@ -189,7 +102,7 @@ pub extern "C" fn zealfs_make_directory(image: &mut [u8], path: &[u8], date: &[u
     ensures { λ r. ⌜ r ≡ codeOf (answer (makeDirectory (now (path .entry)) (now (date .entry))) (now (image .entry))) ⌝ }
     ensures { λ _. ⌜ now (image .exit) ≡ after (makeDirectory (now (path .entry)) (now (date .entry))) (now (image .entry)) ⌝ }
 {
-    change_code(zealfs::make_directory(image, path, date))
+    c_changes::make_directory(image, path, date)
 }
 
 #[no_mangle]
@@ -197,7 +110,7 @@ pub extern "C" fn zealfs_write(image: &mut [u8], path: &[u8], position: u64, byt
     ensures { λ r. ⌜ r ≡ codeOf (answer (write (now (path .entry)) position (now (bytes .entry))) (now (image .entry))) ⌝ }
     ensures { λ _. ⌜ now (image .exit) ≡ after (write (now (path .entry)) position (now (bytes .entry))) (now (image .entry)) ⌝ }
 {
-    change_code(zealfs::write(image, path, Position(position as usize), bytes))
+    c_changes::write(image, path, position, bytes)
 }
 
 #[no_mangle]
@@ -205,7 +118,7 @@ pub extern "C" fn zealfs_remove_file(image: &mut [u8], path: &[u8]) -> u64
     ensures { λ r. ⌜ r ≡ codeOf (answer (removeFile (now (path .entry))) (now (image .entry))) ⌝ }
     ensures { λ _. ⌜ now (image .exit) ≡ after (removeFile (now (path .entry))) (now (image .entry)) ⌝ }
 {
-    change_code(zealfs::remove_file(image, path))
+    c_changes::remove_file(image, path)
 }
 
 #[no_mangle]
@@ -213,7 +126,7 @@ pub extern "C" fn zealfs_remove_directory(image: &mut [u8], path: &[u8]) -> u64
     ensures { λ r. ⌜ r ≡ codeOf (answer (removeDirectory (now (path .entry))) (now (image .entry))) ⌝ }
     ensures { λ _. ⌜ now (image .exit) ≡ after (removeDirectory (now (path .entry))) (now (image .entry)) ⌝ }
 {
-    change_code(zealfs::remove_directory(image, path))
+    c_changes::remove_directory(image, path)
 }
 
 #[no_mangle]
@@ -221,7 +134,7 @@ pub extern "C" fn zealfs_lock(image: &mut [u8], path: &[u8]) -> u64
     ensures { λ r. ⌜ r ≡ codeOf (answer (setLock true (now (path .entry))) (now (image .entry))) ⌝ }
     ensures { λ _. ⌜ now (image .exit) ≡ after (setLock true (now (path .entry))) (now (image .entry)) ⌝ }
 {
-    change_code(zealfs::lock(image, path))
+    c_changes::lock(image, path)
 }
 
 #[no_mangle]
@@ -229,7 +142,7 @@ pub extern "C" fn zealfs_unlock(image: &mut [u8], path: &[u8]) -> u64
     ensures { λ r. ⌜ r ≡ codeOf (answer (setLock false (now (path .entry))) (now (image .entry))) ⌝ }
     ensures { λ _. ⌜ now (image .exit) ≡ after (setLock false (now (path .entry))) (now (image .entry)) ⌝ }
 {
-    change_code(zealfs::unlock(image, path))
+    c_changes::unlock(image, path)
 }
 
 // ---- calls outside the lists of demand 3
@@ -240,17 +153,7 @@ pub extern "C" fn zealfs_repair(image: &mut [u8]) -> u64
     ensures { λ r. ⌜ r ≡ codeOf (repairAnswer (now (image .entry))) ⌝ }
     ensures { λ _. ⌜ now (image .exit) ≡ repairAfter (now (image .entry)) ⌝ }
 {
-    change_code(repair::repair(image))
-}
-
-// Positions as C has them.
-fn copy_owners(from: &[usize], to: &mut [u64])
-    requires { ⌜ (length (now from) ≡ length (now to)) × (length (now to) ≤ 256) ⌝ }
-    ensures { λ _. ⌜ now (to .exit) ≡ now (from .entry) ⌝ }
-{
-    for p in 0..to.len() {
-        to[p] = from[p] as u64;
-    }
+    c_requests::repair(image)
 }
 
 // The second judge (02 §8): 1 if the image is sound, and who owns each page: 0 nobody, 1 the header, else where the owner's entry begins.
@@ -259,12 +162,7 @@ pub extern "C" fn zealfs_audit(image: &[u8], owners: &mut [u64; 256]) -> u64
     ensures { λ r. ⌜ r ≡ soundNumber (sound (now (image .entry))) ⌝ }
     ensures { λ _. ⌜ now (owners .exit) ≡ ownerNumbers (now (image .entry)) ⌝ }
 {
-    let findings = audit::audit(image);
-    let row = findings.owners;
-    let mut numbers = [0u64; 256];
-    copy_owners(&row, &mut numbers);
-    *owners = numbers;
-    if findings.sound { 1 } else { 0 }
+    c_requests::audit(image, owners)
 }
 
 // out: the page's number.
@@ -282,16 +180,7 @@ pub extern "C" fn zealfs_store(
     ensures { λ _. ⌜ now (out .exit) ≡ numberOut (answer (store (now (path .entry)) (now (date .entry)) (now (bytes .entry)) number (now (page .entry))) (now (image .entry))) ⌝ }
     ensures { λ _. ⌜ now (page .exit) ≡ bufferAfter (store (now (path .entry)) (now (date .entry)) (now (bytes .entry)) number (now (page .entry))) (now (image .entry)) ⌝ }
 {
-    match store::store(image, path, date, bytes, number as usize, page) {
-        StoreAnswer::At(at) => {
-            *out = [at.0 as u64];
-            0
-        }
-        StoreAnswer::Refused(r) => {
-            *out = [0];
-            codes::code(r)
-        }
-    }
+    c_requests::store(image, path, date, bytes, number, page, out)
 }
 
 // The bytes of the listing from byte `from` on, as many as there are and as the buffer has room for; the result is how many. An image that is not
@@ -301,20 +190,7 @@ pub extern "C" fn zealfs_listing(image: &[u8], from: u64, buffer: &mut [u8]) -> 
     ensures { λ r. ⌜ r ≡ length (copied (listing (now (image .entry))) from (now (buffer .entry))) ⌝ }
     ensures { λ _. ⌜ now (buffer .exit) ≡ put 0 (copied (listing (now (image .entry))) from (now (buffer .entry))) (now (buffer .entry)) ⌝ }
 {
-    listing_text::listing_part(image, from as usize, buffer) as u64
-}
-
-// The code of the two calls of 02 §13, whose own numbers point nowhere.
-fn tidy_code(a: TidyAnswer) -> u64
-    requires { ⌜ Fits (placeOf (answerOf a)) ⌝ }
-    ensures { λ n. ⌜ n ≡ codeOf (answerOf a) ⌝ }
-{
-    match a {
-        TidyAnswer::Done => 0,
-        TidyAnswer::Refused(r) => codes::code(r),
-        TidyAnswer::OtherLength => 28,
-        TidyAnswer::NotAccepted => 27,
-    }
+    c_requests::listing(image, from, buffer)
 }
 
 // A proposal for `zealfs_tidy` (02 §13): places[p] is the new place of page p.
@@ -323,7 +199,7 @@ pub extern "C" fn zealfs_propose(image: &[u8], places: &mut [u8]) -> u64
     ensures { λ r. ⌜ r ≡ codeOf (proposeAnswer (now (image .entry)) (now (places .entry))) ⌝ }
     ensures { λ _. ⌜ now (places .exit) ≡ proposeAfter (now (image .entry)) (now (places .entry)) ⌝ }
 {
-    tidy_code(tidy::propose(image, places))
+    c_requests::propose(image, places)
 }
 
 // Writes the image to the target with its pages where the proposal puts them (02 §13).
@@ -332,7 +208,7 @@ pub extern "C" fn zealfs_tidy(image: &[u8], places: &[u8], target: &mut [u8]) ->
     ensures { λ r. ⌜ r ≡ codeOf (tidyAnswer (now (image .entry)) (now (places .entry)) (now (target .entry))) ⌝ }
     ensures { λ _. ⌜ now (target .exit) ≡ tidyAfter (now (image .entry)) (now (places .entry)) (now (target .entry)) ⌝ }
 {
-    tidy_code(tidy::tidy(image, places, target))
+    c_requests::tidy(image, places, target)
 }
 
 // ---- the link list of a directory (02 §4), numbers for rows, three each: the accession's count of digits, its value, the figure
@@ -349,16 +225,7 @@ pub extern "C" fn zealfs_links_read(
     ensures { λ _. ⌜ now (out .exit) ≡ numberOut (linkAnswer (readLinks (now (directory .entry)) (rowsOf (now (numbers .entry)))) (now (image .entry))) ⌝ }
     ensures { λ _. ⌜ now (numbers .exit) ≡ numbersAfter (now (directory .entry)) (now (image .entry)) (now (numbers .entry)) ⌝ }
 {
-    match links::read(image, directory, numbers) {
-        links::ReadAnswer::Rows(rows) => {
-            *out = [rows as u64];
-            0
-        }
-        links::ReadAnswer::Refused(r) => {
-            *out = [0];
-            link_codes::code(r)
-        }
-    }
+    c_links::read(image, directory, numbers, out)
 }
 
 // Writes the rows in the place of any that were there, with a new date.
@@ -372,7 +239,7 @@ pub extern "C" fn zealfs_links_write(
     ensures { λ r. ⌜ r ≡ linkCodeOf (linkAnswer (writeLinks (now (directory .entry)) (now (date .entry)) (rowsOf (now (numbers .entry)))) (now (image .entry))) ⌝ }
     ensures { λ _. ⌜ now (image .exit) ≡ linkAfter (writeLinks (now (directory .entry)) (now (date .entry)) (rowsOf (now (numbers .entry)))) (now (image .entry)) ⌝ }
 {
-    link_codes::done_code(links::write(image, directory, date, numbers))
+    c_links::write(image, directory, date, numbers)
 }
 
 // out: 1 if the accession has a row, its figure.
@@ -387,20 +254,7 @@ pub extern "C" fn zealfs_links_find(
     ensures { λ r. ⌜ r ≡ linkCodeOf (linkAnswer (findLink (now (directory .entry)) count value) (now (image .entry))) ⌝ }
     ensures { λ _. ⌜ now (out .exit) ≡ figureOut (linkAnswer (findLink (now (directory .entry)) count value) (now (image .entry))) ⌝ }
 {
-    match links::find(image, directory, count, value) {
-        FindLinkAnswer::Figure(figure) => {
-            *out = [1, figure];
-            0
-        }
-        FindLinkAnswer::Absent => {
-            *out = [0, 0];
-            0
-        }
-        FindLinkAnswer::Refused(r) => {
-            *out = [0; 2];
-            link_codes::code(r)
-        }
-    }
+    c_links::find(image, directory, count, value, out)
 }
 
 // Checks that every row names a file of the directory.
@@ -408,5 +262,5 @@ pub extern "C" fn zealfs_links_find(
 pub extern "C" fn zealfs_links_check(image: &[u8], directory: &[u8]) -> u64
     ensures { λ r. ⌜ r ≡ linkCodeOf (linkAnswer (checkLinks (now (directory .entry))) (now (image .entry))) ⌝ }
 {
-    link_codes::done_code(links::check(image, directory))
+    c_links::check(image, directory)
 }

@@ -1,6 +1,6 @@
 -- `put_entry` lends the place of the entry alone, and what comes back stands there.
 use Rattle.laws.proofs.NewEntry.{new-length}
-use Rattle.changes.proofs.NewBytes.{entry-put}
+use Rattle.entry_bytes.proofs.Puts.{entry-put}
 use borrow.Author.Needs.{needs}
 use Rattle.changes.proofs.put_entry as fn
 

@@ -3,7 +3,7 @@ use Rattle.fields.proofs.Plain.{needs, arith, refl, sym, _∙_, length}
 use Rattle.model.specs.Effect.{isVacant}
 use Rattle.model2.specs.Entry.{entryAt}
 use Rattle.cursor2.specs.Row.{rowFrom}
-use Rattle.cursor2.proofs.Seeking.{Seeking, seek-found, seek-next, seek-none, fewer}
+use Rattle.cursor2.proofs.Seeking.{Seeking, seek-found, seek-next, seek-none, row-shorter}
 use Rattle.cursor2.proofs.vacant_entry.{Statement.statement, Tie.close, Tie.spec}
 
 pub vacant-entry-spec : {M : Type 1} → statement M
@@ -18,9 +18,7 @@ vacant-entry-spec = close (spec
     (sym (c .before .is-vacant .ensures) ∙ c .if1 .taken))
     (λ c κs. (c .before .before .before .before .before .before .pre .0, c .before .before .before .loop .inv .stands))
     (λ c. search needs)
-    (λ c. fewer (c .before .before .before .before .before .before .before .loop .inv) (c .before .before .before .before .before .before .position-of .ensures .0)
-    (sym (c .before .before .before .before .before .is-vacant .ensures) ∙ c .before .before .before .before .if1 .left)
-    _ (c .before .before .before .next-entry .ensures .0) (c .before .next .given .1))
+    (λ c. search row-shorter)
     (λ c. seek-next (c .before .before .before .before .before .before .before .loop .inv) (c .before .before .before .before .before .before .position-of .ensures .0)
     (sym (c .before .before .before .before .before .is-vacant .ensures) ∙ c .before .before .before .before .if1 .left)
     _ (c .before .before .before .next-entry .ensures .0) (c .before .next .given .1) (c .before .before .before .next-entry .ensures .1))

@@ -2,7 +2,7 @@
 use Rattle.looks.proofs.Lists.{blank-refused, list-refused, list-at, list-at-file}
 use Rattle.places.proofs.Places.{stopped-refused}
 use Rattle.places.proofs.Entries.{directory-inside}
-use Rattle.places.proofs.Settled.{placed-arrived}
+use Rattle.places.proofs.Arrivals.{placed-arrived}
 use Rattle.places.specs.Places.{theRoot}
 use Rattle.laws.proofs.Slots.{size}
 use Rattle.answers.proofs.Files.{at-root}

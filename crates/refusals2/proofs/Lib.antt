@@ -1,0 +1,2 @@
+-- What the refusals tell: no two cases alike.
+pub mod Injective
