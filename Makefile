@@ -10,7 +10,8 @@
 PREFIX ?= /usr/local
 VERSION := $(shell sed -n 's/^version = "\(.*\)"/\1/p' rust/zealfs-tool/Cargo.toml)
 RELEASE := zealfs-$(VERSION)-x86_64-linux
-ARCHIVE := target/staticlib/libzealfs_c.a
+# one for each version of cartridges
+ARCHIVES := target/staticlib/libzealfs_c.a target/staticlib/libzealfs2_c.a
 TOOL := target/desk/release/zealfs
 # Static, so that the tool runs wherever Linux does.
 CARGO := RUSTFLAGS='-C target-feature=+crt-static' CARGO_TARGET_DIR=target/desk cargo
@@ -19,14 +20,14 @@ CARGO := RUSTFLAGS='-C target-feature=+crt-static' CARGO_TARGET_DIR=target/desk 
 
 build: library tool man
 
-archive: $(ARCHIVE)
+archive: $(ARCHIVES)
 
-$(ARCHIVE): crates.txt $(shell find crates -path '*/must-fail' -prune -o \( -name '*.rt' -o -name '*.antt' \) -print)
+target/staticlib/lib%.a: crates.txt $(shell find crates -path '*/must-fail' -prune -o \( -name '*.rt' -o -name '*.antt' \) -print)
 	@command -v rt > /dev/null || { echo "make: there is no rt: the Rattle toolchain proves and builds the library; a release needs none" >&2; exit 1; }
-	rt staticlib zealfs_c
+	rt staticlib $*
 	touch $@
 
-library: $(ARCHIVE)
+library: $(ARCHIVES)
 	tools/library
 
 tool: library
@@ -40,11 +41,11 @@ target/zealfs.1: docs/zealfs.1 rust/zealfs/Cargo.toml tools/manpage
 
 page: target/page/zealfs.html
 
-target/page/module.bc: $(ARCHIVE)
+target/page/zealfs2_c.bc: $(ARCHIVES)
 	tools/module
 	touch $@
 
-target/page/zealfs.html: target/page/module.bc include/zealfs.h tools/page.py tools/image.py tools/words.py words/numbers.txt rust/zealfs/Cargo.toml $(wildcard web/*)
+target/page/zealfs.html: target/page/zealfs2_c.bc include/zealfs.h tools/page.py tools/image.py tools/words.py words/numbers.txt rust/zealfs/Cargo.toml $(wildcard web/*)
 	tools/page.py
 
 words:

@@ -6,7 +6,7 @@ _zealfs() {
     # the words so far without the options
     for ((i = 1; i < COMP_CWORD; i++)); do
         case "${COMP_WORDS[i]}" in
-            --date) ((i++)) ;;
+            --date | --page) ((i++)) ;;
             -?*) ;;
             *) words+=("${COMP_WORDS[i]}") ;;
         esac
@@ -16,10 +16,12 @@ _zealfs() {
     [ "${words[0]:-}" = links ] && image=2
     if [ "$before" = --date ]; then
         mapfile -t COMPREPLY < <(compgen -W "$(date +%F)" -- "$word")
+    elif [ "$before" = --page ]; then
+        mapfile -t COMPREPLY < <(compgen -W "256 512 1024" -- "$word")
     elif [ ${#words[@]} -eq 0 ]; then
         mapfile -t COMPREPLY < <(compgen -W "$("$program" commands 2> /dev/null) help --json --version" -- "$word")
     elif [[ "$word" == -?* ]]; then
-        mapfile -t COMPREPLY < <(compgen -W "$("$program" "${words[0]}" --help 2> /dev/null | sed -n 1p | grep -oE -- '-[a-z-]+') --json" -- "$word")
+        mapfile -t COMPREPLY < <(compgen -W "$("$program" "${words[0]}" --help 2> /dev/null | sed -n 1p | grep -oE -- '-[a-z0-9-]+') --json" -- "$word")
     elif [[ $image -eq 2 && ${#words[@]} -eq 1 ]]; then
         mapfile -t COMPREPLY < <(compgen -W "show find check write" -- "$word")
     elif [[ "$word" == /* && ${#words[@]} -gt $image ]]; then

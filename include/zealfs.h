@@ -1,6 +1,7 @@
 /*
- * ZealFS version 1 over an image in memory: the functions of libzealfs_c.a (crates/zealfs_c, built by `rt staticlib zealfs_c`), and of
- * libzealfs.a and libzealfs.so, which hold the same with zealfs_text and zealfs_advice beside it (`make`).
+ * ZealFS over an image in memory. The functions zealfs_.. are version 1's, in libzealfs_c.a (crates/zealfs_c, built by `rt staticlib zealfs_c`), and
+ * zealfs2_.. version 2's, in libzealfs2_c.a (crates/zealfs2_c); libzealfs.a and libzealfs.so hold both, with zealfs_text and zealfs_advice beside
+ * them (`make`). An image of version 1 begins with the bytes 5A 01, one of version 2 with 5A 02; the other version's functions refuse it.
  *
  * Whatever the bytes, each function answers, and always returns. The result is 0 when the call is granted, else the code of a refusal
  * (zealfs_audit and zealfs_listing return something else):
@@ -10,8 +11,9 @@
  * a, b, c being its place, 0 where nothing is said of them. (The link list's 21, 22 and 23 have one number for a place: see there.)
  *
  * The numbers stand in the enum below, each with what it says and what its place is. An image that is given neither ZEALFS_WRONG_LENGTH nor
- * ZEALFS_WRONG_HEADER is judged from its root on, and its first fault is told. Entries go in order, what a directory holds before the entry after
- * it; of one entry 16 comes first, then its pages one after the other. 19 comes after all entries, and 3 last. There is no number 15.
+ * ZEALFS_WRONG_HEADER (in version 2 nor ZEALFS_WRONG_SHAPE) is judged from its root on, and its first fault is told. Entries go in order, what a
+ * directory holds before the entry after it; of one entry 16 comes first, then its pages one after the other. 19 comes after all entries, and 3 last.
+ * There is no number 15.
  *
  * A refused call sets its out arrays to zeros and changes no other byte.
  *
@@ -41,9 +43,10 @@ enum zealfs_numbers {
     ZEALFS_WRONG_LENGTH = 1,
         /* the image's length is not one of the allowed */
     ZEALFS_WRONG_HEADER = 2,
-        /* byte 0, 1 or 2 of the image is wrong */
+        /* byte 0, 1 or 2 of the image is wrong; of version 2 byte 0 or 1 */
     ZEALFS_WRONG_COUNT = 3,
-        /* bit 0 of the bitmap or the count in byte 3 is wrong, and nothing else */
+        /* bit 0 of the bitmap, in version 2 also that of a page of the table of links, or the count of free pages is wrong, and nothing else
+           */
     ZEALFS_NOT_A_PATH = 4,
         /* the path is no path */
     ZEALFS_NO_SUCH_NAME = 5,
@@ -56,23 +59,24 @@ enum zealfs_numbers {
     ZEALFS_NAME_EXISTS = 8,
         /* make, store: the name is there already, or the path is "/" */
     ZEALFS_DIRECTORY_FULL = 9,
-        /* make, store, links_write: no empty entry */
+        /* make, store, links_write: no empty entry; version 2 never gives it */
     ZEALFS_NO_FREE_PAGES = 10,
-        /* make, write, store, links_write: more pages wanted than are free */
+        /* make, write, store, links_write: more pages wanted than are free, in version 2 that by which a directory grows among them */
     ZEALFS_BAD_DATE = 11,
         /* make, store, links_write: the date is not good */
     ZEALFS_PAST_THE_END = 12,
-        /* position past the size, entry past the directory's last, or store past the last */
+        /* position past the size, entry past the directory's last (zealfs2_entries: more than one past it), or store past the last */
     ZEALFS_NOT_EMPTY = 13,
         /* remove directory: it holds something */
     ZEALFS_IS_THE_ROOT = 14,
         /* removals: the path is "/" */
     ZEALFS_BAD_ENTRY = 16,
-        /* an entry's name is not legal or that of an earlier entry, or a directory's size is not 256: a is the page of the directory that
-           holds the entry, 0 for the root, and b the entry's number there, from 0 */
+        /* an entry's name is not legal or that of an earlier entry, or a directory's size is not that of a page: a is the page on which the
+           entry stands, 0 for the header, and b the entry's number there, from 0 */
     ZEALFS_BAD_CHAIN = 17,
-        /* a page of an entry is not one of 1 to N-1, or its chain does not end where the size says: a and b as for 16, and c is how many of
-           its pages before that were good */
+        /* a page of an entry is not one of 1 to N-1 (in version 2 one behind the table of links), or its chain does not end where the size
+           says: a and b as for 16, and c is how many of its pages before that were good; for the root's own chain in version 2 a is 0, b 255,
+           and c counts the pages after page 0 */
     ZEALFS_OWNED_TWICE = 18,
         /* a page belongs to two owners, or twice to one: a is the page */
     ZEALFS_LOST_PAGE = 19,
@@ -90,6 +94,9 @@ enum zealfs_numbers {
         /* links_read: the lent list is too short for the rows */
     ZEALFS_LOCKED = 25,
         /* write, remove file or links_write: the file is locked */
+    ZEALFS_WRONG_SHAPE = 26,
+        /* version 2: the page code is above 2 or too small for the image, the length is no multiple of 8 pages, or the bitmap's bytes are not
+           N/8; format judges the code that it is handed */
     ZEALFS_BAD_PROPOSAL = 27,
         /* tidy: the proposal is not accepted, or has not N numbers; propose: the row has not N numbers */
     ZEALFS_WRONG_TARGET = 28,
@@ -207,6 +214,53 @@ uint64_t zealfs_links_check(const uint8_t *image, size_t image_len, const uint8_
  * many; fewer than the room has are the last. An image that is not sound has a listing too, `refused` and the number, so this is never refused.
  */
 uint64_t zealfs_listing(const uint8_t *image, size_t image_len, uint64_t from, uint8_t *text, size_t text_len);
+
+/*
+ * Version 2: images of up to 1,048,576 bytes with pages of 256, 512 or 1,024 bytes and links in a table behind the header. These functions are as those
+ * of version 1 with the same names but for what is said here; the others there are version 1's alone. A directory, the root too, grows by a page when
+ * it has no empty entry and never shrinks, so that 9 is never given; its size is the page size, and an entry's place is its own page and number there.
+ */
+
+/*
+ * Page codes 0, 1 and 2 stand for pages of 256, 512 and 1,024 bytes: 0 is for images of up to 65,536 bytes, 1 for up to 262,144, 2 for all, and the
+ * length is a multiple of 8 pages; else 26. Page 0 and the table of links are written, every other byte stays. It judges only length and code.
+ */
+uint64_t zealfs2_format(uint8_t *image, size_t image_len, uint64_t code);
+
+/* out: pages, free pages. The page size is image_len / pages. */
+uint64_t zealfs2_verdict(const uint8_t *image, size_t image_len, uint64_t out[2]);
+
+uint64_t zealfs2_find(const uint8_t *image, size_t image_len, const uint8_t *path, size_t path_len, uint64_t out[3], uint8_t date[8]);
+
+/* Entries count from 0 through all pages of the directory. */
+uint64_t zealfs2_list(const uint8_t *image, size_t image_len, const uint8_t *path, size_t path_len, uint64_t entry, uint64_t out[4],
+                      uint8_t name[16], uint8_t date[8]);
+
+/*
+ * Many entries of a directory, for which the image is judged once: those from number `first` on, 32 bytes each, as many as there are and as the rows have
+ * room for. out: how many they are, and how many entries the directory has in all. What lies behind them in the rows stays.
+ *
+ * An entry's 32 bytes: 0 occupied (0 or 1), 1 kind, 2 locked, 3 zero, 4 to 7 size, low byte first, 8 to 15 date, 16 to 31 name, padded with zeros; an
+ * empty entry is zeros. 12 if `first` is more than the directory has; as many as it has tells none.
+ */
+uint64_t zealfs2_entries(const uint8_t *image, size_t image_len, const uint8_t *path, size_t path_len, uint64_t first, uint8_t *rows,
+                         size_t rows_len, uint64_t out[2]);
+
+uint64_t zealfs2_read(const uint8_t *image, size_t image_len, const uint8_t *path, size_t path_len, uint64_t position, uint8_t *buffer,
+                      size_t buffer_len, uint64_t out[1]);
+
+/* 10 counts the page by which the directory grows, too. */
+uint64_t zealfs2_make_file(uint8_t *image, size_t image_len, const uint8_t *path, size_t path_len, const uint8_t *date, size_t date_len);
+uint64_t zealfs2_make_directory(uint8_t *image, size_t image_len, const uint8_t *path, size_t path_len, const uint8_t *date, size_t date_len);
+
+uint64_t zealfs2_write(uint8_t *image, size_t image_len, const uint8_t *path, size_t path_len, uint64_t position, const uint8_t *bytes,
+                       size_t bytes_len);
+
+uint64_t zealfs2_remove_file(uint8_t *image, size_t image_len, const uint8_t *path, size_t path_len);
+uint64_t zealfs2_remove_directory(uint8_t *image, size_t image_len, const uint8_t *path, size_t path_len);
+
+uint64_t zealfs2_lock(uint8_t *image, size_t image_len, const uint8_t *path, size_t path_len);
+uint64_t zealfs2_unlock(uint8_t *image, size_t image_len, const uint8_t *path, size_t path_len);
 
 /*
  * The words of a number: what is wrong, and what to do about it. In libzealfs.a and libzealfs.so; plain C beside the proved functions, for they

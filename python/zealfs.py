@@ -1,4 +1,5 @@
-"""ZealFS version 1 over an image in memory: the proved calls of libzealfs, by ctypes alone. No class to open, no state.
+"""ZealFS over an image in memory: the proved calls of libzealfs, by ctypes alone. No class to open, no state. The calls of the module are those of
+version 1; `v2` has those of version 2, for larger cartridges, and `version` tells which an image is of.
 
 An image is a bytearray, or for the calls that only look at it any bytes. Each call judges it first and ends with an answer, whatever the bytes, or
 raises Refusal; then image and buffer hold what they held before. Names, words and types are those of the Rust crate (rust/zealfs). What is promised
@@ -31,14 +32,14 @@ Path = Union[str, bytes]
 # Made from words/numbers.txt by tools/words.py; edit it there.
 WORDS = {
     1: ("WrongLength",
-         "the image is not as long as any cartridge: 2,048 to 65,536 bytes, a multiple of 2,048",
+         "the image is not as long as any cartridge: a multiple of 2,048 bytes, from 2,048 to 65,536, in version 2 to 1,048,576",
          "read the cartridge again, whole"),
     2: ("WrongHeader",
-         "its first three bytes are not those of ZealFS version 1 of this length",
+         "its first bytes are not those of ZealFS, of this version and this length",
          "read the cartridge again, whole; if it stays so it is not formatted, or another system's: do not write to it"),
     3: ("WrongCount",
-         "the header's own mark or its count of free pages is wrong; all files and directories are in order",
-         "nothing is lost, but no call reads the image until it is mended: repair it (zealfs repair), and it is as good as before"),
+         "the header's own mark (in version 2 also that of the table of links) or its count of free pages is wrong; all files and directories are in order",
+         "nothing is lost, but no call reads the image until it is mended: repair it (zealfs repair), and it is as good as before; version 2 has no repair: make the cartridge anew from a backup"),
     4: ("NotAPath",
          "the path is not written as a path: /, or names of 1 to 16 characters, each after a /",
          "correct the path"),
@@ -55,7 +56,7 @@ WORDS = {
          "the name is there already",
          "choose another, or remove the old one"),
     9: ("DirectoryFull",
-         "the directory has no empty entry: the root has 6, any other 8",
+         "the directory has no empty entry: in version 1 the root has 6, any other 8",
          "remove something from it, or take another directory"),
     10: ("NoFreePages",
          "not enough free pages",
@@ -76,14 +77,14 @@ WORDS = {
          "damaged: a name is not legal or stands twice in a directory, or a directory's size is wrong",
          "keep a copy of the image; then format the cartridge and make its directories and files anew from a backup"),
     17: ("BadChain",
-         "damaged: a file or directory leads out of the cartridge or into its header, or a file has fewer or more pages than its size wants",
+         "damaged: a file or directory leads out of the cartridge, into its header or into its table of links, or a file has fewer or more pages than its size wants",
          "keep a copy of the image; then format the cartridge and make its directories and files anew from a backup; what it holds cannot be trusted"),
     18: ("OwnedTwice",
          "damaged: two files or directories share a page, or one returns to a page of its own",
          "keep a copy of the image; then format the cartridge and make its directories and files anew from a backup; neither of the two can be trusted"),
     19: ("LostPage",
          "a page is marked as taken and nobody owns it, as when a cartridge is pulled too early; all files and directories are in order",
-         "nothing is lost, but no call reads the image until it is mended: repair it (zealfs repair), and it is as good as before; the repair wins the page back"),
+         "nothing is lost, but no call reads the image until it is mended: repair it (zealfs repair), and it is as good as before; version 2 has no repair: make the cartridge anew from a backup; a repair wins the page back"),
     20: ("MarkedFree",
          "damaged: a page of a file or directory is marked as free",
          "keep a copy of the image; then format the cartridge and make its directories and files anew from a backup; a write since then may have gone over that page"),
@@ -102,6 +103,9 @@ WORDS = {
     25: ("Locked",
          "the file is locked: it is neither written nor removed",
          "leave it as it is; if it is to be altered after all, let whoever answers for it unlock it first"),
+    26: ("WrongShape",
+         "the page size does not go with the cartridge's length: pages of 256 bytes go up to 65,536, of 512 up to 262,144, of 1,024 up to 1,048,576, a multiple of 8 of them; or the header gives a wrong length of its bitmap",
+         "read the cartridge again, whole; if it stays so, keep a copy of the image and make the cartridge anew from a backup; in formatting, choose another page size or length"),
     27: ("BadProposal",
          "the proposed places are not one for every page, or part the pages of a file",
          "take the proposal that the library makes"),
@@ -142,13 +146,13 @@ def advice(number: int) -> str:
 class Refusal(Exception):
     """Why a call was refused: the paper's `number`, its `name`, and the `place` where the paper gives one, by name.
 
-    A `directory` is the page of the directory that holds the entry, 0 for the root; an `entry` counts from 0 in it; a `byte` is that of the path at
-    which the name begins; a `row` of a link list counts from 0, and a broken one is `at` the byte of the file where it begins, or in writing at that
-    row.
+    A `directory` is the page of the directory on which the entry stands, 0 for the root's first; an `entry` counts from 0 on it, and 255 stands in
+    version 2 for the root itself; a `byte` is that of the path at which the name begins; a `row` of a link list counts from 0, and a broken one is
+    `at` the byte of the file where it begins, or in writing at that row.
 
     >>> try: verdict(bytes(100))
     ... except Refusal as refusal: print(refusal, "-", refusal.advice)
-    refused 1: the image is not as long as any cartridge: 2,048 to 65,536 bytes, a multiple of 2,048 - read the cartridge again, whole
+    refused 1: the image is not as long as any cartridge: a multiple of 2,048 bytes, from 2,048 to 65,536, in version 2 to 1,048,576 - read the cartridge again, whole
     """
 
     def __init__(self, code: int) -> None:
@@ -179,8 +183,8 @@ class Refusal(Exception):
 
     @property
     def is_of_the_image(self) -> bool:
-        """Whether the image is at fault (1 to 3 and 16 to 20), and not what was asked of it."""
-        return self.number in (1, 2, 3, 16, 17, 18, 19, 20)
+        """Whether the image is at fault (1 to 3, 16 to 20 and 26), and not what was asked of it."""
+        return self.number in (1, 2, 3, 16, 17, 18, 19, 20, 26)
 
 
 class Date(bytes):
@@ -242,7 +246,7 @@ class File(NamedTuple):
 
 
 class Directory(NamedTuple):
-    """A directory; its size is 256, as the listing has it."""
+    """A directory; its size is that of a page, as the listing has it: 256 in version 1."""
 
     size: int = 256
     locked: bool = False
@@ -304,9 +308,9 @@ def _load() -> ctypes.CDLL:
 _library = _load()
 
 
-def _function(name: str, *arguments):
+def _function(name: str, *arguments, prefix: str = "zealfs_"):
     """A function of zealfs.h. Its result has 64 bits: taken for an int, as ctypes does unasked, a place would be cut off without a word."""
-    found = getattr(_library, "zealfs_" + name)
+    found = getattr(_library, prefix + name)
     found.argtypes, found.restype = arguments, ctypes.c_uint64
     return found
 
@@ -370,7 +374,7 @@ def _granted(code: int) -> None:
 
 
 def _kind(is_directory: int, size: int, locked: int) -> Kind:
-    return Directory() if is_directory else File(size, locked == 1)
+    return Directory(size) if is_directory else File(size, locked == 1)
 
 
 def _name(raw: bytes) -> str:
@@ -610,3 +614,154 @@ def links_check(image, directory: Path) -> None:
     RowWithoutFile(row=0)
     """
     _granted(_links_check(*_lent(image), *_path(directory)))
+
+
+def version(image) -> Optional[int]:
+    """The version that an image's first two bytes name, 1 or 2; None if they name neither. It judges nothing: either version's calls refuse the other's
+    image, and what is none.
+
+    >>> image = bytearray(65536)
+    >>> v2.format(image, 256)
+    >>> version(image), version(bytes(2048))
+    (2, None)
+    """
+    return {b"\x5a\x01": 1, b"\x5a\x02": 2}.get(bytes(image[:2]))
+
+
+def _function2(name: str, *arguments):
+    return _function(name, *arguments, prefix="zealfs2_")
+
+
+class v2:
+    """Version 2 cartridges: images of up to 1,048,576 bytes, pages of several sizes, directories that grow. The calls are those of the module with
+    the same names, and answer the same types; what the module has beyond them, as repair and the listing, is version 1's own.
+
+    >>> image = bytearray(262144)
+    >>> v2.format(image)
+    >>> v2.make_directory(image, "/A", Date.new(2026, 11, 15, 12, 0, 0))
+    >>> v2.verdict(image), v2.find(image, "/A").kind
+    (Space(pages=512, free=508), Directory(size=512, locked=False))
+    """
+
+    # The longest image, in bytes.
+    LONGEST = 1048576
+
+    # The sizes of pages, each at the place that is its page code.
+    PAGE_SIZES = (256, 512, 1024)
+
+    _format = _function2("format", *_bytes, _number)
+    _verdict = _function2("verdict", *_bytes, _out)
+    _find = _function2("find", *_bytes, *_bytes, _out, _out)
+    _list = _function2("list", *_bytes, *_bytes, _number, _out, _out, _out)
+    _entries = _function2("entries", *_bytes, *_bytes, _number, *_bytes, _out)
+    _read = _function2("read", *_bytes, *_bytes, _number, *_bytes, _out)
+    _make_file = _function2("make_file", *_bytes, *_bytes, *_bytes)
+    _make_directory = _function2("make_directory", *_bytes, *_bytes, *_bytes)
+    _write = _function2("write", *_bytes, *_bytes, _number, *_bytes)
+    _remove_file = _function2("remove_file", *_bytes, *_bytes)
+    _remove_directory = _function2("remove_directory", *_bytes, *_bytes)
+    _lock = _function2("lock", *_bytes, *_bytes)
+    _unlock = _function2("unlock", *_bytes, *_bytes)
+
+    @staticmethod
+    def format(image: bytearray, page_size: Optional[int] = None) -> None:
+        """Makes the image an empty one of its length with such pages, or with the smallest that the format has for the length: writes the header and
+        the table of links, every other byte stays. Judges the length, and whether the page size goes with it."""
+        if page_size is None:
+            page_size = 256 if len(image) <= 65536 else 512 if len(image) <= 262144 else 1024
+        if page_size not in v2.PAGE_SIZES:
+            raise ValueError("a page has 256, 512 or 1024 bytes")
+        _granted(v2._format(*_lent_to_change(image), v2.PAGE_SIZES.index(page_size)))
+
+    @staticmethod
+    def verdict(image) -> Space:
+        """Judges the image: its pages, or its first fault as a refusal. A page has as many bytes as the image has for each."""
+        out = (ctypes.c_uint64 * 2)()
+        _granted(v2._verdict(*_lent(image), out))
+        return Space(*out)
+
+    @staticmethod
+    def find(image, path: Path) -> Found:
+        """What stands at the path."""
+        out, date = (ctypes.c_uint64 * 3)(), (ctypes.c_uint8 * 8)()
+        _granted(v2._find(*_lent(image), *_path(path), out, date))
+        return Found(_kind(*out), Date(date))
+
+    @staticmethod
+    def list(image, path: Path, entry: int) -> Optional[Entry]:
+        """The entry of that number of a directory, counted from 0 through all its pages; None if it is empty. `entries` goes through them all."""
+        out, name, date = (ctypes.c_uint64 * 4)(), (ctypes.c_uint8 * 16)(), (ctypes.c_uint8 * 8)()
+        _granted(v2._list(*_lent(image), *_path(path), _position(entry), out, name, date))
+        return Entry(_name(bytes(name)), _kind(*out[1:]), Date(date)) if out[0] else None
+
+    @staticmethod
+    def entries(image, path: Path) -> Iterator[Entry]:
+        """The occupied entries of a directory, in order. The image is judged once for every 128 entries.
+
+        >>> image = bytearray(65536)
+        >>> v2.format(image)
+        >>> for number in range(20): v2.make_file(image, f"/{number:04}", Date.parse("2026-11-15"))  # more than one page holds
+        >>> [entry.name for entry in v2.entries(image, "/")][-1]
+        '0019'
+        """
+        window, out, first, count = bytearray(128 * 32), (ctypes.c_uint64 * 2)(), 0, 1
+        while first < count:
+            _granted(v2._entries(*_lent(image), *_path(path), first, *_lent_to_change(window), out))
+            told, count = out
+            for at in range(0, 32 * told, 32):
+                row = bytes(window[at:at + 32])
+                if row[0]:
+                    yield Entry(_name(row[16:]), _kind(row[1], int.from_bytes(row[4:8], "little"), row[2]), Date(row[8:16]))
+            first += told
+
+    @staticmethod
+    def read(image, path: Path, position: int = 0, room: Optional[int] = None) -> bytes:
+        """The file's bytes from a position on, as many as there are and as there is room for; without `room` all.
+
+        >>> image = bytearray(131072)
+        >>> v2.format(image)
+        >>> v2.make_file(image, "/0042", Date.parse("2026-11-15"))
+        >>> v2.write(image, "/0042", 0, bytes(100000))
+        >>> len(v2.read(image, "/0042"))
+        100000
+        """
+        buffer = bytearray(v2.LONGEST if room is None else min(room, v2.LONGEST))  # no file is longer
+        out = (ctypes.c_uint64 * 1)()
+        _granted(v2._read(*_lent(image), *_path(path), _position(position), *_lent_to_change(buffer), out))
+        return bytes(buffer[: out[0]])
+
+    @staticmethod
+    def make_file(image: bytearray, path: Path, date: bytes) -> None:
+        """Makes an empty file. Its directory grows by a page where it has no empty entry."""
+        _granted(v2._make_file(*_lent_to_change(image), *_path(path), bytes(date), len(date)))
+
+    @staticmethod
+    def make_directory(image: bytearray, path: Path, date: bytes) -> None:
+        """Makes an empty directory. That in which it lies grows by a page where it has no empty entry."""
+        _granted(v2._make_directory(*_lent_to_change(image), *_path(path), bytes(date), len(date)))
+
+    @staticmethod
+    def write(image: bytearray, path: Path, position: int, content: bytes) -> None:
+        """Replaces the file's bytes from a position on that is at most its size, and lengthens it where they reach past its end."""
+        content = bytes(content)
+        _granted(v2._write(*_lent_to_change(image), *_path(path), _position(position), content, len(content)))
+
+    @staticmethod
+    def remove_file(image: bytearray, path: Path) -> None:
+        """Removes a file that is not locked."""
+        _granted(v2._remove_file(*_lent_to_change(image), *_path(path)))
+
+    @staticmethod
+    def remove_directory(image: bytearray, path: Path) -> None:
+        """Removes an empty directory, with all pages that it has grown to."""
+        _granted(v2._remove_directory(*_lent_to_change(image), *_path(path)))
+
+    @staticmethod
+    def lock(image: bytearray, path: Path) -> None:
+        """Locks a file: it is then neither written nor removed."""
+        _granted(v2._lock(*_lent_to_change(image), *_path(path)))
+
+    @staticmethod
+    def unlock(image: bytearray, path: Path) -> None:
+        """Unlocks a file."""
+        _granted(v2._unlock(*_lent_to_change(image), *_path(path)))

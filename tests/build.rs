@@ -1,6 +1,7 @@
-//! Names the C library to cargo when the feature `library` is on.
+//! Names the C libraries of both versions to cargo when the feature `library` is
+//! on.
 //!
-//! The archive may carry a runtime of its own: an allocator, what to do on a
+//! An archive may carry a runtime of its own: an allocator, what to do on a
 //! panic. Linked as it is, its symbols would take the place of the tests' own,
 //! and a failing test would end the process instead of telling why. So the
 //! archive is joined into one object of which only the calls are seen.
@@ -9,8 +10,25 @@ use std::env;
 use std::path::{Path, PathBuf};
 use std::process::Command;
 
-/// The environment variable that overrides the library's directory.
+/// The environment variable that overrides the libraries' directory.
 const DIRECTORY: &str = "ZEALFS_LIBRARY_DIR";
+
+/// A library, and the calls that the tests make.
+struct Library {
+    name: &'static str,
+    calls: &'static [&'static str],
+}
+
+const LIBRARIES: [Library; 2] = [
+    Library {
+        name: "zealfs_c",
+        calls: &CALLS,
+    },
+    Library {
+        name: "zealfs2_c",
+        calls: &CALLS_OF_VERSION_2,
+    },
+];
 
 const CALLS: [&str; 22] = [
     "zealfs_format",
@@ -37,24 +55,48 @@ const CALLS: [&str; 22] = [
     "zealfs_links_check",
 ];
 
+const CALLS_OF_VERSION_2: [&str; 13] = [
+    "zealfs2_format",
+    "zealfs2_verdict",
+    "zealfs2_find",
+    "zealfs2_list",
+    "zealfs2_read",
+    "zealfs2_make_file",
+    "zealfs2_make_directory",
+    "zealfs2_write",
+    "zealfs2_remove_file",
+    "zealfs2_remove_directory",
+    "zealfs2_lock",
+    "zealfs2_unlock",
+    "zealfs2_entries",
+];
+
 fn main() {
     println!("cargo:rerun-if-env-changed={DIRECTORY}");
     if env::var_os("CARGO_FEATURE_LIBRARY").is_none() {
         return;
     }
     let directory = env::var_os(DIRECTORY).map_or_else(usual_directory, PathBuf::from);
-    let archive = directory.join("libzealfs_c.a");
+    for library in LIBRARIES {
+        link(&directory, &library);
+    }
+}
+
+fn link(directory: &Path, library: &Library) {
+    let archive = directory.join(format!("lib{}.a", library.name));
     println!("cargo:rerun-if-changed={}", archive.display());
     if !archive.exists() {
         let archive = archive.display();
         panic!("{archive} is not there; {DIRECTORY} names another directory, and --no-default-features goes without");
     }
     let out = PathBuf::from(env::var_os("OUT_DIR").expect("cargo names a directory"));
-    let (directory, name) = match isolate(&archive, &out) {
-        Ok(()) => (out, "zealfs_isolated"),
+    let isolated = format!("{}_isolated", library.name);
+    let (directory, name) = match isolate(&archive, library.calls, &out, &isolated) {
+        Ok(()) => (out.as_path(), isolated.as_str()),
         Err(reason) => {
-            println!("cargo:warning=the library is linked as it is: {reason}");
-            (directory, "zealfs_c")
+            let name = library.name;
+            println!("cargo:warning={name} is linked as it is: {reason}");
+            (directory, name)
         }
     };
     println!("cargo:rustc-link-search=native={}", directory.display());
@@ -67,18 +109,18 @@ fn usual_directory() -> PathBuf {
     PathBuf::from(package).join("../target/staticlib")
 }
 
-/// Makes `libzealfs_isolated.a`, in which only the calls are global.
-fn isolate(archive: &Path, out: &Path) -> Result<(), String> {
-    let object = out.join("zealfs_isolated.o");
-    let isolated = out.join("libzealfs_isolated.a");
+/// Makes an archive of that name in which only the calls are global.
+fn isolate(archive: &Path, calls: &[&str], out: &Path, name: &str) -> Result<(), String> {
+    let object = out.join(format!("{name}.o"));
+    let isolated = out.join(format!("lib{name}.a"));
     let mut join = Command::new("ld");
     join.args(["-r", "--force-group-allocation", "-o"]);
     join.arg(&object);
-    join.args(CALLS.iter().map(|call| format!("--undefined={call}")));
+    join.args(calls.iter().map(|call| format!("--undefined={call}")));
     run(join.arg(archive))?;
     let mut hide = Command::new("objcopy");
     hide.args(
-        CALLS
+        calls
             .iter()
             .map(|call| format!("--keep-global-symbol={call}")),
     );

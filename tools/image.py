@@ -1,5 +1,5 @@
 #!/usr/bin/env python3
-"""Makes images of ZealFS version 1, laid out as document 01 and 02 §1 say, for runs of the program `listing`.
+"""Makes images of ZealFS, laid out as document 01 and 02 §1 say, and for version 2 as document 001 and 02 §12 say.
 
     image.py example > FILE    document 01's example of a listing: 2,048 bytes with /0042 of 256 bytes, /A, and /A/7 of 0 bytes
     image.py pulled > FILE     the example as if its cartridge had been pulled too early: page 5 is marked, and nobody owns it (number 19)
@@ -7,6 +7,8 @@
     image.py nest > FILE       65,536 bytes with 255 directories, one inside the other, each with a name of 16 bytes
     image.py wide > FILE       65,536 bytes with 30 directories along one path of names of 16 bytes, and empty files in every entry that is left
     image.py cabinet > FILE    16,384 bytes with the records of a cabinet: the example that the page shows
+    image.py version2 > FILE   version 2, 2,048 bytes, pages of 256: /0042 of 300 bytes, /A, and /A/7 of 0 bytes
+    image.py wide2 > FILE      version 2, 131,072 bytes, pages of 512: a root of three pages, /A with 40 files, and /A/long of 70,000 bytes
 
 The images are written byte by byte from the layout and not by the library, so that a listing of them is an outside check.
 """
@@ -54,6 +56,84 @@ class Image:
         page = self.take()
         self.entry(directory, i, 0x81, name, page, 0x0100, date)
         return page
+
+
+class Image2(Image):
+    """The same in version 2: links in a table behind the header, directories of several pages."""
+
+    def __init__(self, length, code):
+        page = 256 << code
+        self.page, self.pages, self.wide = page, length // page, length > 65536
+        self.bytes = bytearray(length)
+        self.bytes[0:7] = bytes([0x5A, 2, *(self.pages // 8).to_bytes(2, "little"), *self.pages.to_bytes(2, "little"), code])
+        self.root = (7 + self.pages // 8 + 31) // 32 * 32
+        self.next = 0
+        for _ in range(3 if self.wide else 2):
+            self.take()
+
+    def take(self):
+        page = self.next
+        self.next += 1
+        self.bytes[7 + page // 8] |= 1 << page % 8
+        self.bytes[4:6] = (int.from_bytes(self.bytes[4:6], "little") - 1).to_bytes(2, "little")
+        return page
+
+    def link(self, page, to):
+        width = 2 if self.wide else 1
+        at = self.page + width * page
+        self.bytes[at : at + width] = to.to_bytes(width, "little")
+
+    def grown(self, directory):
+        """A further page of a directory, behind its last."""
+        page = self.take()
+        self.link(directory, page)
+        return page
+
+    def entry(self, directory, i, flags, name, start, size, date=DATE):
+        """Writes entry i on a page of a directory; page 0 is the root's first."""
+        at = (self.root if directory == 0 else self.page * directory) + 32 * i
+        self.bytes[at : at + 32] = bytes([flags]) + name.ljust(16, b"\0") + start.to_bytes(2, "little") + size.to_bytes(4, "little") + date + b"\0"
+
+    def file(self, directory, i, name, content, flags=0x80, date=DATE):
+        pages = [self.take() for _ in range(max(1, (len(content) + self.page - 1) // self.page))]
+        for page, after in zip(pages, [*pages[1:], 0]):
+            self.link(page, after)
+        for k, page in enumerate(pages):
+            part = content[self.page * k : self.page * (k + 1)]
+            self.bytes[self.page * page : self.page * page + len(part)] = part
+        self.entry(directory, i, flags, name, pages[0], len(content), date)
+
+    def directory(self, directory, i, name, date=DATE):
+        page = self.take()
+        self.entry(directory, i, 0x81, name, page, self.page, date)
+        return page
+
+
+def version2():
+    image = Image2(2048, 0)
+    image.file(0, 0, b"0042", bytes(k % 256 for k in range(300)))
+    inner = image.directory(0, 1, b"A")
+    image.file(inner, 0, b"7", b"")
+    return image
+
+
+def wide2():
+    """Directories and a file of several pages, with a hole in each of the root's."""
+    image = Image2(131072, 1)
+    page, a = 0, image.directory(0, 0, b"A")
+    for k in range(3):
+        first = 1 if page == 0 else 0
+        for i in range(first, (image.page - image.root) // 32 if page == 0 else 16):
+            if i != 5:
+                image.file(page, i, b"%d-%d" % (k, i), b"%d" % k, 0xC0 if i == 7 else 0x80)
+        if k < 2:
+            page = image.grown(page)
+    for k in range(40):
+        if k in (16, 32):
+            a = image.grown(a)
+        image.file(a, k % 16, b"%04d" % k, b"")
+    image.file(a, 8, b"long", bytes(k * k % 251 for k in range(70000)))
+    return image
 
 
 def example():
@@ -117,6 +197,8 @@ MADE = {
     "nest": lambda: nest(255, False),
     "wide": lambda: nest(30, True),
     "cabinet": cabinet,
+    "version2": version2,
+    "wide2": wide2,
 }
 
 if __name__ == "__main__":

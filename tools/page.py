@@ -1,10 +1,10 @@
 #!/usr/bin/env python3
-"""Makes the page: target/page/zealfs.wasm from the library's module (tools/module), and target/page/zealfs.html, one file with all in it.
+"""Makes the page: target/page/zealfs.wasm from the library's modules (tools/module), and target/page/zealfs.html, one file with all in it.
 
     tools/page.py           makes both
     tools/page.py html      makes the page alone, of the zealfs.wasm that is there
 
-The module is compiled and linked by the kit's own clang and linker, which have WebAssembly among their targets. Twice made, the page is the same.
+The modules are compiled and linked by the kit's own clang and linker, which have WebAssembly among their targets. Twice made, the page is the same.
 """
 import base64
 import hashlib
@@ -24,13 +24,16 @@ OUT = ROOT / "target" / "page"
 # the parts of the script, each using only what stands before it
 PARTS = ["library.mjs", "blame.mjs", "survey.mjs", "page.mjs"]
 
+# the modules of the library, one for each version of cartridges
+MODULES = ["zealfs_c", "zealfs2_c"]
+
 # The deepest image wants 32 KiB of stack; more is a trap and no silent overwriting, for the stack lies below all else.
 STACK = 1 << 20
 
 
 def calls():
     """The functions of the header that are proved: those that return a number of 64 bits."""
-    return re.findall(r"^uint64_t (zealfs_\w+)\(", (ROOT / "include/zealfs.h").read_text(), re.M)
+    return re.findall(r"^uint64_t (zealfs2?_\w+)\(", (ROOT / "include/zealfs.h").read_text(), re.M)
 
 
 def compiled():
@@ -39,12 +42,15 @@ def compiled():
     with tempfile.TemporaryDirectory() as folder:
         linker = pathlib.Path(folder, "wasm-ld")
         linker.symlink_to(tools / "ld.lld")  # which tells by its name what it links
-        subprocess.run(
-            [tools / "clang", "--target=wasm32-unknown-unknown", "-mbulk-memory", "--no-default-config", "-Wno-override-module",
-             "-O3", "-c", "-x", "ir", OUT / "module.bc", "-o", folder + "/zealfs.o"], check=True, stderr=subprocess.DEVNULL)
+        objects = []
+        for module in MODULES:
+            objects.append(f"{folder}/{module}.o")
+            subprocess.run(
+                [tools / "clang", "--target=wasm32-unknown-unknown", "-mbulk-memory", "--no-default-config", "-Wno-override-module",
+                 "-O3", "-c", "-x", "ir", OUT / f"{module}.bc", "-o", objects[-1]], check=True, stderr=subprocess.DEVNULL)
         subprocess.run(
             [linker, "--no-entry", "--strip-all", "-z", f"stack-size={STACK}", "--export=__heap_base",
-             *("--export=" + call for call in calls()), folder + "/zealfs.o", "-o", OUT / "zealfs.wasm"], check=True)
+             *("--export=" + call for call in calls()), *objects, "-o", OUT / "zealfs.wasm"], check=True)
 
 
 def script(wasm):

@@ -1,10 +1,14 @@
-// The proved calls, compiled to WebAssembly, over one image that is lent to them. All that is told of an image's bytes on the page comes from here.
+// The proved calls, compiled to WebAssembly, over one image that is lent to them. All that is told of an image's bytes on the page comes from here. An
+// image's first two bytes say whether version 2's calls are asked about it; what names neither version is version 1's to refuse.
 
-// The longest image, in bytes.
-export const LONGEST = 65536;
+// The longest image of either version, in bytes.
+export const LONGEST = 1048576;
 
-// The most bytes of a path that can be lent; no path in an image has more than 4,335.
-const LONGEST_PATH = 8192;
+// The most bytes of a path that can be lent; no path in an image has more than 17,357.
+const LONGEST_PATH = 32768;
+
+// The bytes of an entry as zealfs2_entries tells it.
+const ROW = 32;
 
 // A refusal from the code of a call, null when it was granted.
 function refusalOf(code) {
@@ -24,7 +28,7 @@ export function dateText(bytes) {
 export async function library(wasm) {
     const { instance } = await WebAssembly.instantiate(wasm, {});
     const calls = instance.exports;
-    const room = { image: LONGEST + 16, path: LONGEST_PATH, out: 2048, name: 16, date: 16, buffer: LONGEST };
+    const room = { image: LONGEST + 16, path: LONGEST_PATH, out: 2048, name: 16, date: 16, rows: 128 * ROW, buffer: LONGEST };
     const at = {};
     let end = Math.ceil(calls.__heap_base.value / 16) * 16;
     for (const [name, size] of Object.entries(room)) {
@@ -37,7 +41,9 @@ export async function library(wasm) {
 
     const numbers = count => Array.from(new BigUint64Array(memory.buffer, at.out, count), Number);
     const copy = (from, length) => memory.slice(from, from + length);
+    const nameOf = bytes => new TextDecoder("latin1").decode(bytes).replace(/\0+$/, "");
     let length = 0n;
+    let isTwo = false;
 
     function pathArguments(path) {
         const bytes = new TextEncoder().encode(path);
@@ -51,8 +57,31 @@ export async function library(wasm) {
         if (refusal) return undefined;
         const [isOccupied, isDirectory, size, isLocked] = numbers(4).map((number, i) => i === 2 ? number : number === 1);
         if (!isOccupied) return null;
-        const name = new TextDecoder("latin1").decode(copy(at.name, 16)).replace(/\0+$/, "");
-        return { entry, name, isDirectory, size, isLocked, date: dateText(copy(at.date, 8)) };
+        return { entry, name: nameOf(copy(at.name, 16)), isDirectory, size, isLocked, date: dateText(copy(at.date, 8)) };
+    }
+
+    // The occupied entries of a directory of version 1, and of version 2, where many are told at once.
+    function entriesOfOne(path) {
+        const found = [];
+        for (let entry = 0, told = list(path, 0); told !== undefined; told = list(path, ++entry)) if (told) found.push(told);
+        return found;
+    }
+
+    function entriesOfTwo(path) {
+        const found = [];
+        for (let first = 0, all = 1; first < all;) {
+            const window = [at.rows, BigInt(room.rows), at.out];
+            if (refusalOf(calls.zealfs2_entries(at.image, length, ...pathArguments(path), BigInt(first), ...window))) break;
+            const [count, inAll] = numbers(2);
+            for (let i = 0; i < count; i++) {
+                const row = copy(at.rows + ROW * i, ROW);
+                const size = row[4] + 256 * (row[5] + 256 * (row[6] + 256 * row[7]));
+                const told = { isDirectory: row[1] === 1, size, isLocked: row[2] === 1, date: dateText(row.subarray(8, 16)) };
+                if (row[0] === 1) found.push({ entry: first + i, name: nameOf(row.subarray(16)), ...told });
+            }
+            [first, all] = [first + count, inAll];
+        }
+        return found;
     }
 
     return {
@@ -61,31 +90,32 @@ export async function library(wasm) {
             const lent = bytes.subarray(0, LONGEST + 1);
             memory.set(lent, at.image);
             length = BigInt(lent.length);
+            isTwo = lent[0] === 0x5A && lent[1] === 2;
         },
+        // Whether version 2's calls are asked about it.
+        isTwo: () => isTwo,
         // The bytes as they are lent now.
         lent: () => copy(at.image, Number(length)),
         // { refusal, pages, free }
         verdict() {
-            const refusal = refusalOf(calls.zealfs_verdict(at.image, length, at.out));
+            const verdict = isTwo ? calls.zealfs2_verdict : calls.zealfs_verdict;
+            const refusal = refusalOf(verdict(at.image, length, at.out));
             const [pages, free] = numbers(2);
             return { refusal, pages, free };
         },
-        // For each page 0 for nobody, 1 for the header, or where its owner's entry begins; null if the second judge says no.
+        // For each page 0 for nobody, 1 for the header, or where its owner's entry begins; null if the second judge says no. Version 1 alone has one.
         owners() {
             return calls.zealfs_audit(at.image, length, at.out) === 1n ? numbers(256) : null;
         },
         // The occupied entries of a directory, in order.
-        entries(path) {
-            const found = [];
-            for (let entry = 0, told = list(path, 0); told !== undefined; told = list(path, ++entry)) if (told) found.push(told);
-            return found;
-        },
+        entries: path => isTwo ? entriesOfTwo(path) : entriesOfOne(path),
         // The content of a file; null if it is refused.
         read(path) {
-            const refusal = refusalOf(calls.zealfs_read(at.image, length, ...pathArguments(path), 0n, at.buffer, BigInt(room.buffer), at.out));
+            const read = isTwo ? calls.zealfs2_read : calls.zealfs_read;
+            const refusal = refusalOf(read(at.image, length, ...pathArguments(path), 0n, at.buffer, BigInt(room.buffer), at.out));
             return refusal ? null : copy(at.buffer, numbers(1)[0]);
         },
-        // Repairs what was lent; the refusal, or null.
+        // Repairs what was lent, of version 1; the refusal, or null.
         repair: () => refusalOf(calls.zealfs_repair(at.image, length)),
     };
 }

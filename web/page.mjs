@@ -21,14 +21,17 @@ const calls = library(bytesOf("@WASM@"));
 
 // ---- the verdict in words
 
-function entryText([directory, entry]) {
+// In version 2 a directory has several pages, and number 255 on page 0 is the root itself.
+function entryText([directory, entry], isTwo) {
+    if (isTwo && directory === 0 && entry === 255) return "the root";
+    if (isTwo && directory !== 0) return `entry ${entry} on page ${directory}`;
     return directory === 0 ? `entry ${entry} of the root` : `entry ${entry} of the directory on page ${directory}`;
 }
 
 // Where the fault is, by the numbers of its place.
-function placeText({ number, place }) {
-    if (number === 16) return entryText(place);
-    if (number === 17) return `${entryText(place)}, after ${counted(place[2], "good page")}`;
+function placeText({ number, place }, isTwo) {
+    if (number === 16) return entryText(place, isTwo);
+    if (number === 17) return `${entryText(place, isTwo)}, after ${counted(place[2], "good page")}`;
     return number >= 18 && number <= 20 ? `page ${place[0]}` : "";
 }
 
@@ -40,32 +43,28 @@ function tell(kind, heading, facts) {
     byId("told").replaceChildren(element("div", { class: `told ${kind}` }, element("h2", {}, heading), list));
 }
 
-function tellVersionTwo(name, { length, pageSize, pages, free }) {
-    const size = pageSize === null ? "of a size that version 2 does not have" : `of ${counted(pageSize, "byte")}`;
-    tell("other", `${name}: a version 2 cartridge`, [
-        ["what it is", "An image of ZealFS version 2, the format of larger cartridges. This page reads version 1 and cannot read it yet; "
-            + "that says nothing about whether it is in order."],
-        ["its header says", `${counted(pages, "page")} ${size}, ${free.toLocaleString("en")} free; none of this was checked`],
-        ["length", counted(length, "byte")],
-        ["what to do", "Keep the image. Do not format or repair it as a version 1 cartridge."],
-    ]);
+// The pages in words; of version 2 that is all, for its calls do not tell whose they are.
+function pagesText({ isTwo, length, pages, free }) {
+    const size = isTwo ? ` of ${counted(length / pages, "byte")}` : "";
+    return `${pages.toLocaleString("en")}${size}, of which ${free.toLocaleString("en")} are free${isTwo ? "; whose they are is drawn for version 1 alone" : ""}`;
 }
 
 function tellVerdict(name, told) {
     const { refusal, rows } = told;
-    if (told.two) return tellVersionTwo(name, told.two);
     const files = rows?.filter(row => !row.isDirectory) ?? [];
     const locked = files.filter(row => row.isLocked).length;
     const directories = counted((rows?.length ?? 0) - files.length, "directory", "directories");
     const holds = rows && `${counted(files.length, "file")}${locked ? ` (${locked} locked)` : ""}, ${directories}`;
     const length = ["length", counted(told.length, "byte")];
-    if (!refusal) return tell("good", `${name}: in order`, [["holds", holds], ["pages", `${told.pages}, of which ${told.free} are free`], length]);
+    const version = ["version", told.isTwo && "2, the format of larger cartridges"];
+    if (!refusal) return tell("good", `${name}: in order`, [["holds", holds], version, ["pages", pagesText(told)], length]);
     const words = WORDS[refusal.number];
     tell("bad", `${name}: not in order`, [
         ["what is wrong", `${sentence(words.is)} (number ${refusal.number})`],
-        ["where", [placeText(refusal), told.paths.join(" and ")].filter(Boolean).join(": ")],
+        ["where", [placeText(refusal, told.isTwo), told.paths.join(" and ")].filter(Boolean).join(": ")],
         ["what to do", sentence(words.do)],
         ["holds", holds],
+        version,
         length,
     ]);
 }
@@ -152,7 +151,7 @@ function choose(told, index) {
     if (!row) return;
     document.querySelector(`tr[data-row="${index}"]`).classList.add("chosen");
     for (const page of row.pages) document.querySelector(`#map [data-page="${page}"]`).classList.add("chosen");
-    byId("whose").textContent = `${row.path}: ${row.pages.length === 1 ? "page" : "pages"} ${rangesText(row.pages)}`;
+    if (row.pages.length > 0) byId("whose").textContent = `${row.path}: ${row.pages.length === 1 ? "page" : "pages"} ${rangesText(row.pages)}`;
 }
 
 // ---- the content of a file
@@ -174,10 +173,11 @@ const hex = (number, digits) => number.toString(16).toUpperCase().padStart(digit
 
 function bytesText(bytes) {
     const lines = [];
+    const digits = bytes.length > 65536 ? 5 : 4;
     for (let from = 0; from < bytes.length; from += 16) {
         const part = [...bytes.subarray(from, from + 16)];
         const letters = part.map(byte => byte >= 0x20 && byte < 0x7F ? String.fromCharCode(byte) : "\u00B7").join("");
-        lines.push(`${hex(from, 4)}  ${part.map(byte => hex(byte, 2)).join(" ").padEnd(47)}  ${letters}`);
+        lines.push(`${hex(from, digits)}  ${part.map(byte => hex(byte, 2)).join(" ").padEnd(47)}  ${letters}`);
     }
     return lines.join("\n");
 }

@@ -1,16 +1,15 @@
 // What the page tells of an image, gathered by the library's calls: the verdict, the tree, who owns each page, and where a fault is.
-// No image byte is read here but where the calls tell nothing: the header of a version 2 image, and the marks of the bitmap of an image that is not
-// in order.
+// No image byte is read here but where the calls tell nothing: the marks of the bitmap of an image of version 1 that is not in order.
 
 import { blame, positionOf } from "./blame.mjs";
 import { LONGEST } from "./library.mjs";
 
 const below = (path, name) => (path === "/" ? "" : path) + "/" + name;
 
-// The rows of the tree of a sound image, depth first, each with its path, depth and pages.
+// The rows of the tree of a sound image, depth first, each with its path, depth and pages; with none where no owners are told.
 export function treeOf(calls, owners) {
     const pagesOf = new Map();
-    owners.forEach((owner, page) => owner > 1 && pagesOf.set(owner, [...pagesOf.get(owner) ?? [], page]));
+    owners?.forEach((owner, page) => owner > 1 && pagesOf.set(owner, [...pagesOf.get(owner) ?? [], page]));
     const rows = [];
     const waiting = [{ path: "/", page: 0, depth: 0 }];
     // a stack and no recursion: a directory's rows go before what waits already
@@ -39,19 +38,20 @@ export function rangesText(pages) {
     return ranges.map(([from, to]) => from === to ? `${from}` : `${from}\u2013${to}`).join(", ");
 }
 
-// What the header of a version 2 image says, unjudged; null for any other bytes.
-export function versionTwo(bytes, length) {
-    if (bytes.length < 7 || bytes[0] !== 0x5A || bytes[1] !== 2) return null;
-    const code = bytes[6];
-    return { length, pageSize: code <= 8 ? 256 << code : null, pages: 8 * (bytes[2] + 256 * bytes[3]), free: bytes[4] + 256 * bytes[5] };
+// Of a version 2 image: verdict and tree. Who owns each page is told of version 1 alone.
+function surveyTwo(calls, length) {
+    const { refusal, pages, free } = calls.verdict();
+    const rows = refusal ? null : treeOf(calls, null);
+    return { isTwo: true, length, refusal, pages, free, rows, owners: null, marks: null, isMended: false, paths: [] };
 }
 
 // All of it. `isMended` where tree and owners are those of a repaired copy: the verdict gave 3 or 19, and repair leaves the tree as it is.
 export function survey(calls, bytes, length) {
     calls.lend(bytes);
+    if (calls.isTwo()) return surveyTwo(calls, length);
     const { refusal, pages, free } = calls.verdict();
     const owners = calls.owners();
-    const told = { length, two: versionTwo(bytes, length), refusal, pages, free, rows: null, owners, marks: null, isMended: false, paths: [] };
+    const told = { isTwo: false, length, refusal, pages, free, rows: null, owners, marks: null, isMended: false, paths: [] };
     // that both judges say the same is proved
     if ((refusal === null) !== (owners !== null)) throw new Error("The two judges disagree, which cannot be: this machine or this page is damaged.");
     if (refusal?.number === 1 || refusal?.number === 2) return told;

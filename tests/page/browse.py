@@ -42,11 +42,6 @@ def marked():
     return image
 
 
-def version_two():
-    """The header of a version 2 image of 512 pages of 256 bytes."""
-    return bytes([0x5A, 2, 64, 0, 252, 1, 0]) + bytes(131072 - 7)
-
-
 class Trial:
     def __init__(self, browser, folder):
         self.browser, self.folder, self.count = browser, pathlib.Path(folder), 0
@@ -98,8 +93,18 @@ def images(trial):
     trial.expect("nothing", b"", "bad", wrong + ["number 1", "0 bytes"])
     trial.expect("65537 bytes", bytes(65537), "bad", wrong + ["number 1", "65,537 bytes"])
     trial.expect("zeros", bytes(2048), "bad", wrong + ["number 2", "do not write to it"])
-    trial.expect("version 2", version_two(), "other", ["a version 2 cartridge", "512 pages of 256 bytes, 508 free"])
-    trial.expect("version 2 short", version_two()[:3], "bad", ["number 1"])
+    two, wide = bytes(made.version2().bytes), bytes(made.wide2().bytes)
+    drawn = "whose they are is drawn for version 1 alone"
+    shown = trial.expect("version 2", two, "good", ["in order", "2, the format of larger", "8 of 256 bytes, of which 2 are free", drawn], names)
+    assert shown["rows"][0] == ["0042", "300", "2026-11-07 12:00:00", "", ""], shown["rows"]
+    shown = trial.show("wide", wide)
+    assert len(shown["rows"]) == 84 and "256 of 512 bytes, of which 29 are free" in shown["told"] and "83 files (3 locked)" in shown["told"], shown["told"]
+    trial.expect("version 2 short", two[:3], "bad", wrong + ["number 1"])
+    trial.expect("version 2 shape", changed(two, (6, 1)), "bad", wrong + ["number 26"])
+    trial.expect("version 2 name", changed(two, (33, 0x2F)), "bad", wrong + ["number 16", "entry 0 of the root"])
+    trial.expect("version 2 root", changed(two, (256, 1)), "bad", wrong + ["number 17", "the root, after 0 good pages"])
+    trial.expect("version 2 below", changed(two, (1024 + 17, 99)), "bad", wrong + ["number 17", "entry 0 on page 4, after 0 good pages"])
+    trial.expect("version 2 lost", changed(two, (7, 0x7F)), "bad", wrong + ["number 19", "page 6"])
 
     nest = trial.show("nest", bytes(made.nest(255, False).bytes))
     assert nest["kind"] == "good" and len(nest["rows"]) == 255 and nest["cells"] == 256, nest["told"]

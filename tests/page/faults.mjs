@@ -21,8 +21,30 @@ function below(bound) {
     return ((x ^ x >>> 14) >>> 0) % bound;
 }
 
+// The same for version 2: a bit of the bitmap, the count, the page code, a link, a field of an entry, or any byte.
+function damageTwo(image) {
+    const page = 256 << image[6], pages = image.length / page, width = image.length > 65536 ? 2 : 1;
+    const root = Math.ceil((7 + pages / 8) / 32) * 32;
+    for (let changes = 1 + below(3); changes > 0; changes--) {
+        // most often where something is: pages are taken from the front
+        const at = below(3) ? below(pages / 4) : below(pages);
+        const entry = at === 0 ? root + 32 * below((page - root) / 32) : page * at + 32 * below(page / 32);
+        switch (below(7)) {
+        case 0: image[7 + below(pages / 8)] ^= 1 << below(8); break;
+        case 1: image[4 + below(2)] ^= 1 << below(8); break;
+        case 2: image[entry + 17 + below(2)] = below(4) ? below(Math.min(pages, 256)) : below(4); break;
+        case 3: image[entry + [0, 1, 16, 19, 20, 21][below(6)]] ^= 1 << below(8); break;
+        case 4: image[page + width * at] = below(Math.min(pages, 256)); break;
+        case 5: image.copyWithin(entry, root, root + 32); break;
+        default: image[below(20) ? below(image.length) : below(8)] ^= 1 << below(8);
+        }
+    }
+    return image;
+}
+
 // One to three changes: a bit of the bitmap, the start page, flags, name or size of an entry, a link, or any byte.
 function damage(image) {
+    if (image[1] === 2) return damageTwo(image);
     const pages = image.length / 256;
     for (let changes = 1 + below(3); changes > 0; changes--) {
         const page = below(pages);

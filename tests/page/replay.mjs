@@ -8,13 +8,13 @@ const CALLS = 60;
 const ASKED = 88, TOLD = 72;
 const names = [
     "format", "verdict", "find", "list", "read", "make_file", "make_directory", "write", "remove_file", "remove_directory", "lock", "unlock",
-    "repair", "audit", "listing",
+    "repair", "audit", "listing", "entries",
 ];
 
 const { instance } = await WebAssembly.instantiate(readFileSync(process.argv[2]), {});
 const calls = instance.exports;
 const heap = Math.ceil(calls.__heap_base.value / 16) * 16;
-const at = { image: heap, buffer: heap + 65536, path: heap + 131072, give: heap + 131200, told: heap + 131328 };
+const at = { image: heap, buffer: heap + 131072, path: heap + 196608, give: heap + 196736, told: heap + 196864 };
 calls.memory.grow(Math.ceil((at.told + TOLD - calls.memory.buffer.byteLength) / 65536));
 const memory = Buffer.from(calls.memory.buffer);
 // struct told: the code, out, name, date, how many bytes more
@@ -45,22 +45,24 @@ function take(count) {
     return part;
 }
 
-function perform(call, length, path, position, count) {
+// Version 0 is version 1; 1, 2 and 3 are version 2 with page codes 0, 1 and 2.
+function perform(version, call, length, path, position, count) {
     const over = [at.image, length];
+    const called = calls[(version ? "zealfs2_" : "zealfs_") + call];
     switch (call) {
-    case "verdict": return calls.zealfs_verdict(...over, out);
-    case "find": return calls.zealfs_find(...over, ...path, out, date);
-    case "list": return calls.zealfs_list(...over, ...path, position, out, name, date);
-    case "read": return calls.zealfs_read(...over, ...path, position, at.buffer, BigInt(count), out);
-    case "make_file": return calls.zealfs_make_file(...over, ...path, at.give, 8n);
-    case "make_directory": return calls.zealfs_make_directory(...over, ...path, at.give, 8n);
+    case "verdict": return called(...over, out);
+    case "find": return called(...over, ...path, out, date);
+    case "list": return called(...over, ...path, position, out, name, date);
+    case "read": case "entries": return called(...over, ...path, position, at.buffer, BigInt(count), out);
+    case "make_file": case "make_directory": return called(...over, ...path, at.give, 8n);
     case "write":
         for (let i = 0; i < count; i++) memory[at.buffer + i] = i + count;
-        return calls.zealfs_write(...over, ...path, position, at.buffer, BigInt(count));
-    case "audit": return calls.zealfs_audit(...over, at.buffer);
-    case "listing": return calls.zealfs_listing(...over, position, at.buffer, BigInt(count));
-    case "format": case "repair": return calls["zealfs_" + call](...over);
-    default: return calls["zealfs_" + call](...over, ...path);
+        return called(...over, ...path, position, at.buffer, BigInt(count));
+    case "audit": return called(...over, at.buffer);
+    case "listing": return called(...over, position, at.buffer, BigInt(count));
+    case "format": return version ? called(...over, position) : called(...over);
+    case "repair": return called(...over);
+    default: return called(...over, ...path);
     }
 }
 
@@ -72,10 +74,10 @@ function differ(what) {
     process.exit(1);
 }
 
-for (let head; (head = take(4)); lists++) {
-    const length = head.readUInt32LE();
+for (let head; (head = take(8)); lists++) {
+    const length = head.readUInt32LE(), version = head.readUInt32LE(4);
     for (let i = 0; i < length; i++) memory[at.image + i] = i * 7;
-    calls.zealfs_format(at.image, BigInt(length));
+    perform(version, "format", BigInt(length), [], BigInt(version - 1), 0);
     for (let i = 0; i < CALLS; i++) {
         const asked = Buffer.from(take(ASKED));
         const told = Buffer.from(take(TOLD));
@@ -86,7 +88,7 @@ for (let head; (head = take(4)); lists++) {
         const more = told.readUInt32LE(64);
         memory.fill(0xEE, at.buffer, at.buffer + more);
         if (call === undefined) memory[at.image + Number(position)] ^= asked[2];
-        else memory.writeBigUInt64LE(BigInt.asUintN(64, perform(call, BigInt(length), [at.path, BigInt(asked[1])], position, count)), at.told);
+        else memory.writeBigUInt64LE(BigInt.asUintN(64, perform(version, call, BigInt(length), [at.path, BigInt(asked[1])], position, count)), at.told);
         memory.writeUInt32LE(more, at.told + 64);
         if (told.compare(memory, at.told, at.told + TOLD)) differ(`call ${i}, ${call}: the answer differs`);
         if (take(more).compare(memory, at.buffer, at.buffer + more)) differ(`call ${i}, ${call}: the buffer differs`);

@@ -3,7 +3,7 @@
 //! benchmark has plain Rust behind the same ([`Plainly`]), for "the same call" of
 //! a C library is one that C could make.
 
-use crate::calls::{Answer, Audit, Calls, DATE_BYTES, NAME_BYTES, OWNERS};
+use crate::calls::{Answer, Audit, Base, Calls, DATE_BYTES, NAME_BYTES, OWNERS};
 use crate::direct::behind as functions;
 
 /// Calls a function. What comes back is hidden from the compiler, which sees the
@@ -60,18 +60,14 @@ pub fn answer(returned: u64) -> Answer {
     }
 }
 
-/// The calls of a contestant whose functions are those of the module. The file
-/// that has it brings the names in.
-macro_rules! behind {
+/// The calls of both versions, of a contestant whose functions are those of the
+/// module.
+macro_rules! base {
     ($contestant:ty, $functions:ident) => {
-        impl Calls for $contestant {
-            fn format(&self, image: &mut [u8]) -> Answer {
-                answer(call!($functions, zealfs_format(image.as_mut_ptr(), image.len();)))
-            }
-
+        impl Base for $contestant {
             fn verdict(&self, image: &[u8]) -> Answer {
                 let mut values = [UNSET; 3];
-                let returned = call!($functions, zealfs_verdict(image.as_ptr(), image.len(); values[..2]));
+                let returned = call!($functions, verdict(image.as_ptr(), image.len(); values[..2]));
                 check_rest(&values[2..], UNSET);
                 Answer {
                     values: [values[0], values[1], 0, 0],
@@ -82,7 +78,7 @@ macro_rules! behind {
             fn find(&self, image: &[u8], path: &[u8]) -> Answer {
                 let mut values = [UNSET; 4];
                 let mut date = [UNSET_BYTE; DATE_BYTES + REST];
-                let returned = call!($functions, zealfs_find(
+                let returned = call!($functions, find(
                     image.as_ptr(), image.len(), path.as_ptr(), path.len();
                     values[..3], date[..DATE_BYTES]));
                 check_rest(&values[3..], UNSET);
@@ -98,7 +94,7 @@ macro_rules! behind {
                 let mut values = [UNSET; 5];
                 let mut name = [UNSET_BYTE; NAME_BYTES + REST];
                 let mut date = [UNSET_BYTE; DATE_BYTES + REST];
-                let returned = call!($functions, zealfs_list(
+                let returned = call!($functions, list(
                     image.as_ptr(), image.len(), path.as_ptr(), path.len(), entry;
                     values[..4], name[..NAME_BYTES], date[..DATE_BYTES]));
                 check_rest(&values[4..], UNSET);
@@ -114,7 +110,7 @@ macro_rules! behind {
 
             fn read(&self, image: &[u8], path: &[u8], position: u64, buffer: &mut [u8]) -> Answer {
                 let mut values = [UNSET; 2];
-                let returned = call!($functions, zealfs_read(
+                let returned = call!($functions, read(
                     image.as_ptr(), image.len(), path.as_ptr(), path.len(), position,
                     buffer.as_mut_ptr(), buffer.len(); values[..1]));
                 check_rest(&values[1..], UNSET);
@@ -125,41 +121,57 @@ macro_rules! behind {
             }
 
             fn make_file(&self, image: &mut [u8], path: &[u8], date: &[u8]) -> Answer {
-                answer(call!($functions, zealfs_make_file(
+                answer(call!($functions, make_file(
                     image.as_mut_ptr(), image.len(), path.as_ptr(), path.len(),
                     date.as_ptr(), date.len();)))
             }
 
             fn make_directory(&self, image: &mut [u8], path: &[u8], date: &[u8]) -> Answer {
-                answer(call!($functions, zealfs_make_directory(
+                answer(call!($functions, make_directory(
                     image.as_mut_ptr(), image.len(), path.as_ptr(), path.len(),
                     date.as_ptr(), date.len();)))
             }
 
             fn write(&self, image: &mut [u8], path: &[u8], position: u64, bytes: &[u8]) -> Answer {
-                answer(call!($functions, zealfs_write(
+                answer(call!($functions, write(
                     image.as_mut_ptr(), image.len(), path.as_ptr(), path.len(), position,
                     bytes.as_ptr(), bytes.len();)))
             }
 
             fn remove_file(&self, image: &mut [u8], path: &[u8]) -> Answer {
-                answer(call!($functions, zealfs_remove_file(
+                answer(call!($functions, remove_file(
                     image.as_mut_ptr(), image.len(), path.as_ptr(), path.len();)))
             }
 
             fn remove_directory(&self, image: &mut [u8], path: &[u8]) -> Answer {
-                answer(call!($functions, zealfs_remove_directory(
+                answer(call!($functions, remove_directory(
                     image.as_mut_ptr(), image.len(), path.as_ptr(), path.len();)))
             }
 
             fn lock(&self, image: &mut [u8], path: &[u8]) -> Answer {
-                answer(call!($functions, zealfs_lock(
+                answer(call!($functions, lock(
                     image.as_mut_ptr(), image.len(), path.as_ptr(), path.len();)))
             }
 
             fn unlock(&self, image: &mut [u8], path: &[u8]) -> Answer {
-                answer(call!($functions, zealfs_unlock(
+                answer(call!($functions, unlock(
                     image.as_mut_ptr(), image.len(), path.as_ptr(), path.len();)))
+            }
+        }
+    };
+}
+
+pub(crate) use base;
+
+/// The calls of version 1 of a contestant whose functions are those of the
+/// module. The file that has it brings the names in.
+macro_rules! behind {
+    ($contestant:ty, $functions:ident) => {
+        base!($contestant, $functions);
+
+        impl Calls for $contestant {
+            fn format(&self, image: &mut [u8]) -> Answer {
+                answer(call!($functions, format(image.as_mut_ptr(), image.len();)))
             }
 
             fn store(
@@ -172,7 +184,7 @@ macro_rules! behind {
                 page: &mut [u8],
             ) -> Answer {
                 let mut values = [UNSET; 2];
-                let returned = call!($functions, zealfs_store(
+                let returned = call!($functions, store(
                     image.as_ptr(), image.len(), path.as_ptr(), path.len(),
                     date.as_ptr(), date.len(), content.as_ptr(), content.len(), number,
                     page.as_mut_ptr(), page.len(); values[..1]));
@@ -184,12 +196,12 @@ macro_rules! behind {
             }
 
             fn repair(&self, image: &mut [u8]) -> Answer {
-                answer(call!($functions, zealfs_repair(image.as_mut_ptr(), image.len();)))
+                answer(call!($functions, repair(image.as_mut_ptr(), image.len();)))
             }
 
             fn audit(&self, image: &[u8]) -> Audit {
                 let mut owners = [UNSET; OWNERS + 1];
-                let sound = call!($functions, zealfs_audit(image.as_ptr(), image.len(); owners[..OWNERS]));
+                let sound = call!($functions, audit(image.as_ptr(), image.len(); owners[..OWNERS]));
                 check_rest(&owners[OWNERS..], UNSET);
                 Audit {
                     sound,
@@ -198,13 +210,13 @@ macro_rules! behind {
             }
 
             fn propose(&self, image: &[u8], places: &mut [u8]) -> Answer {
-                answer(call!($functions, zealfs_propose(
+                answer(call!($functions, propose(
                     image.as_ptr(), image.len(), places.as_mut_ptr(), places.len();
                 )))
             }
 
             fn tidy(&self, image: &[u8], places: &[u8], target: &mut [u8]) -> Answer {
-                answer(call!($functions, zealfs_tidy(
+                answer(call!($functions, tidy(
                     image.as_ptr(), image.len(), places.as_ptr(), places.len(),
                     target.as_mut_ptr(), target.len();
                 )))
@@ -212,7 +224,7 @@ macro_rules! behind {
 
             fn links_read(&self, image: &[u8], directory: &[u8], numbers: &mut [u64]) -> Answer {
                 let mut values = [UNSET; 2];
-                let returned = call!($functions, zealfs_links_read(
+                let returned = call!($functions, links_read(
                     image.as_ptr(), image.len(), directory.as_ptr(), directory.len(),
                     numbers.as_mut_ptr(), numbers.len(); values[..1]));
                 check_rest(&values[1..], UNSET);
@@ -229,14 +241,14 @@ macro_rules! behind {
                 date: &[u8],
                 numbers: &[u64],
             ) -> Answer {
-                answer(call!($functions, zealfs_links_write(
+                answer(call!($functions, links_write(
                     image.as_mut_ptr(), image.len(), directory.as_ptr(), directory.len(),
                     date.as_ptr(), date.len(), numbers.as_ptr(), numbers.len();)))
             }
 
             fn links_find(&self, image: &[u8], directory: &[u8], count: u64, value: u64) -> Answer {
                 let mut values = [UNSET; 3];
-                let returned = call!($functions, zealfs_links_find(
+                let returned = call!($functions, links_find(
                     image.as_ptr(), image.len(), directory.as_ptr(), directory.len(), count, value;
                     values[..2]));
                 check_rest(&values[2..], UNSET);
@@ -247,13 +259,14 @@ macro_rules! behind {
             }
 
             fn links_check(&self, image: &[u8], directory: &[u8]) -> Answer {
-                answer(call!($functions, zealfs_links_check(
+                answer(call!($functions, links_check(
                     image.as_ptr(), image.len(), directory.as_ptr(), directory.len();)))
             }
         }
     };
 }
 
+#[cfg(feature = "library")]
 pub(crate) use behind;
 
 /// Plain Rust, called as C would call it.

@@ -90,7 +90,7 @@ pub struct Answer {
     pub place: [u64; 3],
     /// verdict: pages, free; find: kind, size, locked; list: occupied, kind,
     /// size, locked; read: count; store: the page; links_read: rows; links_find:
-    /// found, figure.
+    /// found, figure; entries: told, all.
     pub values: [u64; 4],
     pub name: [u8; NAME_BYTES],
     pub date: [u8; DATE_BYTES],
@@ -150,6 +150,14 @@ impl Answer {
     pub fn count(count: u64) -> Answer {
         Answer {
             values: [count, 0, 0, 0],
+            ..Answer::default()
+        }
+    }
+
+    /// How many entries of a directory were told, and how many it has.
+    pub fn entries(told: u64, all: u64) -> Answer {
+        Answer {
+            values: [told, all, 0, 0],
             ..Answer::default()
         }
     }
@@ -232,9 +240,8 @@ impl Audit {
     }
 }
 
-/// An implementation of the calls over a lent image.
-pub trait Calls {
-    fn format(&self, image: &mut [u8]) -> Answer;
+/// The calls that have the same arguments in both versions, over a lent image.
+pub trait Base {
     fn verdict(&self, image: &[u8]) -> Answer;
     fn find(&self, image: &[u8], path: &[u8]) -> Answer;
     fn list(&self, image: &[u8], path: &[u8], entry: u64) -> Answer;
@@ -246,6 +253,11 @@ pub trait Calls {
     fn remove_directory(&self, image: &mut [u8], path: &[u8]) -> Answer;
     fn lock(&self, image: &mut [u8], path: &[u8]) -> Answer;
     fn unlock(&self, image: &mut [u8], path: &[u8]) -> Answer;
+}
+
+/// An implementation of version 1's calls.
+pub trait Calls: Base {
+    fn format(&self, image: &mut [u8]) -> Answer;
     /// The store of that number of a new file with this content (02 §11).
     fn store(
         &self,
@@ -403,6 +415,25 @@ impl Call {
             }
             Call::LinksCheck(directory) => calls.links_check(image, directory),
             Call::Repair => calls.repair(image),
+        }
+    }
+
+    /// The same of a call that both versions have, for version 2. One way more to
+    /// choose a call would show in version 1's counts.
+    pub(crate) fn perform_base(&mut self, calls: &dyn Base, image: &mut [u8]) -> Answer {
+        match self {
+            Call::Verdict => calls.verdict(image),
+            Call::Find(path) => calls.find(image, path),
+            Call::List(path, entry) => calls.list(image, path, *entry),
+            Call::Read(path, position, buffer) => calls.read(image, path, *position, buffer),
+            Call::MakeFile(path, date) => calls.make_file(image, path, date),
+            Call::MakeDirectory(path, date) => calls.make_directory(image, path, date),
+            Call::Write(path, position, bytes) => calls.write(image, path, *position, bytes),
+            Call::RemoveFile(path) => calls.remove_file(image, path),
+            Call::RemoveDirectory(path) => calls.remove_directory(image, path),
+            Call::Lock(path) => calls.lock(image, path),
+            Call::Unlock(path) => calls.unlock(image, path),
+            _ => unreachable!("{} is version 1's alone", self.name()),
         }
     }
 }

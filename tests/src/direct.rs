@@ -9,7 +9,7 @@ mod links;
 mod tidy;
 
 use crate::calls::{
-    Answer, Audit, Calls, Kind, Refusal, DATE_BYTES, DIRECTORY_SIZE, NAME_BYTES, OWNERS,
+    Answer, Audit, Base, Calls, Kind, Refusal, DATE_BYTES, DIRECTORY_SIZE, NAME_BYTES, OWNERS,
 };
 
 const PAGE: usize = 256;
@@ -62,6 +62,11 @@ fn judge(image: &[u8]) -> Result<Sound, Refusal> {
     let pages = judge_header(image)?;
     let free = judge_pages(image, pages)?;
     Ok(Sound { pages, free })
+}
+
+/// The pages, and how many are free.
+fn verdict(image: &[u8]) -> Result<[u64; 2], Refusal> {
+    judge(image).map(|sound| [sound.pages as u64, sound.free as u64])
 }
 
 /// Judges the tree and then the bitmap; answers the number of free pages.
@@ -831,67 +836,78 @@ pub(crate) fn done(result: Result<(), Refusal>) -> Answer {
     result.map(|()| Answer::granted()).into()
 }
 
+/// The base's calls of `Direct`, by the functions of the module that has it: of
+/// either version.
+macro_rules! base_of_direct {
+    () => {
+        impl Base for Direct {
+            fn verdict(&self, image: &[u8]) -> Answer {
+                verdict(image)
+                    .map(|[pages, free]| Answer::verdict(pages, free))
+                    .into()
+            }
+
+            fn find(&self, image: &[u8], path: &[u8]) -> Answer {
+                find(image, path)
+                    .map(|told| Answer::found(told.kind, told.size, told.locked, told.date))
+                    .into()
+            }
+
+            fn list(&self, image: &[u8], path: &[u8], entry: u64) -> Answer {
+                list(image, path, entry)
+                    .map(|listed| match listed {
+                        Some((name, told)) => {
+                            Answer::occupied(told.kind, name, told.size, told.locked, told.date)
+                        }
+                        None => Answer::empty_entry(),
+                    })
+                    .into()
+            }
+
+            fn read(&self, image: &[u8], path: &[u8], position: u64, buffer: &mut [u8]) -> Answer {
+                read(image, path, position, buffer)
+                    .map(Answer::count)
+                    .into()
+            }
+
+            fn make_file(&self, image: &mut [u8], path: &[u8], date: &[u8]) -> Answer {
+                done(make(image, path, date, Kind::File))
+            }
+
+            fn make_directory(&self, image: &mut [u8], path: &[u8], date: &[u8]) -> Answer {
+                done(make(image, path, date, Kind::Directory))
+            }
+
+            fn write(&self, image: &mut [u8], path: &[u8], position: u64, bytes: &[u8]) -> Answer {
+                done(write(image, path, position, bytes))
+            }
+
+            fn remove_file(&self, image: &mut [u8], path: &[u8]) -> Answer {
+                done(remove_file(image, path))
+            }
+
+            fn remove_directory(&self, image: &mut [u8], path: &[u8]) -> Answer {
+                done(remove_directory(image, path))
+            }
+
+            fn lock(&self, image: &mut [u8], path: &[u8]) -> Answer {
+                done(set_lock(image, path, true))
+            }
+
+            fn unlock(&self, image: &mut [u8], path: &[u8]) -> Answer {
+                done(set_lock(image, path, false))
+            }
+        }
+    };
+}
+
+pub(crate) use base_of_direct;
+
+base_of_direct!();
+
 impl Calls for Direct {
     fn format(&self, image: &mut [u8]) -> Answer {
         done(format(image))
-    }
-
-    fn verdict(&self, image: &[u8]) -> Answer {
-        let sound = judge(image);
-        sound
-            .map(|sound| Answer::verdict(sound.pages as u64, sound.free as u64))
-            .into()
-    }
-
-    fn find(&self, image: &[u8], path: &[u8]) -> Answer {
-        find(image, path)
-            .map(|told| Answer::found(told.kind, told.size, told.locked, told.date))
-            .into()
-    }
-
-    fn list(&self, image: &[u8], path: &[u8], entry: u64) -> Answer {
-        list(image, path, entry)
-            .map(|listed| match listed {
-                Some((name, told)) => {
-                    Answer::occupied(told.kind, name, told.size, told.locked, told.date)
-                }
-                None => Answer::empty_entry(),
-            })
-            .into()
-    }
-
-    fn read(&self, image: &[u8], path: &[u8], position: u64, buffer: &mut [u8]) -> Answer {
-        read(image, path, position, buffer)
-            .map(Answer::count)
-            .into()
-    }
-
-    fn make_file(&self, image: &mut [u8], path: &[u8], date: &[u8]) -> Answer {
-        done(make(image, path, date, Kind::File))
-    }
-
-    fn make_directory(&self, image: &mut [u8], path: &[u8], date: &[u8]) -> Answer {
-        done(make(image, path, date, Kind::Directory))
-    }
-
-    fn write(&self, image: &mut [u8], path: &[u8], position: u64, bytes: &[u8]) -> Answer {
-        done(write(image, path, position, bytes))
-    }
-
-    fn remove_file(&self, image: &mut [u8], path: &[u8]) -> Answer {
-        done(remove_file(image, path))
-    }
-
-    fn remove_directory(&self, image: &mut [u8], path: &[u8]) -> Answer {
-        done(remove_directory(image, path))
-    }
-
-    fn lock(&self, image: &mut [u8], path: &[u8]) -> Answer {
-        done(set_lock(image, path, true))
-    }
-
-    fn unlock(&self, image: &mut [u8], path: &[u8]) -> Answer {
-        done(set_lock(image, path, false))
     }
 
     fn store(

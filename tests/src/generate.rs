@@ -439,7 +439,7 @@ impl<'r> Generator<'r> {
         }
     }
 
-    fn entry_number(&mut self) -> u64 {
+    pub(crate) fn entry_number(&mut self) -> u64 {
         let shape = self.shape();
         let most = shape.page_entries;
         let near = self.random.below(most + 1) as u64;
@@ -503,7 +503,7 @@ impl<'r> Generator<'r> {
         }
     }
 
-    fn directory_path(&mut self) -> Vec<u8> {
+    pub(crate) fn directory_path(&mut self) -> Vec<u8> {
         match self.random.weighted(&[5, 2, 2]) {
             0 => self.entry_path(is_directory),
             1 => b"/".to_vec(),

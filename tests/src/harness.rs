@@ -41,7 +41,7 @@ pub(crate) struct Guarded<T = u8> {
 }
 
 const GUARD: usize = 64;
-const GUARD_BYTE: u8 = 0xC3;
+pub(crate) const GUARD_BYTE: u8 = 0xC3;
 
 impl<T: Copy + PartialEq + From<u8>> Guarded<T> {
     pub(crate) fn new(items: &[T], shift: usize) -> Guarded<T> {
@@ -292,7 +292,13 @@ fn describe_numbers(what: &mut String, wanted: &[u64], got: &[u64]) {
 }
 
 /// The first bytes that differ.
-fn describe_bytes(what: &mut String, name: &str, page: usize, wanted: &[u8], got: &[u8]) {
+pub(crate) fn describe_bytes(
+    what: &mut String,
+    name: &str,
+    page: usize,
+    wanted: &[u8],
+    got: &[u8],
+) {
     let different: Vec<usize> = (0..wanted.len())
         .filter(|&at| wanted[at] != got[at])
         .collect();

@@ -195,8 +195,9 @@ pub fn simpler(call: &Call) -> Vec<Call> {
             simpler_transfer(path, *position, bytes).map(with).collect()
         }
         Call::Store(path, date, content, number, page) => {
-            let with =
-                |(path, number, content)| Call::Store(path, date.clone(), content, number, page.clone());
+            let with = |(path, number, content)| {
+                Call::Store(path, date.clone(), content, number, page.clone())
+            };
             let simpler_lent = shorter(page).chain(plainer(page));
             let lent = simpler_lent.map(|page| {
                 Call::Store(path.clone(), date.clone(), content.clone(), *number, page)
@@ -241,9 +242,9 @@ fn simpler_list(numbers: &[u64]) -> impl Iterator<Item = Vec<u64>> + '_ {
     fewer.into_iter().chain(plainer)
 }
 
-type Transfer = (Vec<u8>, u64, Vec<u8>);
+pub(crate) type Transfer = (Vec<u8>, u64, Vec<u8>);
 
-fn simpler_transfer<'a>(
+pub(crate) fn simpler_transfer<'a>(
     path: &'a [u8],
     position: u64,
     bytes: &'a [u8],
@@ -369,12 +370,12 @@ pub fn call_text(call: &Call) -> String {
     }
 }
 
-fn text(path: &[u8]) -> String {
+pub(crate) fn text(path: &[u8]) -> String {
     format!("\"{}\"", path.escape_ascii())
 }
 
 /// Bytes in hexadecimal; a run of one byte is told by its length.
-fn hex(bytes: &[u8]) -> String {
+pub(crate) fn hex(bytes: &[u8]) -> String {
     let mut text = String::new();
     for run in bytes.chunk_by(|left, right| left == right) {
         let _ = match run.len() {

@@ -5,11 +5,14 @@ use crate::calls::Calls;
 use crate::direct::Direct;
 use crate::plain::Plain;
 
-/// An implementation and the name it is reported by.
-pub struct Subject {
+/// An implementation of either version and the name it is reported by.
+pub struct SubjectOf<C: ?Sized> {
     pub name: &'static str,
-    pub calls: Box<dyn Calls>,
+    pub calls: Box<C>,
 }
+
+/// One of version 1.
+pub type Subject = SubjectOf<dyn Calls>;
 
 /// What is compared with the plain implementation: the one on bytes, and the
 /// library when it is on.

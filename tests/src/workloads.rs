@@ -1,9 +1,10 @@
 //! What the benchmarks perform: images and the calls on them, all granted.
 
 use crate::assemble::{assemble, nest, Order};
-use crate::calls::{Call, Calls};
-use crate::desk::{pattern, Desk, DATE};
+use crate::calls::{Base, Call, Calls};
+use crate::desk::{pattern, Desk, DeskOf, DATE};
 use crate::direct::Direct;
+use crate::plain::CONTENT;
 use crate::random::Random;
 use crate::rows::{most_rows, numbers_of};
 use std::hint::black_box;
@@ -16,7 +17,16 @@ pub fn longest(length: usize) -> usize {
     (length / 256 - 1) * 255
 }
 
-/// What is performed: a call of the lists, or one that stands outside them.
+/// What is performed, with an implementation of one version's calls.
+pub trait Task: Clone + PartialEq {
+    type Calls: ?Sized;
+
+    /// Performs it; answers whether it was granted.
+    fn perform(&mut self, calls: &Self::Calls, image: &mut [u8]) -> bool;
+}
+
+/// What is performed of version 1: a call of the lists, or one that stands
+/// outside them.
 #[derive(Clone, Debug, PartialEq, Eq)]
 pub enum Work {
     Call(Call),
@@ -27,9 +37,10 @@ pub enum Work {
     Tidy(Vec<u8>, Vec<u8>),
 }
 
-impl Work {
-    /// Performs it; answers whether it was granted.
-    pub fn perform(&mut self, calls: &dyn Calls, image: &mut [u8]) -> bool {
+impl Task for Work {
+    type Calls = dyn Calls;
+
+    fn perform(&mut self, calls: &dyn Calls, image: &mut [u8]) -> bool {
         match self {
             Work::Call(call) => black_box(call.perform(calls, image)).is_granted(),
             Work::Audit => black_box(calls.audit(image)).sound == 1,
@@ -40,10 +51,10 @@ impl Work {
 }
 
 /// One call on one image.
-pub struct Case {
+pub struct Case<W = Work> {
     pub what: String,
     pub image: Vec<u8>,
-    pub work: Work,
+    pub work: W,
 }
 
 /// Each of the calls on images of all lengths that are near empty, half
@@ -52,7 +63,8 @@ pub fn calls() -> Vec<Case> {
     let mut cases = Vec::new();
     for length in LENGTHS {
         for workload in workloads(length) {
-            for call in one_of_each(&workload) {
+            let calls = one_of_each(&workload.directory, CONTENT);
+            for call in [Call::Format].into_iter().chain(calls) {
                 let size = length / 1024;
                 let what = format!("{size} KiB, {}, {}", workload.name, call.name());
                 let image = workload.image.clone();
@@ -162,17 +174,27 @@ fn list_cases(desk: &mut Desk, directory: &str, numbers: &[u64]) -> Vec<Case> {
 /// The longest file of an image of this length read, written into an empty
 /// file, and written over.
 pub fn transfers(length: usize) -> Vec<Case> {
-    let mut desk = Desk::fresh(&Direct, length);
+    let desk = Desk::fresh(&Direct, length);
+    transfers_on(desk, longest(length), Work::Call)
+}
+
+/// The same on a fresh image of either version whose longest file has so many
+/// bytes.
+pub fn transfers_on<C: Base + ?Sized, W>(
+    mut desk: DeskOf<C>,
+    longest: usize,
+    work: fn(Call) -> W,
+) -> Vec<Case<W>> {
     assert_eq!(desk.make_file("/F"), 0);
     let empty = desk.image.clone();
-    assert_eq!(desk.write("/F", 0, longest(length)), 0);
+    assert_eq!(desk.write("/F", 0, longest), 0);
     let written = desk.image;
-    let read = Call::Read(b"/F".to_vec(), 0, vec![0; longest(length)]);
-    let write = Call::Write(b"/F".to_vec(), 0, pattern(longest(length)));
+    let read = Call::Read(b"/F".to_vec(), 0, vec![0; longest]);
+    let write = Call::Write(b"/F".to_vec(), 0, pattern(longest));
     let case = |what: &str, image: &[u8], call: &Call| Case {
-        what: format!("{} bytes, {what}", longest(length)),
+        what: format!("{longest} bytes, {what}"),
         image: image.to_vec(),
-        work: Work::Call(call.clone()),
+        work: work(call.clone()),
     };
     vec![
         case("read", &written, &read),
@@ -183,81 +205,97 @@ pub fn transfers(length: usize) -> Vec<Case> {
 
 /// One byte at either end of the longest file.
 pub fn single_bytes() -> Vec<Case> {
-    let length = 65_536;
-    let mut desk = Desk::fresh(&Direct, length);
+    let desk = Desk::fresh(&Direct, 65_536);
+    single_bytes_on(desk, longest(65_536), Work::Call)
+}
+
+/// The same on a fresh image of either version.
+pub fn single_bytes_on<C: Base + ?Sized, W>(
+    mut desk: DeskOf<C>,
+    longest: usize,
+    work: fn(Call) -> W,
+) -> Vec<Case<W>> {
     assert_eq!(desk.make_file("/F"), 0);
-    assert_eq!(desk.write("/F", 0, longest(length)), 0);
+    assert_eq!(desk.write("/F", 0, longest), 0);
     let image = desk.image;
     let mut cases = Vec::new();
-    for (which, position) in [("first", 0), ("last", longest(length) as u64 - 1)] {
+    for (which, position) in [("first", 0), ("last", longest as u64 - 1)] {
         let read = Call::Read(b"/F".to_vec(), position, vec![0; 1]);
         let write = Call::Write(b"/F".to_vec(), position, vec![1; 1]);
         for call in [read, write] {
-            let what = format!("{} bytes, {} the {which}", longest(length), call.name());
+            let what = format!("{longest} bytes, {} the {which}", call.name());
             let image = image.clone();
-            let work = Work::Call(call);
+            let work = work(call);
             cases.push(Case { what, image, work });
         }
     }
     cases
 }
 
-/// An image and the directory in which the calls take place: it holds the file
-/// F of 255 bytes and the empty directory E, and N is not there.
-struct Workload {
-    name: &'static str,
-    image: Vec<u8>,
-    directory: String,
+/// An image and the directory in which the calls take place: it holds the file F
+/// of one page and the empty directory E, and N is not there.
+pub struct Workload {
+    pub name: &'static str,
+    pub image: Vec<u8>,
+    pub directory: String,
+}
+
+impl Workload {
+    /// One whose calls take place in the root.
+    pub fn at_root(name: &'static str, image: Vec<u8>) -> Workload {
+        Workload {
+            name,
+            image,
+            directory: String::new(),
+        }
+    }
 }
 
 fn workloads(length: usize) -> Vec<Workload> {
     let pages = length / 256;
     // The header, F, E, D, and two pages left for the calls to take.
     let others = 6;
-    let at_root = |name, image| Workload {
-        name,
-        image,
-        directory: String::new(),
-    };
+    let filled = |pages| filled(Desk::fresh(&Direct, length), pages, CONTENT);
     vec![
-        at_root("near empty", filled(length, 0)),
-        at_root("half full", filled(length, pages / 2 - others / 2)),
-        at_root("full", filled(length, pages - others)),
+        Workload::at_root("near empty", filled(0)),
+        Workload::at_root("half full", filled(pages / 2 - others / 2)),
+        Workload::at_root("full", filled(pages - others)),
         deep(pages),
     ]
 }
 
-/// A fresh image with F and E, and below D that many pages of files and directories.
-fn filled(length: usize, pages: usize) -> Vec<u8> {
-    let mut desk = Desk::fresh(&Direct, length);
-    make_file(&mut desk, "/F");
+/// A fresh image with F and E, and below D that many pages of files and
+/// directories. A page of a file carries so much content.
+pub fn filled<C: Base + ?Sized>(mut desk: DeskOf<C>, pages: usize, content: usize) -> Vec<u8> {
+    make_file(&mut desk, "/F", content);
     for path in ["/E", "/D"] {
         assert_eq!(desk.make_directory(path), 0);
     }
-    fill(&mut desk, "/D", pages);
+    fill(&mut desk, "/D", pages, content);
     desk.image
 }
 
 /// Fills a directory with up to 7 files, or shares the pages among 4 below.
-fn fill(desk: &mut Desk, directory: &str, pages: usize) {
+fn fill<C: Base + ?Sized>(desk: &mut DeskOf<C>, directory: &str, pages: usize, content: usize) {
     let mut files = pages;
     if pages > 7 {
         let share = (pages - 4) / 4;
         for name in 0..4 {
             let below = format!("{directory}/{name}");
             assert_eq!(desk.make_directory(&below), 0);
-            fill(desk, &below, share);
+            fill(desk, &below, share, content);
         }
         files = pages - 4 - 4 * share;
     }
     for name in 0..files {
-        make_file(desk, &format!("{directory}/file {name}"));
+        make_file(desk, &format!("{directory}/file {name}"), content);
     }
 }
 
-fn make_file(desk: &mut Desk, path: &str) {
+/// A file of one page.
+fn make_file<C: Base + ?Sized>(desk: &mut DeskOf<C>, path: &str, content: usize) {
     assert_eq!(desk.make_file(path), 0);
-    assert_eq!(desk.write(path, 0, 255), 0);
+    assert_eq!(desk.write(path, 0, content), 0);
 }
 
 /// Directories nested as deep as the pages allow, with F and E in the deepest.
@@ -265,12 +303,20 @@ fn deep(pages: usize) -> Workload {
     let depth = pages - 5;
     let tree = nest(pages, depth, 8);
     let image = assemble(&tree, Order::Scattered, &mut Random::new(7));
-    let mut desk = Desk {
+    let desk = Desk {
         calls: &Direct,
         image,
     };
-    let directory = "/DDDDDDDD".repeat(depth);
-    make_file(&mut desk, &format!("{directory}/F"));
+    deepest(desk, "/DDDDDDDD".repeat(depth), CONTENT)
+}
+
+/// Makes F and E in the deepest directory, whose path is given.
+pub fn deepest<C: Base + ?Sized>(
+    mut desk: DeskOf<C>,
+    directory: String,
+    content: usize,
+) -> Workload {
+    make_file(&mut desk, &format!("{directory}/F"), content);
     assert_eq!(desk.make_directory(&format!("{directory}/E")), 0);
     Workload {
         name: "deep",
@@ -279,9 +325,9 @@ fn deep(pages: usize) -> Workload {
     }
 }
 
-/// One call of each kind.
-fn one_of_each(workload: &Workload) -> Vec<Call> {
-    let directory = workload.directory.as_bytes();
+/// One call of each kind that both versions have, in this directory.
+pub fn one_of_each(directory: &str, content: usize) -> Vec<Call> {
+    let directory = directory.as_bytes();
     let file = [directory, b"/F"].concat();
     let empty = [directory, b"/E"].concat();
     let new = [directory, b"/N"].concat();
@@ -291,14 +337,13 @@ fn one_of_each(workload: &Workload) -> Vec<Call> {
         directory
     };
     vec![
-        Call::Format,
         Call::Verdict,
         Call::Find(file.clone()),
         Call::List(listed.to_vec(), 5),
-        Call::Read(file.clone(), 0, vec![0; 255]),
+        Call::Read(file.clone(), 0, vec![0; content]),
         Call::MakeFile(new.clone(), DATE.to_vec()),
         Call::MakeDirectory(new, DATE.to_vec()),
-        Call::Write(file.clone(), 255, vec![1; 255]),
+        Call::Write(file.clone(), content as u64, vec![1; content]),
         Call::RemoveFile(file.clone()),
         Call::RemoveDirectory(empty),
         Call::Lock(file.clone()),

@@ -1,12 +1,14 @@
 //! Copies of the plain implementation with one thing broken, to see that the
 //! harness tells of each.
 
-use crate::calls::{Answer, Audit, Call, Calls, Refusal};
+use crate::calls::{Answer, Audit, Base, Call, Calls, Refusal};
 use crate::misjudge::misjudged;
 use crate::plain::reader::is_allocated;
 use crate::plain::writer::entry_at;
+use crate::plain::{
+    pages_of_file, pages_of_image, Plain, BITMAP_AT, CONTENT, ENTRY, PAGE, ROOT_ENTRIES_AT,
+};
 use crate::wrong_links::Links;
-use crate::plain::{pages_of_file, pages_of_image, Plain, BITMAP_AT, CONTENT, ENTRY, PAGE, ROOT_ENTRIES_AT};
 
 /// What is broken.
 #[derive(Clone, Copy, Debug, PartialEq, Eq, PartialOrd)]
@@ -520,15 +522,7 @@ fn changed_entry(image: &[u8], before: &[u8]) -> usize {
     (64..image.len()).step_by(32).find(is_changed).unwrap_or(64)
 }
 
-impl Calls for Wrong {
-    fn format(&self, image: &mut [u8]) -> Answer {
-        let answer = Plain.format(image);
-        if self.has(Fault::FormatAll) && answer.is_granted() {
-            image[PAGE..].fill(0);
-        }
-        answer
-    }
-
+impl Base for Wrong {
     fn verdict(&self, image: &[u8]) -> Answer {
         self.perform(&mut self.judged(image), Call::Verdict).0
     }
@@ -581,6 +575,16 @@ impl Calls for Wrong {
 
     fn unlock(&self, image: &mut [u8], path: &[u8]) -> Answer {
         self.perform(image, Call::Unlock(path.to_vec())).0
+    }
+}
+
+impl Calls for Wrong {
+    fn format(&self, image: &mut [u8]) -> Answer {
+        let answer = Plain.format(image);
+        if self.has(Fault::FormatAll) && answer.is_granted() {
+            image[PAGE..].fill(0);
+        }
+        answer
     }
 
     fn store(

@@ -1,7 +1,7 @@
 //! The link list with one thing broken, above the calls of the plain
 //! implementation.
 
-use crate::calls::{Answer, Calls, Kind, Refusal, DATE_BYTES};
+use crate::calls::{Answer, Base, Kind, Refusal, DATE_BYTES};
 use crate::desk::DATE;
 use crate::plain::links::{path_in, Row};
 use crate::plain::{pages_of_file, Plain};

@@ -2,7 +2,7 @@
 //! place, and calls on those that are refused change nothing.
 
 use zealfs_tests::assemble::{assemble, Order};
-use zealfs_tests::calls::{Call, Calls, Refusal, NUMBERS};
+use zealfs_tests::calls::{Base, Call, Refusal, NUMBERS};
 use zealfs_tests::damage::{damage, mend_bitmap, Survey};
 use zealfs_tests::desk::Desk;
 use zealfs_tests::generate::{random_tree, starting_image, Generator};

@@ -5,7 +5,7 @@
 //! are equal again.
 
 use zealfs_tests::assemble::{assemble, Order};
-use zealfs_tests::calls::{Answer, Call, Calls, CALL_COUNT, CALL_NAMES, NUMBERS};
+use zealfs_tests::calls::{Answer, Base, Call, Calls, CALL_COUNT, CALL_NAMES, NUMBERS};
 use zealfs_tests::desk::{Desk, DATE};
 use zealfs_tests::generate::{random_tree, Generator};
 use zealfs_tests::plain::reader::judge;

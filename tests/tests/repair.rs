@@ -3,7 +3,7 @@
 //! are all that changes.
 
 use zealfs_tests::assemble::{assemble, Order};
-use zealfs_tests::calls::{Answer, Call, Calls, Refusal};
+use zealfs_tests::calls::{Answer, Base, Call, Calls, Refusal};
 use zealfs_tests::damage::{damage, mend_bitmap, Survey};
 use zealfs_tests::desk::{Desk, DATE};
 use zealfs_tests::generate::{random_tree, starting_image, Generator};

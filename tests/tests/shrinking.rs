@@ -1,7 +1,7 @@
 //! The harness itself: each copy of the plain implementation with one thing
 //! broken is told of, with a short list of calls.
 
-use zealfs_tests::calls::{Call, Calls};
+use zealfs_tests::calls::{Base, Call};
 use zealfs_tests::damage::damage;
 use zealfs_tests::generate::{scenario, starting_image, Generator};
 use zealfs_tests::harness::{compare, Scenario};

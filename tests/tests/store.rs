@@ -3,7 +3,7 @@
 //! them with make followed by write. Every store's number is asked for, also
 //! past the last, and buffers of all lengths from 0 to 300.
 
-use zealfs_tests::calls::{Answer, Calls, Refusal};
+use zealfs_tests::calls::{Answer, Base, Calls, Refusal};
 use zealfs_tests::desk::DATE;
 use zealfs_tests::generate::starting_image;
 use zealfs_tests::plain::reader::judge;
@@ -23,14 +23,7 @@ impl New<'_> {
     /// The store of that number into a page that holds junk beforehand.
     fn store(&self, calls: &dyn Calls, image: &[u8], number: u64) -> (Answer, Vec<u8>) {
         let mut page = vec![0x3C; 256];
-        let answer = calls.store(
-            image,
-            self.path,
-            self.date,
-            self.content,
-            number,
-            &mut page,
-        );
+        let answer = calls.store(image, self.path, self.date, self.content, number, &mut page);
         (answer, page)
     }
 
@@ -146,7 +139,8 @@ fn every_pull_keeps_the_old_tree() {
         for subject in all() {
             let count = check_pulls(&format!("seed {seed}"), &subject, &image, &new);
             granted += usize::from(count > 0);
-            below += usize::from(count > 0 && path.iter().filter(|&&byte| byte == b'/').count() > 1);
+            below +=
+                usize::from(count > 0 && path.iter().filter(|&&byte| byte == b'/').count() > 1);
             pulls += count;
         }
     }
@@ -168,7 +162,9 @@ fn buffers_of_all_lengths() {
             ] {
                 let before: Vec<u8> = (0..length).map(|at| at as u8).collect();
                 let mut page = before.clone();
-                let answer = subject.calls.store(image, path, date, &[7; 300], 0, &mut page);
+                let answer = subject
+                    .calls
+                    .store(image, path, date, &[7; 300], 0, &mut page);
                 let name = subject.name;
                 match length {
                     256 if *image == fresh => assert!(answer.is_granted(), "{name}"),

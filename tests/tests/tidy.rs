@@ -2,7 +2,7 @@
 //! a second implementation, and the proposals of a foreign proposer judged.
 
 use zealfs_tests::assemble::{assemble, Order};
-use zealfs_tests::calls::Calls;
+use zealfs_tests::calls::{Base, Calls};
 use zealfs_tests::damage::damage;
 use zealfs_tests::desk::Desk;
 use zealfs_tests::generate::{random_tree, starting_image};

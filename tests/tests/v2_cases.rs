@@ -3,13 +3,14 @@
 //! implementation.
 
 use zealfs_tests::assemble::Order;
-use zealfs_tests::calls::{Answer, Kind, Refusal};
+use zealfs_tests::calls::{Answer, Base, Kind, Refusal};
 use zealfs_tests::desk::{pattern, DATE};
 use zealfs_tests::random::Random;
 use zealfs_tests::v2::assemble::assemble;
 use zealfs_tests::v2::desk::Desk;
 use zealfs_tests::v2::generate::nested_tree;
 use zealfs_tests::v2::layout::layout;
+use zealfs_tests::v2::plain::PLAIN;
 use zealfs_tests::v2::subjects::all;
 
 /// Runs a case on each implementation, on an image formatted over E5.
@@ -584,5 +585,76 @@ fn a_directory_of_many_pages() {
         assert_eq!(desk.list("/", 27 + 31 * 32 - 1), Answer::empty_entry());
         assert_eq!(desk.list("/", 27 + 31 * 32).number, 12);
         assert_eq!(desk.find("/989").values, [0, 0, 0, 0]);
+    }
+}
+
+/// Every byte of a date through all its values, dates of other lengths, every byte
+/// of a name, and names of all lengths about the longest: each implementation
+/// makes and refuses as the plain one does.
+#[test]
+fn dates_and_names() {
+    let image = Desk::fresh(&PLAIN, 2048, 0).image;
+    let mut dates: Vec<Vec<u8>> = (0..=17)
+        .map(|length| DATE.into_iter().cycle().take(length).collect())
+        .collect();
+    for field in 0..DATE.len() {
+        dates.extend((0..=255).map(|value| {
+            let mut date = DATE;
+            date[field] = value;
+            date.to_vec()
+        }));
+    }
+    let mut paths: Vec<Vec<u8>> = (0..=18)
+        .map(|length| [b"/".to_vec(), vec![b'A'; length]].concat())
+        .collect();
+    for value in 0..=255 {
+        paths.extend([
+            vec![b'/', value],
+            vec![b'/', b'A', value],
+            vec![value, b'A'],
+        ]);
+    }
+    let with_dates = dates.iter().map(|date| (&b"/A"[..], date.as_slice()));
+    let with_paths = paths.iter().map(|path| (path.as_slice(), &DATE[..]));
+    for (path, date) in with_dates.chain(with_paths) {
+        let mut expected = image.clone();
+        let file = PLAIN.make_file(&mut expected, path, date);
+        let directory = PLAIN.make_directory(&mut expected, path, date);
+        for subject in all() {
+            let calls = subject.calls.as_ref();
+            let mut made = image.clone();
+            let who = subject.name;
+            let told = calls.make_file(&mut made, path, date);
+            assert_eq!(told, file, "{who}: {path:02X?} {date:02X?}");
+            let told = calls.make_directory(&mut made, path, date);
+            assert_eq!(told, directory, "{who}: {path:02X?} {date:02X?}");
+            assert_image(&made, &expected);
+        }
+    }
+}
+
+/// Lengths that are small if they are cut to 32 bits. The bytes are never touched,
+/// but 4 GiB of addresses are wanted.
+#[test]
+#[ignore = "wants 4 GiB of address space"]
+fn lengths_of_more_than_32_bits() {
+    let mut desk = Desk::fresh(&PLAIN, 2048, 0);
+    desk.make_all(&[], &["/F"]);
+    let image = desk.image;
+    let mut many = vec![0; (1 << 32) + 2048];
+    let refused = |number| Answer::refused(Refusal::number(number));
+    for subject in all() {
+        let calls = subject.calls.as_ref();
+        let mut lent = image.clone();
+        assert_eq!(calls.write(&mut lent, b"/F", 0, &many), refused(10));
+        assert_eq!(calls.read(&image, b"/F", 0, &mut many), Answer::count(0));
+        assert_eq!(calls.find(&image, &many), refused(4));
+        assert_eq!(calls.make_file(&mut lent, b"/N", &many), refused(11));
+        assert_eq!(calls.verdict(&many), refused(1));
+        assert_eq!(calls.format(&mut many, 0), refused(1));
+        assert_eq!(lent, image, "{}", subject.name);
+        let told = calls.entries(&image, b"/", 0, &mut many);
+        assert_eq!(told, Answer::entries(7, 7));
+        many[..7 * 32].fill(0);
     }
 }

@@ -2,12 +2,12 @@
 //! and on its place, calls on those that are refused change nothing, and no bytes
 //! at all make an implementation panic.
 
-use zealfs_tests::calls::{Call as Shared, NUMBERS};
+use zealfs_tests::calls::{Base, Call as Shared, NUMBERS};
 use zealfs_tests::desk::DATE;
 use zealfs_tests::harness::Origin;
 use zealfs_tests::random::Random;
 use zealfs_tests::settings;
-use zealfs_tests::v2::calls::{Call, Calls};
+use zealfs_tests::v2::calls::Call;
 use zealfs_tests::v2::damage::{mend_bitmap, Survey};
 use zealfs_tests::v2::desk::Desk;
 use zealfs_tests::v2::generate::{damaged_scenario, random_size};
@@ -193,6 +193,7 @@ fn any_bytes() {
         let path = random
             .pick(&[&b"/"[..], b"/A", b"/A/A", b"", b"//"])
             .to_vec();
+        let entries = path.clone();
         let calls = vec![
             Shared::Verdict,
             Shared::Find(path.clone()),
@@ -207,6 +208,10 @@ fn any_bytes() {
             Shared::RemoveDirectory(path),
         ];
         let mut calls: Vec<Call> = calls.into_iter().map(Call::Same).collect();
+        calls.insert(
+            3,
+            Call::Entries(entries, random.below(40) as u64, vec![7; 99]),
+        );
         calls.push(Call::Format(random.below(4) as u64));
         calls.push(Call::Same(Shared::Verdict));
         let origin = Origin(format!("bytes {round}"));

@@ -30,10 +30,12 @@ fn check(what: &str, image: &[u8], (number, place): Told) {
         let told = Answer::refused(Refusal { number, place });
         assert_eq!(verdict, told, "{what}: {who} tells {verdict}");
         let mut lent = image.to_vec();
+        let mut rows = [0x55; 40];
         let path = b"no path";
         let answers = [
             calls.find(&lent, path),
             calls.list(&lent, path, u64::MAX),
+            calls.entries(&lent, path, u64::MAX, &mut rows),
             calls.read(&lent, path, 0, &mut []),
             calls.make_file(&mut lent, path, &[]),
             calls.make_directory(&mut lent, path, &[]),
@@ -48,6 +50,7 @@ fn check(what: &str, image: &[u8], (number, place): Told) {
             "{what}: {who}"
         );
         assert_eq!(lent, image, "{what}: {who}");
+        assert_eq!(rows, [0x55; 40], "{what}: {who}");
     }
 }
 

@@ -13,6 +13,7 @@ pub struct Given {
     pub version: bool,
     flags: Vec<String>,
     date: Option<Date>,
+    page: Option<String>,
     pub words: Vec<OsString>,
 }
 
@@ -34,6 +35,11 @@ impl Given {
                     let Some(date) = all.next() else { return words("--date wants a date after it") };
                     given.date = Some(read_date(&date)?);
                 }
+                Some("--page") => {
+                    let Some(size) = all.next() else { return words("--page wants a page size after it") };
+                    given.page = Some(named(&size));
+                }
+                Some(word) if word.starts_with("--page=") => given.page = Some(word[7..].to_owned()),
                 Some(word) if word.starts_with("--date=") => given.date = Some(read_date(OsStr::new(&word[7..]))?),
                 Some(word) if word.len() > 1 && word.starts_with('-') => given.flags.push(word.to_owned()),
                 _ => given.words.push(word),
@@ -51,6 +57,9 @@ impl Given {
         if self.date.is_some() && !known.contains(&"--date") {
             return Some("--date".to_owned());
         }
+        if self.page.is_some() && !known.contains(&"--page") {
+            return Some("--page".to_owned());
+        }
         self.flags.iter().find(|flag| !known.contains(&flag.as_str())).cloned()
     }
 
@@ -67,6 +76,11 @@ impl Given {
     /// The path of that number, or the root.
     pub fn path_or_root(&self, number: usize) -> &[u8] {
         self.words.get(number).map_or(b"/", |word| word.as_bytes())
+    }
+
+    /// The page size that was given, as it was written.
+    pub fn page(&self) -> Option<&str> {
+        self.page.as_deref()
     }
 
     /// The date that was given, or now.

@@ -1,7 +1,8 @@
 //! The paths of what a fault names. No call reads an image that is not sound, so the calls are asked about a copy in which the entry at fault is
 //! vacant: where that copy can be repaired, its directories have the paths that they have in the image. What is decided, the judges decide; what
-//! this file reads of an image is the name in the entry that they point to.
+//! this file reads of an image is the name in the entry that they point to. Version 2 has no repair, so that of its images no path is told.
 
+use crate::either::is_two;
 use crate::output::shown;
 use crate::paths::{below, Paths};
 use zealfs::{Owner, Owners, Refusal};
@@ -151,16 +152,22 @@ fn user_of(image: &[u8], page: u16) -> Option<String> {
     slot.path(image, &settled.copy, &settled.owners)
 }
 
+/// An entry in words. In version 2 a directory has several pages, and number 255 on page 0 is the root itself.
+fn entry_of(image: &[u8], directory: u16, entry: u16) -> String {
+    match (directory, entry) {
+        (0, 255) if is_two(image) => "the root".to_owned(),
+        (0, entry) => format!("entry {entry} of the root"),
+        (page, entry) if is_two(image) => format!("entry {entry} on page {page}"),
+        (page, entry) => format!("entry {entry} of the directory on page {page}"),
+    }
+}
+
 /// Where the fault is, in words.
-pub fn place(refusal: Refusal) -> Option<String> {
-    let entry_of = |directory: u16, entry: u16| match directory {
-        0 => format!("entry {entry} of the root"),
-        page => format!("entry {entry} of the directory on page {page}"),
-    };
+pub fn place(image: &[u8], refusal: Refusal) -> Option<String> {
     match refusal {
-        Refusal::BadEntry { directory, entry } => Some(entry_of(directory, entry)),
+        Refusal::BadEntry { directory, entry } => Some(entry_of(image, directory, entry)),
         Refusal::BadChain { directory, entry, passed } => {
-            Some(format!("{}, after {passed} good {}", entry_of(directory, entry), if passed == 1 { "page" } else { "pages" }))
+            Some(format!("{}, after {passed} good {}", entry_of(image, directory, entry), if passed == 1 { "page" } else { "pages" }))
         }
         Refusal::OwnedTwice { page } | Refusal::LostPage { page } | Refusal::MarkedFree { page } => Some(format!("page {page}")),
         _ => None,
@@ -169,6 +176,9 @@ pub fn place(refusal: Refusal) -> Option<String> {
 
 /// The paths of what the fault names, where they can be told.
 pub fn paths(image: &[u8], refusal: Refusal) -> Vec<String> {
+    if is_two(image) {
+        return Vec::new();
+    }
     let mut trials = TRIALS;
     match refusal {
         Refusal::BadEntry { directory, entry } | Refusal::BadChain { directory, entry, .. } => {

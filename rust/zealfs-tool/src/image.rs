@@ -1,6 +1,7 @@
 //! Image files. A writer holds the image by a lock from before it reads it until the new one is in its place, and the new one takes the place of
 //! the old by a rename: whoever opens the name finds the old image or the new one, whole, also after a loss of power or a kill.
 
+use crate::either::LONGEST;
 use std::ffi::{OsStr, OsString};
 use std::fs::{self, File, Metadata, OpenOptions, Permissions, TryLockError};
 use std::io::{self, Error, ErrorKind, Read, Seek, Write};
@@ -40,7 +41,7 @@ fn open(path: &Path, for_writing: bool) -> io::Result<File> {
 /// At most a byte more than the longest image has, so that what is too long is seen to be.
 fn read_whole(from: impl Read) -> io::Result<Vec<u8>> {
     let mut bytes = Vec::new();
-    from.take(zealfs::LONGEST as u64 + 1).read_to_end(&mut bytes)?;
+    from.take(LONGEST as u64 + 1).read_to_end(&mut bytes)?;
     Ok(bytes)
 }
 
@@ -244,7 +245,7 @@ impl Held {
     /// Keeps the image as it was read beside it, under its name with a `~`; where that is taken, with `~2`, `~3` and so on. Answers what
     /// was put behind the name. Of what is longer than any image only the beginning was read, and it cannot be kept.
     pub fn keep(&self) -> io::Result<String> {
-        if self.bytes.len() > zealfs::LONGEST {
+        if self.bytes.len() > LONGEST {
             return error(ErrorKind::InvalidInput, "the file is longer than any cartridge, so that it is no image; nothing was done");
         }
         for number in 1.. {

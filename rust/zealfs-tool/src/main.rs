@@ -4,6 +4,7 @@ mod args;
 mod blame;
 mod clock;
 mod commands;
+mod either;
 mod image;
 mod output;
 mod paths;

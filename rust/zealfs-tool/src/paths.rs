@@ -1,5 +1,6 @@
 //! From directories and pages to paths, by the calls alone.
 
+use crate::either;
 use zealfs::{Answer, Entry, Found, Owner, Owners};
 
 /// The path of a name in a directory.
@@ -23,7 +24,7 @@ impl Row {
 /// The entries of a directory.
 pub fn rows(image: &[u8], directory: &[u8]) -> Answer<Vec<Row>> {
     let row = |entry: Entry| Row { path: below(directory, entry.name()), found: Found { kind: entry.kind, date: entry.date } };
-    zealfs::entries(image, directory).map(|entry| entry.map(row)).collect()
+    Ok(either::entries(image, directory)?.into_iter().map(row).collect())
 }
 
 /// Everything below a directory, a directory's contents directly after it.
@@ -39,13 +40,13 @@ pub fn all_below(image: &[u8], directory: &[u8]) -> Answer<Vec<Row>> {
 
 /// The content of a file.
 pub fn content(image: &[u8], path: &[u8]) -> Answer<Vec<u8>> {
-    let mut bytes = vec![0; zealfs::find(image, path)?.kind.size()];
-    let count = zealfs::read(image, path, 0, &mut bytes)?;
+    let mut bytes = vec![0; either::find(image, path)?.kind.size()];
+    let count = either::read(image, path, 0, &mut bytes)?;
     bytes.truncate(count);
     Ok(bytes)
 }
 
-/// The paths of the owners of pages, each worked out once.
+/// The paths of the owners of pages, each worked out once; of version 1, which alone tells owners.
 pub struct Paths<'a> {
     image: &'a [u8],
     owners: &'a Owners,

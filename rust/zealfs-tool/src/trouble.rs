@@ -20,6 +20,8 @@ pub enum Trouble {
     File(String, io::Error),
     /// Standard output could not be written.
     Output(io::Error),
+    /// What only version 1 has was asked of an image of version 2.
+    Version { image: String, what: &'static str },
     /// The library refused, for the image or for the path.
     Refused { image: String, path: String, refusal: Refusal },
 }
@@ -32,7 +34,7 @@ impl Trouble {
             Self::Words(_) => WRONG_WORDS,
             Self::File(..) | Self::Output(_) => NO_FILE,
             Self::Refused { refusal, .. } if refusal.is_of_the_image() => NOT_IN_ORDER,
-            Self::Refused { .. } => REFUSED,
+            Self::Refused { .. } | Self::Version { .. } => REFUSED,
         }
     }
 
@@ -42,6 +44,7 @@ impl Trouble {
             Self::Words(what) => format!("zealfs: {what}\n"),
             Self::File(name, error) => format!("zealfs: {name}: {error}\n"),
             Self::Output(error) => format!("zealfs: standard output: {error}\n"),
+            Self::Version { image, what } => format!("zealfs: {image}: {}\n", of_version_one(what)),
             Self::Refused { image, path, refusal } if path.is_empty() => {
                 format!("zealfs: {image}: {refusal}\n  what to do: {}\n", refusal.advice())
             }
@@ -57,6 +60,7 @@ impl Trouble {
             Self::Words(what) => status.text("error", what),
             Self::File(name, error) => status.text("file", name).text("error", &error.to_string()),
             Self::Output(error) => status.text("file", "standard output").text("error", &error.to_string()),
+            Self::Version { image, what } => status.text("image", image).text("error", &of_version_one(what)),
             Self::Refused { image, path, refusal } => {
                 let told = status.text("image", image).number("number", refusal.number().into());
                 let told = if path.is_empty() { told } else { told.text("path", path) };
@@ -64,6 +68,10 @@ impl Trouble {
             }
         }
     }
+}
+
+fn of_version_one(what: &str) -> String {
+    format!("a version 2 image; {what} is for version 1 alone, and nothing was done")
 }
 
 pub fn words<T>(what: impl Into<String>) -> Outcome<T> {

@@ -23,7 +23,7 @@ fn looking_at_the_sample() {
     folder.expect(&["ls", "-l", "loan.img"], 0, long, "");
     let map = "      0  header\n    1-2  /0042\n      3  /A\n      4  /A/7\n    5-7  free\n";
     folder.expect(&["map", "loan.img"], 0, map, "");
-    let info = "loan.img\nlength       2048 bytes\npages        8, of which 3 free\nfiles        2 with 256 bytes, of which 0 locked\n\
+    let info = "loan.img\nversion      1, pages of 256 bytes\nlength       2048 bytes\npages        8, of which 3 free\nfiles        2 with 256 bytes, of which 0 locked\n\
                 directories  1\nroot         2 of 6 entries taken\nroom         765 bytes for a new file\n";
     folder.expect(&["info", "loan.img"], 0, info, "");
     assert_eq!(folder.read("loan.img"), example(), "looking changes nothing");
@@ -49,7 +49,7 @@ fn json_of_everything_that_tells() {
     assert!(folder.status(&["--json", "tree", "loan.img"], 0).out.starts_with(&format!("{file}{rest}")));
     let map = folder.status(&["--json", "map", "loan.img"], 0).out;
     assert_eq!(map.lines().nth(1), Some("{\"first\":1,\"last\":2,\"owner\":\"/0042\"}"));
-    let info = "{\"image\":\"loan.img\",\"bytes\":2048,\"pages\":8,\"free\":3,\"files\":2,\"content\":256,\"locked\":0,\"directories\":1,\"root\":2,\"room\":765}\n";
+    let info = "{\"image\":\"loan.img\",\"version\":1,\"page_size\":256,\"bytes\":2048,\"pages\":8,\"free\":3,\"files\":2,\"content\":256,\"locked\":0,\"directories\":1,\"root\":2,\"room\":765}\n";
     folder.expect(&["--json", "info", "loan.img"], 0, info, "");
     let mended = "{\"image\":\"lost.img\",\"mended\":true,\"number\":19,\"kept\":\"lost.img~\"}\n";
     folder.expect(&["--json", "repair", "lost.img"], 1, mended, "");
@@ -245,7 +245,7 @@ fn what_is_no_image() {
     let folder = Folder::new();
     folder.write("empty.img", b"");
     folder.write("zeros.img", &[0; 2048]);
-    folder.write("long.img", &[0; 70_000]);
+    folder.write("long.img", &vec![0; 1_050_000]);
     fs::create_dir(folder.path("folder")).unwrap();
     assert!(Command::new("mkfifo").arg(folder.path("pipe")).status().unwrap().success());
     let expected = [("empty.img", 4), ("zeros.img", 4), ("long.img", 4), ("folder", 8), ("pipe", 8), ("nowhere.img", 8), ("/dev/null", 8)];
@@ -269,7 +269,7 @@ fn what_is_no_image() {
         "",
         "zealfs: long.img: the file is longer than any cartridge, so that it is no image; nothing was done\n",
     );
-    assert_eq!(folder.read("long.img"), [0; 70_000]);
+    assert_eq!(folder.read("long.img"), vec![0; 1_050_000]);
     assert_eq!(folder.names(), ["empty.img", "folder", "long.img", "pipe", "zeros.img"]);
 }
 
@@ -304,6 +304,7 @@ fn wrong_words() {
         &["format", "new.img"],
         &["format", "new.img", "3000"],
         &["format", "new.img", "66k"],
+        &["format", "new.img", "1m"],
         &["format", "new.img", "0"],
         &["format", "new.img", "-1"],
         &["format", "new.img", "99999999999999999999k"],

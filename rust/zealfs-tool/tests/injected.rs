@@ -3,7 +3,7 @@
 
 mod common;
 
-use common::{damaged, example, Folder, DATE, TOOL};
+use common::{damaged, example, example_two, Folder, DATE, TOOL};
 use std::collections::HashMap;
 use std::process::{Command, Stdio};
 
@@ -182,6 +182,34 @@ fn format_over() {
 #[test]
 fn format_new() {
     Case { words: &["format", "loan.img", "4k"], before: None, status: 0, is_kept: false }.run();
+}
+
+/// Version 2's images take the same way.
+fn changing_two(words: &'static [&'static str]) -> Case {
+    Case { words, before: Some(example_two()), status: 0, is_kept: false }
+}
+
+#[test]
+fn put_into_version_two() {
+    changing_two(&["put", "--date", DATE, "loan.img", "a.txt", "/8"]).run();
+}
+
+#[test]
+fn put_over_in_version_two() {
+    changing_two(&["put", "-o", "--date", DATE, "loan.img", "a.txt", "/0042"]).run();
+}
+
+#[test]
+fn remove_and_lock_in_version_two() {
+    changing_two(&["rm", "loan.img", "/0042"]).run();
+    changing_two(&["lock", "loan.img", "/0042"]).run();
+}
+
+#[test]
+fn format_version_two() {
+    Case { words: &["format", "--v2", "-f", "loan.img", "128k"], before: Some(example()), status: 0, is_kept: true }.run();
+    Case { words: &["format", "-f", "loan.img", "4k"], before: Some(example_two()), status: 0, is_kept: true }.run();
+    Case { words: &["format", "--v2", "loan.img", "4k"], before: None, status: 0, is_kept: false }.run();
 }
 
 #[cfg(has_tidy)]

@@ -27,28 +27,30 @@ pub enum Kind {
         locked: bool,
     },
     /// A directory.
-    Directory,
+    Directory {
+        /// The bytes of a page: 256 in version 1.
+        size: usize,
+    },
 }
 
 impl Kind {
-    fn of(kind: u64, size: u64, locked: u64) -> Self {
+    pub(crate) fn of(kind: u64, size: u64, locked: u64) -> Self {
         match kind {
             0 => Self::File { size: size as usize, locked: locked == 1 },
-            _ => Self::Directory,
+            _ => Self::Directory { size: size as usize },
         }
     }
 
-    /// The size as the listing has it: a directory's is 256.
+    /// The size as the listing has it: a directory's is that of a page.
     pub fn size(self) -> usize {
         match self {
-            Self::File { size, .. } => size,
-            Self::Directory => 256,
+            Self::File { size, .. } | Self::Directory { size } => size,
         }
     }
 
     /// Whether it is a directory.
     pub fn is_directory(self) -> bool {
-        self == Self::Directory
+        matches!(self, Self::Directory { .. })
     }
 
     /// Whether it is a locked file.
@@ -77,6 +79,10 @@ pub struct Entry {
 }
 
 impl Entry {
+    pub(crate) fn new(name: [u8; 16], kind: Kind, date: Date) -> Self {
+        Self { name, kind, date }
+    }
+
     /// Its name, of 1 to 16 printable bytes.
     pub fn name(&self) -> &[u8] {
         let end = self.name.iter().position(|&byte| byte == 0).unwrap_or(16);
@@ -107,7 +113,7 @@ pub fn find(image: &[u8], path: impl AsRef<[u8]>) -> Answer<Found> {
 pub fn list(image: &[u8], path: impl AsRef<[u8]>, entry: u64) -> Answer<Option<Entry>> {
     let (mut out, mut name, mut date) = ([0; 4], [0; 16], [0; 8]);
     granted(sys::list(image, path.as_ref(), entry, &mut out, &mut name, &mut date))?;
-    let found = Entry { name, kind: Kind::of(out[1], out[2], out[3]), date: Date::from_bytes(date) };
+    let found = Entry::new(name, Kind::of(out[1], out[2], out[3]), Date::from_bytes(date));
     Ok((out[0] == 1).then_some(found))
 }
 

@@ -1,4 +1,5 @@
-//! ZealFS version 1 over an image in memory: the proved calls of libzealfs, safe to call from Rust. No `std`, no allocation, no state.
+//! ZealFS over an image in memory: the proved calls of libzealfs, safe to call from Rust. No `std`, no allocation, no state. The calls here are those
+//! of version 1; those of version 2, for larger cartridges, are in [`v2`].
 //!
 //! An image is a slice of bytes; each call judges it first and ends with an answer, whatever the bytes. A refused call leaves image and buffer as
 //! they were. What is promised of the calls says docs/PROMISES.md; this crate adds types and no decision of its own.
@@ -20,6 +21,7 @@ mod listing;
 mod owners;
 mod refusal;
 mod sys;
+mod version;
 mod words;
 
 #[cfg(feature = "links")]
@@ -28,6 +30,7 @@ pub mod links;
 pub mod store;
 #[cfg(feature = "tidy")]
 pub mod tidy;
+pub mod v2;
 
 pub use calls::{
     entries, find, format, list, lock, make_directory, make_file, read, remove_directory, remove_file, repair, unlock, verdict, write,
@@ -37,4 +40,5 @@ pub use date::{Date, NotADate};
 pub use listing::{listing, listing_part, Listing, Window};
 pub use owners::{audit, Owner, Owners};
 pub use refusal::{advice, text, Answer, Refusal};
+pub use version::{version, Version};
 pub use words::{Words, WORDS};

@@ -8,9 +8,9 @@ pub type Answer<T> = Result<T, Refusal>;
 
 /// Why a call was refused, with the place where the paper gives one. Image and buffer then hold what they held before.
 ///
-/// A `directory` is the page of the directory that holds the entry, 0 for the root; an `entry` counts from 0 in it; a `byte` is that of the path
-/// at which the name begins; a `row` of a link list counts from 0, and a broken one is `at` the byte of the file where it begins, or in writing
-/// at that row.
+/// A `directory` is the page of the directory on which the entry stands, 0 for the root's first; an `entry` counts from 0 on it, and 255 stands in
+/// version 2 for the root itself; a `byte` is that of the path at which the name begins; a `row` of a link list counts from 0, and a broken one is
+/// `at` the byte of the file where it begins, or in writing at that row.
 ///
 /// ```
 /// let image = [0; 100];
@@ -52,6 +52,7 @@ pub enum Refusal {
     #[cfg(feature = "links")]
     ListTooShort,
     Locked,
+    WrongShape,
     #[cfg(feature = "tidy")]
     BadProposal,
     #[cfg(feature = "tidy")]
@@ -102,6 +103,7 @@ impl Refusal {
             #[cfg(feature = "links")]
             24 => Self::ListTooShort,
             25 => Self::Locked,
+            26 => Self::WrongShape,
             #[cfg(feature = "tidy")]
             27 => Self::BadProposal,
             #[cfg(feature = "tidy")]
@@ -143,6 +145,7 @@ impl Refusal {
             #[cfg(feature = "links")]
             Self::ListTooShort => 24,
             Self::Locked => 25,
+            Self::WrongShape => 26,
             #[cfg(feature = "tidy")]
             Self::BadProposal => 27,
             #[cfg(feature = "tidy")]
@@ -153,9 +156,9 @@ impl Refusal {
         }
     }
 
-    /// Whether the image is at fault (1 to 3 and 16 to 20), and not what was asked of it.
+    /// Whether the image is at fault (1 to 3, 16 to 20 and 26), and not what was asked of it.
     pub fn is_of_the_image(self) -> bool {
-        matches!(self.number(), 1..=3 | 16..=20)
+        matches!(self.number(), 1..=3 | 16..=20 | 26)
     }
 
     /// What is wrong, in words.

@@ -11,6 +11,7 @@ pub mod links;
 pub mod store;
 #[cfg(feature = "tidy")]
 pub mod tidy;
+pub mod v2;
 
 mod c {
     extern "C" {

@@ -8,20 +8,20 @@ pub const WORDS: &[Words] = &[
     (
         1,
         "WrongLength",
-        "the image is not as long as any cartridge: 2,048 to 65,536 bytes, a multiple of 2,048",
+        "the image is not as long as any cartridge: a multiple of 2,048 bytes, from 2,048 to 65,536, in version 2 to 1,048,576",
         "read the cartridge again, whole",
     ),
     (
         2,
         "WrongHeader",
-        "its first three bytes are not those of ZealFS version 1 of this length",
+        "its first bytes are not those of ZealFS, of this version and this length",
         "read the cartridge again, whole; if it stays so it is not formatted, or another system's: do not write to it",
     ),
     (
         3,
         "WrongCount",
-        "the header's own mark or its count of free pages is wrong; all files and directories are in order",
-        "nothing is lost, but no call reads the image until it is mended: repair it (zealfs repair), and it is as good as before",
+        "the header's own mark (in version 2 also that of the table of links) or its count of free pages is wrong; all files and directories are in order",
+        "nothing is lost, but no call reads the image until it is mended: repair it (zealfs repair), and it is as good as before; version 2 has no repair: make the cartridge anew from a backup",
     ),
     (
         4,
@@ -56,7 +56,7 @@ pub const WORDS: &[Words] = &[
     (
         9,
         "DirectoryFull",
-        "the directory has no empty entry: the root has 6, any other 8",
+        "the directory has no empty entry: in version 1 the root has 6, any other 8",
         "remove something from it, or take another directory",
     ),
     (
@@ -98,7 +98,7 @@ pub const WORDS: &[Words] = &[
     (
         17,
         "BadChain",
-        "damaged: a file or directory leads out of the cartridge or into its header, or a file has fewer or more pages than its size wants",
+        "damaged: a file or directory leads out of the cartridge, into its header or into its table of links, or a file has fewer or more pages than its size wants",
         "keep a copy of the image; then format the cartridge and make its directories and files anew from a backup; what it holds cannot be trusted",
     ),
     (
@@ -111,7 +111,7 @@ pub const WORDS: &[Words] = &[
         19,
         "LostPage",
         "a page is marked as taken and nobody owns it, as when a cartridge is pulled too early; all files and directories are in order",
-        "nothing is lost, but no call reads the image until it is mended: repair it (zealfs repair), and it is as good as before; the repair wins the page back",
+        "nothing is lost, but no call reads the image until it is mended: repair it (zealfs repair), and it is as good as before; version 2 has no repair: make the cartridge anew from a backup; a repair wins the page back",
     ),
     (
         20,
@@ -148,6 +148,12 @@ pub const WORDS: &[Words] = &[
         "Locked",
         "the file is locked: it is neither written nor removed",
         "leave it as it is; if it is to be altered after all, let whoever answers for it unlock it first",
+    ),
+    (
+        26,
+        "WrongShape",
+        "the page size does not go with the cartridge's length: pages of 256 bytes go up to 65,536, of 512 up to 262,144, of 1,024 up to 1,048,576, a multiple of 8 of them; or the header gives a wrong length of its bitmap",
+        "read the cartridge again, whole; if it stays so, keep a copy of the image and make the cartridge anew from a backup; in formatting, choose another page size or length",
     ),
     (
         27,

@@ -72,6 +72,7 @@ fn names_are_those_of_the_source() {
         zealfs::links::check(&listed, "/").unwrap_err(),
         zealfs::links::read(&listed, "/", &mut [0; 5]).unwrap_err(),
         zealfs::remove_file(&mut other, "/2").unwrap_err(),
+        zealfs::v2::format(&mut [0; 2048], zealfs::v2::PageSize::Bytes512).unwrap_err(),
     ];
     assert_eq!(other, image, "a refused call changes nothing");
     for refusal in met {
@@ -82,7 +83,7 @@ fn names_are_those_of_the_source() {
         assert_eq!(format!("{refusal}"), format!("refused {}: {}", told.0, told.2));
     }
     let numbers: Vec<u8> = met.iter().map(|refusal| refusal.number()).collect();
-    assert_eq!(numbers, [1, 2, 3, 4, 5, 6, 7, 8, 9, 10, 11, 12, 13, 14, 16, 17, 18, 19, 20, 21, 22, 23, 24, 25]);
+    assert_eq!(numbers, [1, 2, 3, 4, 5, 6, 7, 8, 9, 10, 11, 12, 13, 14, 16, 17, 18, 19, 20, 21, 22, 23, 24, 25, 26]);
     assert_eq!(damaged(64 + 17, 0), Refusal::BadChain { directory: 0, entry: 0, passed: 0 });
     assert_eq!(zealfs::links::check(&listed, "/"), Err(Refusal::RowWithoutFile { row: 1 }));
     // the place of a row has 56 bits

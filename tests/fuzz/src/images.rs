@@ -15,6 +15,7 @@
 //! allowed.
 
 use crate::input::Input;
+use crate::looks::{change, chosen, look_at, look_into};
 use crate::pool;
 use zealfs_tests::calls::Call;
 use zealfs_tests::damage::{mend_bitmap, Survey};
@@ -32,9 +33,6 @@ pub const WHOLE: u8 = 240;
 
 /// Edits that an input may ask for.
 const EDITS: usize = 40;
-
-/// Paths that the calls on a sound image go to.
-const PATHS: usize = 4;
 
 pub fn decode(bytes: &[u8]) -> Scenario {
     let mut input = Input::new(bytes);
@@ -169,20 +167,19 @@ fn calls_on_unsound(image: &[u8], turn: usize) -> Vec<Call> {
 
 /// Looks at the root and some entries from number `turn` on, then changes them.
 fn calls_on_sound(tree: &Tree, turn: usize) -> Vec<Call> {
-    let entries = tree.paths();
-    let chosen = (0..entries.len().min(PATHS)).map(|step| {
-        let (path, entry) = &entries[(turn + step) % entries.len()];
-        (path.as_slice(), &entry.node)
-    });
-    let chosen: Vec<(&[u8], &Node)> = chosen.collect();
+    let chosen = chosen(tree, turn);
     let mut calls = vec![Call::Verdict, Call::Repair, Call::Find(b"/".to_vec())];
-    look_into(&mut calls, b"/");
+    look_into(&mut calls, b"/", DIRECTORY_ENTRIES);
     for (path, node) in &chosen {
-        look_at(&mut calls, path, node);
+        look_at(&mut calls, path, node, CONTENT);
+        if let Node::Directory(_) = node {
+            links(&mut calls, path);
+        }
     }
     links(&mut calls, b"/");
     for (path, node) in &chosen {
-        change(&mut calls, path, node);
+        stores(&mut calls, path);
+        change(&mut calls, path, node, CONTENT);
     }
     calls.extend([
         Call::MakeFile(b"/0042".to_vec(), DATE.to_vec()),
@@ -193,27 +190,19 @@ fn calls_on_sound(tree: &Tree, turn: usize) -> Vec<Call> {
     calls
 }
 
-/// Lists every entry and one past the last.
-fn look_into(calls: &mut Vec<Call>, path: &[u8]) {
-    let numbers = 0..=DIRECTORY_ENTRIES as u64;
-    calls.extend(numbers.map(|number| Call::List(path.to_vec(), number)));
-}
-
-fn look_at(calls: &mut Vec<Call>, path: &[u8], node: &Node) {
-    calls.push(Call::Find(path.to_vec()));
-    match node {
-        Node::Directory(_) => {
-            look_into(calls, path);
-            links(calls, path);
-        }
-        Node::File(file) => {
-            let size = file.content.len();
-            let last_page = size / CONTENT * CONTENT;
-            for (position, room) in [(0, size + 1), (last_page, 2), (size, 1), (size + 1, 1)] {
-                let buffer = vec![0x55; room];
-                calls.push(Call::Read(path.to_vec(), position as u64, buffer));
-            }
-        }
+/// Asks for the stores of a new file below the path, and for two more.
+fn stores(calls: &mut Vec<Call>, path: &[u8]) {
+    let below = [path, b"/new".as_slice()].concat();
+    for number in 0..5 {
+        let content = pattern(CONTENT + 1);
+        let page = vec![0x55; PAGE];
+        calls.push(Call::Store(
+            below.clone(),
+            DATE.to_vec(),
+            content,
+            number,
+            page,
+        ));
     }
 }
 
@@ -235,47 +224,4 @@ fn links(calls: &mut Vec<Call>, path: &[u8]) {
     calls.push(Call::LinksWrite(path.to_vec(), date, broken));
     // So that the directory can be emptied.
     calls.push(Call::RemoveFile(path_in(path)));
-}
-
-/// Makes something below it, writes to it, also while it is locked, and removes
-/// it; before a directory what was made in it. What does not suit is refused.
-fn change(calls: &mut Vec<Call>, path: &[u8], node: &Node) {
-    let below = [path, b"/new".as_slice()].concat();
-    for number in 0..5 {
-        let content = pattern(CONTENT + 1);
-        let page = vec![0x55; PAGE];
-        calls.push(Call::Store(below.clone(), DATE.to_vec(), content, number, page));
-    }
-    calls.push(Call::MakeFile(below.clone(), DATE.to_vec()));
-    calls.push(Call::MakeDirectory(below.clone(), DATE.to_vec()));
-    match node {
-        Node::File(file) => {
-            let size = file.content.len() as u64;
-            calls.push(Call::Write(path.to_vec(), size + 1, Vec::new()));
-            calls.push(Call::Write(path.to_vec(), size, pattern(CONTENT)));
-            calls.push(Call::Unlock(path.to_vec()));
-            calls.push(Call::Write(path.to_vec(), 0, pattern(1)));
-            calls.push(Call::Lock(path.to_vec()));
-            calls.push(Call::Lock(path.to_vec()));
-            calls.push(Call::Write(path.to_vec(), 0, pattern(1)));
-            calls.push(Call::Find(path.to_vec()));
-            calls.push(Call::RemoveFile(path.to_vec()));
-            calls.push(Call::Unlock(path.to_vec()));
-        }
-        Node::Directory(_) => {
-            calls.push(Call::Write(path.to_vec(), 0, pattern(1)));
-            calls.push(Call::Lock(path.to_vec()));
-            calls.push(Call::Lock(below.clone()));
-            calls.push(Call::RemoveDirectory(path.to_vec()));
-            calls.push(Call::RemoveFile(below.clone()));
-            calls.push(Call::Unlock(below.clone()));
-            calls.push(Call::RemoveFile(below));
-        }
-    }
-    let (file, directory) = (path.to_vec(), path.to_vec());
-    // The one that does not suit comes first.
-    calls.extend(match node {
-        Node::File(_) => [Call::RemoveDirectory(directory), Call::RemoveFile(file)],
-        Node::Directory(_) => [Call::RemoveFile(file), Call::RemoveDirectory(directory)],
-    });
 }

@@ -1,4 +1,4 @@
-//! Two targets for libFuzzer. Each decodes an input into an image and a list of
+//! Two targets for libFuzzer for each version. Each decodes an input into an image and a list of
 //! calls, performs the list on the plain implementation, on the one on bytes
 //! and on the C library, and panics where they part.
 //!
@@ -9,17 +9,21 @@
 //! * [`images`]: the input is an image, or edits to a sound one; the calls are
 //!   always those that look at everything and then change some of it.
 //! * [`lists`]: the input is a list of calls on a sound image.
+//! * [`v2`] has both for version 2.
 
+pub mod arguments;
 pub mod images;
 pub mod input;
 pub mod lists;
+pub mod looks;
 pub mod pool;
 pub mod seeds;
+pub mod v2;
 
 use zealfs_tests::c::Library;
 use zealfs_tests::calls::Calls;
 use zealfs_tests::direct::Direct;
-use zealfs_tests::harness::{compare, Scenario};
+use zealfs_tests::harness::{compare, Difference, Scenario};
 use zealfs_tests::plain::Plain;
 use zealfs_tests::shrink::report;
 
@@ -29,20 +33,26 @@ pub fn check(scenario: &Scenario) {
     let subjects: [(&str, &dyn Calls); 2] = [("direct", &Direct), ("library", &Library)];
     for (name, calls) in subjects {
         if let Some(difference) = compare(scenario, &Plain, calls, &mut |_, _| {}) {
-            // Told before the list is made shorter, which takes a while.
-            let (step, what) = (difference.step, difference.what);
-            eprintln!("{name} differs from plain after call {step}:\n{what}");
-            let text = report("the input", scenario, &Plain, calls);
-            panic!("{name} differs from plain:\n{text}");
+            differ(name, difference, || {
+                report("the input", scenario, &Plain, calls)
+            });
         }
     }
 }
 
+/// Tells a difference, and again with the shortest list that is found.
+fn differ(name: &str, difference: Difference, report: impl FnOnce() -> String) -> ! {
+    // Told before the list is made shorter, which takes a while.
+    let Difference { step, what } = difference;
+    eprintln!("{name} differs from plain after call {step}:\n{what}");
+    panic!("{name} differs from plain:\n{}", report());
+}
+
 /// The two functions that libFuzzer's main calls; `$decode` makes the image and
-/// the calls of an input.
+/// the calls of an input, `$check` compares, `$images` are the starting images.
 #[macro_export]
 macro_rules! target {
-    ($decode:path) => {
+    ($decode:path, $check:path, $images:path) => {
         /// Prepares the starting images, so that making them is not taken for
         /// what the first input covers.
         #[no_mangle]
@@ -50,7 +60,7 @@ macro_rules! target {
             _count: *mut i32,
             _arguments: *mut *mut *mut i8,
         ) -> i32 {
-            $crate::pool::images();
+            $images();
             0
         }
 
@@ -65,7 +75,7 @@ macro_rules! target {
                 0 => &[],
                 _ => std::slice::from_raw_parts(data, size),
             };
-            $crate::check(&$decode(input));
+            $check(&$decode(input));
             0
         }
     };

@@ -3,7 +3,7 @@
 
 use std::sync::OnceLock;
 use zealfs_tests::assemble::{assemble, nest, Order};
-use zealfs_tests::calls::Calls;
+use zealfs_tests::calls::{Base, Calls};
 use zealfs_tests::desk::{Desk, DATE};
 use zealfs_tests::generate::random_tree;
 use zealfs_tests::plain::{Plain, PAGE};

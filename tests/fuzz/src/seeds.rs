@@ -1,19 +1,23 @@
 //! The inputs to begin with.
 
+use crate::arguments::NAMES;
 use crate::images::WHOLE;
-use crate::lists::NAMES;
 use crate::pool;
 
 /// The longest image that is a seed as a whole.
 const LONGEST: usize = 4096;
 
-/// Every starting image: as it is with no edits, with an edit of each kind,
-/// and, if it is short, byte by byte.
 pub fn of_images() -> Vec<Vec<u8>> {
+    of_pool(pool::images(), &[1, 17, 3], 8)
+}
+
+/// Every starting image: as it is with no edits, with an edit of each kind with
+/// these arguments, and, if it is short, byte by byte.
+pub fn of_pool(images: &[Vec<u8>], arguments: &[u8], kinds: u8) -> Vec<Vec<u8>> {
     let mut seeds = Vec::new();
-    for (number, image) in (0..).zip(pool::images()) {
+    for (number, image) in (0..).zip(images) {
         seeds.push(vec![number, 0]);
-        seeds.extend((0..8).map(|kind| vec![number, 1, kind, 1, 17, 3]));
+        seeds.extend((0..kinds).map(|kind| [&[number, 1, kind], arguments].concat()));
         if image.len() <= LONGEST {
             seeds.push([&[WHOLE, 0], image.as_slice()].concat());
             seeds.push([&[WHOLE, 1], image.as_slice()].concat());

@@ -7,7 +7,7 @@ use crate::calls::{Audit, Kind, OWNERS};
 use std::slice::{from_raw_parts as lent, from_raw_parts_mut as lent_mut};
 
 /// A refusal as C has it.
-fn code(refusal: Refusal) -> u64 {
+pub(crate) fn code(refusal: Refusal) -> u64 {
     let [a, b, c] = refusal.place;
     let place = match refusal.number {
         21..=23 => a,
@@ -16,12 +16,12 @@ fn code(refusal: Refusal) -> u64 {
     u64::from(refusal.number) | place << 8
 }
 
-fn done(result: Result<(), Refusal>) -> u64 {
+pub(crate) fn done(result: Result<(), Refusal>) -> u64 {
     result.map_or_else(code, |()| 0)
 }
 
 /// Sets the out array to what the call tells, and to zeros beside a refusal.
-fn told<const LENGTH: usize>(
+pub(crate) fn told<const LENGTH: usize>(
     result: Result<[u64; LENGTH], Refusal>,
     out: &mut [u64; LENGTH],
 ) -> u64 {
@@ -50,97 +50,110 @@ macro_rules! functions {
     };
 }
 
+pub(crate) use functions;
+
+/// The functions of both versions, over those of the module above the one that has
+/// them.
+macro_rules! base_functions {
+    () => {
+        functions! {
+            verdict(image: *const u8, image_len: usize, out: *mut u64) {
+                told(super::verdict(lent(image, image_len)), &mut *out.cast())
+            }
+
+            find(
+                image: *const u8, image_len: usize, path: *const u8, path_len: usize,
+                out: *mut u64, date: *mut u8
+            ) {
+                let found = super::find(lent(image, image_len), lent(path, path_len));
+                *date.cast() = found.map_or([0_u8; 8], |Told { date, .. }| date);
+                let values = |Told { kind, size, locked, .. }| [Kind::value(kind), size, locked.into()];
+                told(found.map(values), &mut *out.cast())
+            }
+
+            list(
+                image: *const u8, image_len: usize, path: *const u8, path_len: usize, entry: u64,
+                out: *mut u64, name: *mut u8, date: *mut u8
+            ) {
+                let listed = super::list(lent(image, image_len), lent(path, path_len), entry);
+                match listed {
+                    Ok(Some((listed_name, Told { kind, size, locked, date: listed_date }))) => {
+                        *name.cast() = listed_name;
+                        *date.cast() = listed_date;
+                        *out.cast() = [1, kind.value(), size, u64::from(locked)];
+                        0
+                    }
+                    none => {
+                        *name.cast() = [0_u8; 16];
+                        *date.cast() = [0_u8; 8];
+                        *out.cast() = [0_u64; 4];
+                        none.err().map_or(0, code)
+                    }
+                }
+            }
+
+            read(
+                image: *const u8, image_len: usize, path: *const u8, path_len: usize, position: u64,
+                buffer: *mut u8, buffer_len: usize, out: *mut u64
+            ) {
+                let buffer = lent_mut(buffer, buffer_len);
+                let count = super::read(lent(image, image_len), lent(path, path_len), position, buffer);
+                told(count.map(|count| [count]), &mut *out.cast())
+            }
+
+            make_file(
+                image: *mut u8, image_len: usize, path: *const u8, path_len: usize,
+                date: *const u8, date_len: usize
+            ) {
+                let image = lent_mut(image, image_len);
+                done(super::make(image, lent(path, path_len), lent(date, date_len), Kind::File))
+            }
+
+            make_directory(
+                image: *mut u8, image_len: usize, path: *const u8, path_len: usize,
+                date: *const u8, date_len: usize
+            ) {
+                let image = lent_mut(image, image_len);
+                done(super::make(image, lent(path, path_len), lent(date, date_len), Kind::Directory))
+            }
+
+            write(
+                image: *mut u8, image_len: usize, path: *const u8, path_len: usize, position: u64,
+                bytes: *const u8, bytes_len: usize
+            ) {
+                let image = lent_mut(image, image_len);
+                done(super::write(image, lent(path, path_len), position, lent(bytes, bytes_len)))
+            }
+
+            remove_file(image: *mut u8, image_len: usize, path: *const u8, path_len: usize) {
+                done(super::remove_file(lent_mut(image, image_len), lent(path, path_len)))
+            }
+
+            remove_directory(image: *mut u8, image_len: usize, path: *const u8, path_len: usize) {
+                done(super::remove_directory(lent_mut(image, image_len), lent(path, path_len)))
+            }
+
+            lock(image: *mut u8, image_len: usize, path: *const u8, path_len: usize) {
+                done(super::set_lock(lent_mut(image, image_len), lent(path, path_len), true))
+            }
+
+            unlock(image: *mut u8, image_len: usize, path: *const u8, path_len: usize) {
+                done(super::set_lock(lent_mut(image, image_len), lent(path, path_len), false))
+            }
+        }
+    };
+}
+
+pub(crate) use base_functions;
+
+base_functions!();
+
 functions! {
-    zealfs_format(image: *mut u8, image_len: usize) {
+    format(image: *mut u8, image_len: usize) {
         done(super::format(lent_mut(image, image_len)))
     }
 
-    zealfs_verdict(image: *const u8, image_len: usize, out: *mut u64) {
-        let sound = super::judge(lent(image, image_len));
-        told(sound.map(|sound| [sound.pages as u64, sound.free as u64]), &mut *out.cast())
-    }
-
-    zealfs_find(
-        image: *const u8, image_len: usize, path: *const u8, path_len: usize,
-        out: *mut u64, date: *mut u8
-    ) {
-        let found = super::find(lent(image, image_len), lent(path, path_len));
-        *date.cast() = found.map_or([0_u8; 8], |Told { date, .. }| date);
-        let values = |Told { kind, size, locked, .. }| [Kind::value(kind), size, locked.into()];
-        told(found.map(values), &mut *out.cast())
-    }
-
-    zealfs_list(
-        image: *const u8, image_len: usize, path: *const u8, path_len: usize, entry: u64,
-        out: *mut u64, name: *mut u8, date: *mut u8
-    ) {
-        let listed = super::list(lent(image, image_len), lent(path, path_len), entry);
-        match listed {
-            Ok(Some((listed_name, Told { kind, size, locked, date: listed_date }))) => {
-                *name.cast() = listed_name;
-                *date.cast() = listed_date;
-                *out.cast() = [1, kind.value(), size, u64::from(locked)];
-                0
-            }
-            none => {
-                *name.cast() = [0_u8; 16];
-                *date.cast() = [0_u8; 8];
-                *out.cast() = [0_u64; 4];
-                none.err().map_or(0, code)
-            }
-        }
-    }
-
-    zealfs_read(
-        image: *const u8, image_len: usize, path: *const u8, path_len: usize, position: u64,
-        buffer: *mut u8, buffer_len: usize, out: *mut u64
-    ) {
-        let buffer = lent_mut(buffer, buffer_len);
-        let count = super::read(lent(image, image_len), lent(path, path_len), position, buffer);
-        told(count.map(|count| [count]), &mut *out.cast())
-    }
-
-    zealfs_make_file(
-        image: *mut u8, image_len: usize, path: *const u8, path_len: usize,
-        date: *const u8, date_len: usize
-    ) {
-        let image = lent_mut(image, image_len);
-        done(super::make(image, lent(path, path_len), lent(date, date_len), Kind::File))
-    }
-
-    zealfs_make_directory(
-        image: *mut u8, image_len: usize, path: *const u8, path_len: usize,
-        date: *const u8, date_len: usize
-    ) {
-        let image = lent_mut(image, image_len);
-        done(super::make(image, lent(path, path_len), lent(date, date_len), Kind::Directory))
-    }
-
-    zealfs_write(
-        image: *mut u8, image_len: usize, path: *const u8, path_len: usize, position: u64,
-        bytes: *const u8, bytes_len: usize
-    ) {
-        let image = lent_mut(image, image_len);
-        done(super::write(image, lent(path, path_len), position, lent(bytes, bytes_len)))
-    }
-
-    zealfs_remove_file(image: *mut u8, image_len: usize, path: *const u8, path_len: usize) {
-        done(super::remove_file(lent_mut(image, image_len), lent(path, path_len)))
-    }
-
-    zealfs_remove_directory(image: *mut u8, image_len: usize, path: *const u8, path_len: usize) {
-        done(super::remove_directory(lent_mut(image, image_len), lent(path, path_len)))
-    }
-
-    zealfs_lock(image: *mut u8, image_len: usize, path: *const u8, path_len: usize) {
-        done(super::set_lock(lent_mut(image, image_len), lent(path, path_len), true))
-    }
-
-    zealfs_unlock(image: *mut u8, image_len: usize, path: *const u8, path_len: usize) {
-        done(super::set_lock(lent_mut(image, image_len), lent(path, path_len), false))
-    }
-
-    zealfs_store(
+    store(
         image: *const u8, image_len: usize, path: *const u8, path_len: usize,
         date: *const u8, date_len: usize, bytes: *const u8, bytes_len: usize, number: u64,
         page: *mut u8, page_len: usize, out: *mut u64
@@ -151,21 +164,21 @@ functions! {
         told(stored.map(|page| [page]), &mut *out.cast())
     }
 
-    zealfs_repair(image: *mut u8, image_len: usize) {
+    repair(image: *mut u8, image_len: usize) {
         done(super::repair(lent_mut(image, image_len)))
     }
 
-    zealfs_audit(image: *const u8, image_len: usize, owners: *mut u64) {
+    audit(image: *const u8, image_len: usize, owners: *mut u64) {
         let Audit { sound, owners: found } = super::audit(lent(image, image_len));
         *owners.cast::<[u64; OWNERS]>() = found;
         sound
     }
 
-    zealfs_propose(image: *const u8, image_len: usize, places: *mut u8, places_len: usize) {
+    propose(image: *const u8, image_len: usize, places: *mut u8, places_len: usize) {
         done(tidy::propose(lent(image, image_len), lent_mut(places, places_len)))
     }
 
-    zealfs_tidy(
+    tidy(
         image: *const u8, image_len: usize, places: *const u8, places_len: usize,
         target: *mut u8, target_len: usize
     ) {
@@ -173,7 +186,7 @@ functions! {
         done(tidy::tidy(lent(image, image_len), lent(places, places_len), target))
     }
 
-    zealfs_links_read(
+    links_read(
         image: *const u8, image_len: usize, directory: *const u8, directory_len: usize,
         numbers: *mut u64, numbers_len: usize, out: *mut u64
     ) {
@@ -182,7 +195,7 @@ functions! {
         told(rows.map(|rows| [rows]), &mut *out.cast())
     }
 
-    zealfs_links_write(
+    links_write(
         image: *mut u8, image_len: usize, directory: *const u8, directory_len: usize,
         date: *const u8, date_len: usize, numbers: *const u64, numbers_len: usize
     ) {
@@ -191,7 +204,7 @@ functions! {
         done(links::write(lent_mut(image, image_len), directory, date, numbers))
     }
 
-    zealfs_links_find(
+    links_find(
         image: *const u8, image_len: usize, directory: *const u8, directory_len: usize,
         count: u64, value: u64, out: *mut u64
     ) {
@@ -201,7 +214,7 @@ functions! {
         told(figure.map(values), &mut *out.cast())
     }
 
-    zealfs_links_check(
+    links_check(
         image: *const u8, image_len: usize, directory: *const u8, directory_len: usize
     ) {
         done(links::check(lent(image, image_len), lent(directory, directory_len)))

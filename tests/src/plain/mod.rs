@@ -7,7 +7,7 @@ pub mod reader;
 pub mod tree;
 pub mod writer;
 
-use crate::calls::{Answer, Audit, Call, Calls, Kind, Refusal};
+use crate::calls::{Answer, Audit, Base, Call, Calls, Kind, Refusal};
 use tree::{Shape, Tree};
 
 /// Bytes of a page.
@@ -96,22 +96,17 @@ impl Plain {
             writer::remove(image, &path);
         }
         writer::make(image, &path, date, Kind::File);
-        writer::write(image, &path, 0, &links::file_of(&links::rows_to_write(numbers)?));
+        writer::write(
+            image,
+            &path,
+            0,
+            &links::file_of(&links::rows_to_write(numbers)?),
+        );
         Ok(Answer::granted())
     }
 }
 
-impl Calls for Plain {
-    fn format(&self, image: &mut [u8]) -> Answer {
-        match pages_of_image(image.len()) {
-            Ok(pages) => {
-                writer::format(image, pages);
-                Answer::granted()
-            }
-            Err(refusal) => Answer::refused(refusal),
-        }
-    }
-
+impl Base for Plain {
     fn verdict(&self, image: &[u8]) -> Answer {
         reader::judge(image).map(|tree| tree.verdict()).into()
     }
@@ -162,6 +157,18 @@ impl Calls for Plain {
 
     fn unlock(&self, image: &mut [u8], path: &[u8]) -> Answer {
         Plain::set_lock(image, path, false).into()
+    }
+}
+
+impl Calls for Plain {
+    fn format(&self, image: &mut [u8]) -> Answer {
+        match pages_of_image(image.len()) {
+            Ok(pages) => {
+                writer::format(image, pages);
+                Answer::granted()
+            }
+            Err(refusal) => Answer::refused(refusal),
+        }
     }
 
     fn store(

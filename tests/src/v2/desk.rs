@@ -1,14 +1,10 @@
-//! An implementation and the image it works on, with short forms of the calls
-//! for tests that state what each answers.
+//! A desk of version 2: what it has of its own.
 
-use super::calls::Calls;
+use super::calls::{Calls, ROW};
 use crate::calls::{Answer, Call as Shared};
-use crate::desk::{pattern, DATE};
+use crate::desk::{DeskOf, DATE};
 
-pub struct Desk<'a> {
-    pub calls: &'a dyn Calls,
-    pub image: Vec<u8>,
-}
+pub type Desk<'a> = DeskOf<'a, dyn Calls + 'a>;
 
 impl<'a> Desk<'a> {
     /// A freshly formatted image over old bytes.
@@ -18,81 +14,22 @@ impl<'a> Desk<'a> {
         Desk { calls, image }
     }
 
-    /// Makes a file; answers the number, 0 when granted.
-    pub fn make_file(&mut self, path: &str) -> u8 {
-        let path = path.as_bytes();
-        self.calls.make_file(&mut self.image, path, &DATE).number
-    }
-
-    pub fn make_directory(&mut self, path: &str) -> u8 {
-        let path = path.as_bytes();
-        let answer = self.calls.make_directory(&mut self.image, path, &DATE);
-        answer.number
-    }
-
-    /// Makes what all tests begin with; panics unless it is granted.
-    pub fn make_all(&mut self, directories: &[&str], files: &[&str]) {
-        for path in directories {
-            assert_eq!(self.make_directory(path), 0, "{path}");
-        }
-        for path in files {
-            assert_eq!(self.make_file(path), 0, "{path}");
-        }
-    }
-
-    /// Writes `length` bytes of a pattern.
-    pub fn write(&mut self, path: &str, position: u64, length: usize) -> u8 {
-        let bytes = pattern(length);
-        let path = path.as_bytes();
-        let answer = self.calls.write(&mut self.image, path, position, &bytes);
-        answer.number
-    }
-
-    pub fn remove_file(&mut self, path: &str) -> u8 {
-        let path = path.as_bytes();
-        self.calls.remove_file(&mut self.image, path).number
-    }
-
-    pub fn remove_directory(&mut self, path: &str) -> u8 {
-        let path = path.as_bytes();
-        self.calls.remove_directory(&mut self.image, path).number
-    }
-
-    pub fn lock(&mut self, path: &str) -> u8 {
-        self.calls.lock(&mut self.image, path.as_bytes()).number
-    }
-
-    pub fn unlock(&mut self, path: &str) -> u8 {
-        self.calls.unlock(&mut self.image, path.as_bytes()).number
-    }
-
-    pub fn find(&self, path: &str) -> Answer {
-        self.calls.find(&self.image, path.as_bytes())
-    }
-
-    pub fn list(&self, path: &str, entry: u64) -> Answer {
-        self.calls.list(&self.image, path.as_bytes(), entry)
-    }
-
-    pub fn verdict(&self) -> Answer {
-        self.calls.verdict(&self.image)
-    }
-
-    /// The whole content of a file.
-    pub fn content(&self, path: &str) -> Vec<u8> {
-        let size = self.find(path).values[1] as usize;
-        let mut buffer = vec![0; size];
-        let path = path.as_bytes();
-        let answer = self.calls.read(&self.image, path, 0, &mut buffer);
-        assert_eq!(answer, Answer::count(size as u64));
-        buffer
-    }
-
     /// The free number of a sound image.
     pub fn free(&self) -> u64 {
         let verdict = self.verdict();
         assert!(verdict.is_granted(), "{verdict}");
         verdict.values[1]
+    }
+
+    /// The rows of at most `most` entries from `first` on, and the answer.
+    pub fn entries(&self, path: &str, first: u64, most: usize) -> (Answer, Vec<[u8; ROW]>) {
+        let mut rows = vec![0x55; most * ROW];
+        let path = path.as_bytes();
+        let answer = self.calls.entries(&self.image, path, first, &mut rows);
+        let told = answer.values[0] as usize;
+        let rows = rows.chunks_exact(ROW).take(told);
+        let rows = rows.map(|row| row.try_into().expect("a row"));
+        (answer, rows.collect())
     }
 }
 

@@ -1,11 +1,13 @@
 //! Version 2's calls on the image bytes directly: judge, walk, do. No tree and
 //! no allocation; this is what the benchmark measures the library by.
 
-use super::calls::Calls;
-use crate::calls::{Answer, Kind, Refusal, DATE_BYTES, NAME_BYTES};
+pub mod behind;
+
+use super::calls::{Calls, ROW};
+use crate::calls::{Answer, Base, Kind, Refusal, DATE_BYTES, NAME_BYTES};
 use crate::direct::{
-    check_date, done, is_locked, is_padded_name, kind_of, pad, refuse, Padded, Path, Told,
-    DIRECTORY, ENTRY, LOCKED, OCCUPIED,
+    base_of_direct, check_date, done, is_locked, is_padded_name, kind_of, pad, refuse, Padded,
+    Path, Told, DIRECTORY, ENTRY, LOCKED, OCCUPIED,
 };
 use std::ops::Range;
 
@@ -170,6 +172,11 @@ fn judge(image: &[u8]) -> Result<Sound, Refusal> {
     let frame = judge_header(image)?;
     let free = judge_pages(image, frame)?;
     Ok(Sound { frame, free })
+}
+
+/// The pages, and how many are free.
+fn verdict(image: &[u8]) -> Result<[u64; 2], Refusal> {
+    judge(image).map(|sound| [sound.frame.pages as u64, sound.free as u64])
 }
 
 /// The bitmap in words, page 0 the lowest bit of the first.
@@ -544,6 +551,54 @@ fn list(image: &[u8], path: &[u8], number: u64) -> Result<Option<(Padded, Told)>
     }
 }
 
+/// How many entries were told, and how many there are.
+fn entries(image: &[u8], path: &[u8], first: u64, rows: &mut [u8]) -> Result<[u64; 2], Refusal> {
+    let Sound { frame, .. } = judge(image)?;
+    let mut page = walk(image, frame, Path::check(path)?)?;
+    let begin = page;
+    // The last page is not known before all were counted, and `first` may be
+    // past it: nothing is told till then.
+    let mut all = 0;
+    loop {
+        all += frame.entries(page).len() / ENTRY;
+        page = frame.link(image, page);
+        if page == 0 {
+            break;
+        }
+    }
+    if first > all as u64 {
+        return refuse(12);
+    }
+    let told = (all - first as usize).min(rows.len() / ROW);
+    let mut rows = rows[..told * ROW].chunks_exact_mut(ROW);
+    let mut skipped = first as usize;
+    page = begin;
+    while rows.len() > 0 {
+        let entries = image[frame.entries(page)].chunks_exact(ENTRY);
+        let count = entries.len();
+        for (entry, row) in entries.skip(skipped).zip(&mut rows) {
+            tell(entry, row);
+        }
+        skipped = skipped.saturating_sub(count);
+        page = frame.link(image, page);
+    }
+    Ok([told as u64, all as u64])
+}
+
+/// Fills the row of an entry.
+fn tell(entry: &[u8], row: &mut [u8]) {
+    row.fill(0);
+    if entry[0] & OCCUPIED == 0 {
+        return;
+    }
+    row[0] = 1;
+    row[1] = entry[0] & DIRECTORY;
+    row[2] = is_locked(entry[0]).into();
+    row[4..8].copy_from_slice(&entry[SIZE..SIZE + 4]);
+    row[8..16].copy_from_slice(&entry[DATE..DATE + DATE_BYTES]);
+    row[16..].copy_from_slice(&entry[1..=NAME_BYTES]);
+}
+
 /// How many bytes were copied.
 fn read(image: &[u8], path: &[u8], position: u64, buffer: &mut [u8]) -> Result<u64, Refusal> {
     let Sound { frame, .. } = judge(image)?;
@@ -739,65 +794,16 @@ fn set_lock(image: &mut [u8], path: &[u8], locked: bool) -> Result<(), Refusal> 
     Ok(())
 }
 
+base_of_direct!();
+
 impl Calls for Direct {
     fn format(&self, image: &mut [u8], code: u64) -> Answer {
         done(format(image, code))
     }
 
-    fn verdict(&self, image: &[u8]) -> Answer {
-        judge(image)
-            .map(|sound| Answer::verdict(sound.frame.pages as u64, sound.free as u64))
+    fn entries(&self, image: &[u8], path: &[u8], first: u64, rows: &mut [u8]) -> Answer {
+        entries(image, path, first, rows)
+            .map(|[told, all]| Answer::entries(told, all))
             .into()
-    }
-
-    fn find(&self, image: &[u8], path: &[u8]) -> Answer {
-        find(image, path)
-            .map(|told| Answer::found(told.kind, told.size, told.locked, told.date))
-            .into()
-    }
-
-    fn list(&self, image: &[u8], path: &[u8], entry: u64) -> Answer {
-        list(image, path, entry)
-            .map(|listed| match listed {
-                Some((name, told)) => {
-                    Answer::occupied(told.kind, name, told.size, told.locked, told.date)
-                }
-                None => Answer::empty_entry(),
-            })
-            .into()
-    }
-
-    fn read(&self, image: &[u8], path: &[u8], position: u64, buffer: &mut [u8]) -> Answer {
-        read(image, path, position, buffer)
-            .map(Answer::count)
-            .into()
-    }
-
-    fn make_file(&self, image: &mut [u8], path: &[u8], date: &[u8]) -> Answer {
-        done(make(image, path, date, Kind::File))
-    }
-
-    fn make_directory(&self, image: &mut [u8], path: &[u8], date: &[u8]) -> Answer {
-        done(make(image, path, date, Kind::Directory))
-    }
-
-    fn write(&self, image: &mut [u8], path: &[u8], position: u64, bytes: &[u8]) -> Answer {
-        done(write(image, path, position, bytes))
-    }
-
-    fn remove_file(&self, image: &mut [u8], path: &[u8]) -> Answer {
-        done(remove_file(image, path))
-    }
-
-    fn remove_directory(&self, image: &mut [u8], path: &[u8]) -> Answer {
-        done(remove_directory(image, path))
-    }
-
-    fn lock(&self, image: &mut [u8], path: &[u8]) -> Answer {
-        done(set_lock(image, path, true))
-    }
-
-    fn unlock(&self, image: &mut [u8], path: &[u8]) -> Answer {
-        done(set_lock(image, path, false))
     }
 }

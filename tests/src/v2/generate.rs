@@ -4,7 +4,7 @@
 //! format.
 
 use super::assemble::assemble;
-use super::calls::Call;
+use super::calls::{Call, ROW};
 use super::damage::damage;
 use super::harness::Scenario;
 use super::plain::Replay;
@@ -246,9 +246,10 @@ impl<'r> Generator<'r> {
 
     /// The next call; the tree follows it.
     pub fn next_call(&mut self) -> Call {
-        match self.shared.random.weighted(&[2, 16, 80]) {
+        match self.shared.random.weighted(&[2, 16, 9, 80]) {
             0 => self.format(),
             1 => self.make_in_full_directory(),
+            2 => self.entries(),
             _ => Call::Same(self.shared.next_call()),
         }
     }
@@ -265,6 +266,30 @@ impl<'r> Generator<'r> {
             self.shared.replay.tree = fresh.tree;
         }
         Call::Format(code)
+    }
+
+    /// Entries from the first, about the last or from anywhere on, with room for
+    /// none, some or all of them and for a part of one more.
+    fn entries(&mut self) -> Call {
+        let path = self.shared.directory_path();
+        let tree = &self.shared.replay.tree;
+        let directory = parse(&path).and_then(|names| tree.directory(&names));
+        let count = directory.map_or(8, |directory| directory.entries.len());
+        let anywhere = self.shared.entry_number();
+        let random = &mut *self.shared.random;
+        let first = match random.weighted(&[4, 3, 2]) {
+            0 => 0,
+            1 => (count + 1 - random.below(count.min(4) + 1)) as u64,
+            _ => anywhere,
+        };
+        let room = match random.below(4) {
+            0 => random.below(4),
+            1 => random.below(count + 2),
+            _ => count,
+        };
+        let rest = *random.pick(&[0, 0, 1, 31]);
+        let rows = random.bytes(room * ROW + rest);
+        Call::Entries(path, first, rows)
     }
 
     /// A new entry in a directory without an empty one, if there is any such.

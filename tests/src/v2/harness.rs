@@ -1,17 +1,24 @@
 //! Runs a list of version 2's calls on two implementations and compares all they
 //! answer and all that was lent to them; shrinks a list that shows a difference.
 
-use super::calls::{Call, Calls};
+use super::calls::{Call, Calls, ROW};
 use super::layout::{layout, CODE};
 use super::plain::reader::judge;
-use super::plain::{Replay, PLAIN};
+use super::plain::{entries, Replay, PLAIN};
 use crate::calls::{Answer, Call as Shared};
-use crate::harness::{describe_answers, describe_images, describe_lent, Difference, Guarded};
+use crate::harness::{
+    describe_answers, describe_bytes, describe_images, describe_lent, Difference, Guarded,
+    GUARD_BYTE,
+};
+use crate::plain::tree::{Entry, Node, Tree};
 use crate::shrink::{self, Trial};
 use std::fmt::Write;
 
 /// A starting image and a list of calls.
 pub type Scenario = crate::harness::Scenario<Call>;
+
+/// Rows that are looked at after a list.
+const MOST_ROWS: usize = 100;
 
 /// What a comparison tells besides a difference, for counting.
 pub type Observer<'a> = &'a mut dyn FnMut(&Call, &Answer);
@@ -29,6 +36,13 @@ fn perform_guarded(
             let answer = calls.read(image.bytes(), path, *position, guarded.bytes_mut());
             guarded.check(what);
             buffer.copy_from_slice(guarded.bytes());
+            answer
+        }
+        Call::Entries(path, first, rows) => {
+            let mut guarded = Guarded::new(rows, path.len());
+            let answer = calls.entries(image.bytes(), path, *first, guarded.bytes_mut());
+            guarded.check(what);
+            rows.copy_from_slice(guarded.bytes());
             answer
         }
         _ => call.perform(calls, image.bytes_mut()),
@@ -75,6 +89,9 @@ pub fn compare(
 fn describe_arguments(what: &mut String, wanted: &Call, got: &Call) {
     match (wanted, got) {
         (Call::Same(wanted), Call::Same(got)) => describe_lent(what, wanted, got),
+        (Call::Entries(_, _, wanted), Call::Entries(_, _, got)) if wanted != got => {
+            describe_bytes(what, "rows, each a page", ROW, wanted, got);
+        }
         _ if wanted != got => *what += "the call was changed\n",
         _ => {}
     }
@@ -114,6 +131,7 @@ fn describe_end(what: &mut String, replay: &Replay, calls: &dyn Calls, image: &[
             return;
         }
     };
+    describe_rows(what, tree, calls, image);
     let free = tree.free();
     let zero_bits = (0..tree.pages).filter(|&page| !layout.is_allocated(image, page));
     let counts = [layout.free.of(image), zero_bits.count()];
@@ -123,6 +141,25 @@ fn describe_end(what: &mut String, replay: &Replay, calls: &dyn Calls, image: &[
             what,
             "after the list: free {free}, counted {counts:?}, {verdict}"
         );
+    }
+}
+
+/// The rows of the root and of the last directory are those of the tree.
+fn describe_rows(what: &mut String, tree: &Tree, calls: &dyn Calls, image: &[u8]) {
+    let paths = tree.paths();
+    let is_directory = |entry: &Entry| matches!(entry.node, Node::Directory(_));
+    let last = paths.iter().rfind(|(_, entry)| is_directory(entry));
+    for path in [&b"/"[..]]
+        .into_iter()
+        .chain(last.map(|(path, _)| &path[..]))
+    {
+        let mut wanted = vec![GUARD_BYTE; MOST_ROWS * ROW];
+        let mut got = wanted.clone();
+        let told = calls.entries(image, path, 0, &mut got);
+        if Ok(told) != entries(tree, path, 0, &mut wanted) || wanted != got {
+            let path = shrink::text(path);
+            let _ = writeln!(what, "after the list: the rows of {path} are others");
+        }
     }
 }
 
@@ -144,6 +181,9 @@ impl Trial for Pair<'_> {
     fn simpler(&self, call: &Call) -> Vec<Call> {
         match call {
             Call::Format(code) => shrink::smaller(*code).map(Call::Format).collect(),
+            Call::Entries(path, first, rows) => shrink::simpler_transfer(path, *first, rows)
+                .map(|(path, first, rows)| Call::Entries(path, first, rows))
+                .collect(),
             Call::Same(call) => shrink::simpler(call).into_iter().map(Call::Same).collect(),
         }
     }
@@ -166,6 +206,11 @@ impl Trial for Pair<'_> {
     fn call_text(&self, call: &Call) -> String {
         match call {
             Call::Format(code) => format!("format with page code {code}"),
+            Call::Entries(path, first, rows) => {
+                let (path, length) = (shrink::text(path), rows.len());
+                let rows = shrink::hex(rows);
+                format!("entries {path} from {first} into {length}: {rows}")
+            }
             Call::Same(call) => shrink::call_text(call),
         }
     }

@@ -10,10 +10,17 @@
 //! * [`plain`] reads an image into the tree, works there, and writes by the
 //!   layout. It decides what is expected.
 //! * [`direct`] works on the bytes.
+//! * `c` (feature `library`) is the C library behind [`boundary`]; the benchmark
+//!   has `direct` behind the same.
 //! * [`assemble`], [`generate`], [`damage`] make images and lists of calls,
 //!   [`harness`] compares, [`wrong`] has broken copies to try all that.
 
 pub mod assemble;
+pub mod boundary;
+#[cfg(test)]
+mod broken;
+#[cfg(feature = "library")]
+pub mod c;
 pub mod calls;
 pub mod damage;
 pub mod desk;
@@ -23,4 +30,5 @@ pub mod harness;
 pub mod layout;
 pub mod plain;
 pub mod subjects;
+pub mod workloads;
 pub mod wrong;

@@ -1,13 +1,13 @@
 //! Copies of version 2's plain implementation with one thing broken, to see that
 //! the lists and the damaged images tell of each.
 
-use super::calls::{Call, Calls};
+use super::calls::{Call, Calls, ROW};
 use super::layout::{
     check_length, laid_out, layout, Layout, BITMAP_AT, BITMAP_BYTES, CODE, ENTRY, NAME_AT,
 };
 use super::plain::writer::Writer;
 use super::plain::{Lay, Plain, PLAIN};
-use crate::calls::{Answer, Call as Shared, Refusal, NAME_BYTES};
+use crate::calls::{Answer, Base, Call as Shared, Refusal, NAME_BYTES};
 
 /// What is broken.
 #[derive(Clone, Copy, Debug, PartialEq, Eq)]
@@ -84,6 +84,27 @@ pub enum Fault {
     ListOfFirstPage,
     /// Find tells the bytes of all pages of a directory.
     FindTellsAllPages,
+    // The rows of a directory's entries.
+    /// Only those of the directory's first page are told and counted.
+    EntriesOfFirstPage,
+    /// How many there are is told as how many were told.
+    EntriesCountTold,
+    /// To begin behind the last entry is refused.
+    EntriesEndRefused,
+    /// To begin further behind it is granted, and tells none.
+    EntriesPastEndGranted,
+    /// An empty entry is passed over.
+    EntriesWithoutEmpty,
+    /// An empty entry's row has what stands there.
+    EntriesStaleRow,
+    /// All of a size but its low byte is left out.
+    EntriesSizeInOneByte,
+    /// What is lent behind the last row is cleared.
+    EntriesRestCleared,
+    /// A row is also begun where there is no room for all of it.
+    EntriesPartOfARow,
+    /// Bit 6 of a directory is told as its lock.
+    EntriesLockedDirectory,
     // The judge.
     /// The root's pages after page 0 have no owner.
     RootPagesLost,
@@ -102,7 +123,7 @@ pub enum Fault {
 }
 
 /// All faults.
-pub const FAULTS: [Fault; 41] = [
+pub const FAULTS: [Fault; 51] = [
     Fault::LinksOneByteApart,
     Fault::TableAtByte256,
     Fault::CountInOneByte,
@@ -137,6 +158,16 @@ pub const FAULTS: [Fault; 41] = [
     Fault::FreedLinksCleared,
     Fault::ListOfFirstPage,
     Fault::FindTellsAllPages,
+    Fault::EntriesOfFirstPage,
+    Fault::EntriesCountTold,
+    Fault::EntriesEndRefused,
+    Fault::EntriesPastEndGranted,
+    Fault::EntriesWithoutEmpty,
+    Fault::EntriesStaleRow,
+    Fault::EntriesSizeInOneByte,
+    Fault::EntriesRestCleared,
+    Fault::EntriesPartOfARow,
+    Fault::EntriesLockedDirectory,
     Fault::RootPagesLost,
     Fault::RootLinksLast,
     Fault::RootAtEntry0,
@@ -346,6 +377,68 @@ impl Wrong {
             Shared::Find(path) if self.has(Fault::FindTellsAllPages) && answer.values[0] == 1 => {
                 answer.values[1] *= look.writer().pages_at(path).len() as u64;
             }
+            _ => {}
+        }
+    }
+
+    /// What is broken about the rows of a directory that is there.
+    fn spoil_entries(
+        &self,
+        image: &[u8],
+        path: &[u8],
+        first: u64,
+        rows: &mut [u8],
+        answer: &mut Answer,
+    ) {
+        let Some(mut look) = Look::at(image).filter(|_| matches!(answer.number, 0 | 12)) else {
+            return;
+        };
+        let pages = look.writer().pages_at(path);
+        let places: Vec<usize> = (pages.iter())
+            .flat_map(|&page| look.layout.entry_places(page))
+            .collect();
+        let all = places.len();
+        let told = answer.values[0] as usize;
+        match (self.0, answer.number) {
+            (Fault::EntriesPastEndGranted, 12) => *answer = Answer::entries(0, all as u64),
+            (_, 12) => {}
+            (Fault::EntriesOfFirstPage, _) => {
+                let few = look.layout.entry_places(pages[0]).count();
+                answer.values[0] = answer.values[0].min((few as u64).saturating_sub(first));
+                answer.values[1] = few as u64;
+            }
+            (Fault::EntriesCountTold, _) => answer.values[1] = answer.values[0],
+            (Fault::EntriesEndRefused, _) if first == all as u64 => {
+                *answer = Answer::refused(Refusal::number(12));
+            }
+            (Fault::EntriesWithoutEmpty, _) => {
+                let occupied: Vec<[u8; ROW]> = (rows[..told * ROW].chunks_exact(ROW))
+                    .filter(|row| row[0] == 1)
+                    .map(|row| row.try_into().expect("a row"))
+                    .collect();
+                rows[..occupied.len() * ROW].copy_from_slice(&occupied.concat());
+                answer.values[0] = occupied.len() as u64;
+            }
+            (Fault::EntriesRestCleared, _) => rows[told * ROW..].fill(0),
+            (Fault::EntriesPartOfARow, _) if first as usize + told < all => {
+                rows[told * ROW..].fill(0);
+            }
+            _ => {
+                let rows = rows.chunks_exact_mut(ROW).take(told);
+                for (row, at) in rows.zip(&places[first as usize..]) {
+                    self.spoil_row(row, &image[*at..at + ENTRY]);
+                }
+            }
+        }
+    }
+
+    fn spoil_row(&self, row: &mut [u8], entry: &[u8]) {
+        match self.0 {
+            Fault::EntriesStaleRow if row[0] == 0 => {
+                row[16..].copy_from_slice(&entry[NAME_AT..NAME_AT + NAME_BYTES]);
+            }
+            Fault::EntriesSizeInOneByte => row[5..8].fill(0),
+            Fault::EntriesLockedDirectory => row[2] |= row[1] & entry[0] >> 6 & 1,
             _ => {}
         }
     }
@@ -616,33 +709,7 @@ fn keep_stale_links(image: &mut [u8], before: &[u8]) {
     }
 }
 
-impl Calls for Wrong {
-    fn format(&self, image: &mut [u8], code: u64) -> Answer {
-        let before = image.to_vec();
-        let code = match self.0 {
-            Fault::CodeInEightBits => code % 256,
-            _ => code,
-        };
-        let answer = self.plain().format(image, code);
-        let Some(layout) = Look::at(image)
-            .map(|look| look.layout)
-            .filter(|_| answer.is_granted())
-        else {
-            return answer;
-        };
-        let table = layout.page..layout.aside * layout.page;
-        match self.0 {
-            Fault::FormatKeepsTable => image[table.clone()].copy_from_slice(&before[table]),
-            Fault::FormatMarksHeaderAlone => {
-                image[BITMAP_AT] = 1;
-                layout.free.put(image, BITMAP_BYTES.of(image) * 8 - 1);
-            }
-            Fault::FormatAll => image[table.end..].fill(0),
-            _ => {}
-        }
-        answer
-    }
-
+impl Base for Wrong {
     fn verdict(&self, image: &[u8]) -> Answer {
         self.ask(image, Shared::Verdict).0
     }
@@ -693,5 +760,40 @@ impl Calls for Wrong {
 
     fn unlock(&self, image: &mut [u8], path: &[u8]) -> Answer {
         self.change(image, Call::Same(Shared::Unlock(path.to_vec())))
+    }
+}
+
+impl Calls for Wrong {
+    fn entries(&self, image: &[u8], path: &[u8], first: u64, rows: &mut [u8]) -> Answer {
+        let mut answer = self.plain().entries(&self.seen(image), path, first, rows);
+        self.spoil_entries(image, path, first, rows, &mut answer);
+        self.spoil_judgement(image, &mut answer);
+        answer
+    }
+
+    fn format(&self, image: &mut [u8], code: u64) -> Answer {
+        let before = image.to_vec();
+        let code = match self.0 {
+            Fault::CodeInEightBits => code % 256,
+            _ => code,
+        };
+        let answer = self.plain().format(image, code);
+        let Some(layout) = Look::at(image)
+            .map(|look| look.layout)
+            .filter(|_| answer.is_granted())
+        else {
+            return answer;
+        };
+        let table = layout.page..layout.aside * layout.page;
+        match self.0 {
+            Fault::FormatKeepsTable => image[table.clone()].copy_from_slice(&before[table]),
+            Fault::FormatMarksHeaderAlone => {
+                image[BITMAP_AT] = 1;
+                layout.free.put(image, BITMAP_BYTES.of(image) * 8 - 1);
+            }
+            Fault::FormatAll => image[table.end..].fill(0),
+            _ => {}
+        }
+        answer
     }
 }

@@ -2,6 +2,7 @@
 
 use super::{Command, MANY};
 use crate::args::{named, Given};
+use crate::either::{self, is_two, only_one};
 use crate::image::{self, Held};
 use crate::output::{Object, Output};
 use crate::trouble::{file, Outcome, Trouble, DONE, MENDED, NOT_IN_ORDER};
@@ -14,7 +15,7 @@ pub const COMMANDS: &[Command] = &[
     Command {
         name: "check",
         usage: "IMAGE..",
-        help: "say of each image whether it is in order, by both judges, and its first fault",
+        help: "say of each image whether it is in order, by all its judges, and its first fault",
         options: &[],
         count: (1, MANY),
         run: |given, out| each(given, out, check),
@@ -49,11 +50,13 @@ fn each(given: &Given, out: &mut Output, run: fn(&OsStr, &mut Output) -> Outcome
 fn check(image: &OsStr, out: &mut Output) -> Outcome<u8> {
     let name = named(image);
     let bytes = file(&name, image::read(image))?;
-    let (first, second) = (zealfs::verdict(&bytes), zealfs::audit(&bytes));
-    let status = match (first, second) {
-        (Ok(space), Some(_)) => in_order(&name, space, out),
-        (Err(refusal), None) => not_in_order(&name, &bytes, refusal, out),
-        (first, _) => disagree(&name, first.is_ok(), out),
+    let first = either::verdict(&bytes);
+    // version 2 has no second judge
+    let second = if is_two(&bytes) { first.is_ok() } else { zealfs::audit(&bytes).is_some() };
+    let status = match first {
+        Ok(space) if second => in_order(&name, space, out),
+        Err(refusal) if !second => not_in_order(&name, &bytes, refusal, out),
+        first => disagree(&name, first.is_ok(), out),
     }?;
     if image != image::STANDARD {
         for left in image::leftovers(image) {
@@ -80,7 +83,7 @@ fn disagree(name: &str, is_sound: bool, out: &mut Output) -> Outcome<u8> {
 }
 
 fn fault(name: &str, bytes: &[u8], refusal: Refusal) -> (Object, String) {
-    let (place, paths) = (blame::place(refusal), blame::paths(bytes, refusal));
+    let (place, paths) = (blame::place(bytes, refusal), blame::paths(bytes, refusal));
     let mut object = Object::default().text("image", name).flag("in_order", false).number("number", refusal.number().into());
     let mut text = format!("{name}: not in order, number {}", refusal.number());
     if let Some(place) = &place {
@@ -113,6 +116,7 @@ fn nothing_to_mend(name: &str, out: &mut Output) -> Outcome<u8> {
 fn would_repair(image: &OsStr, out: &mut Output) -> Outcome<u8> {
     let name = named(image);
     let bytes = file(&name, image::read(image))?;
+    only_one(&name, &bytes, "repair")?;
     let Err(refusal) = zealfs::verdict(&bytes) else { return nothing_to_mend(&name, out) };
     if zealfs::repair(&mut bytes.clone()).is_err() {
         return not_in_order(&name, &bytes, refusal, out);
@@ -126,6 +130,7 @@ fn would_repair(image: &OsStr, out: &mut Output) -> Outcome<u8> {
 fn repair(image: &OsStr, out: &mut Output) -> Outcome<u8> {
     let name = named(image);
     let held = file(&name, Held::hold(Path::new(image)))?;
+    only_one(&name, &held.bytes, "repair")?;
     let Err(refusal) = zealfs::verdict(&held.bytes) else { return nothing_to_mend(&name, out) };
     let mut mended = held.bytes.clone();
     if zealfs::repair(&mut mended).is_err() {

@@ -4,6 +4,7 @@
 use super::change::change;
 use super::{Command, MANY};
 use crate::args::{named, Given};
+use crate::either::only_one;
 use crate::image;
 use crate::output::{Object, Output};
 use crate::trouble::{asked, file, words, Outcome, DONE, REFUSED};
@@ -59,7 +60,9 @@ fn accession(row: Row) -> String {
 
 impl Inner<'_> {
     fn bytes(&self) -> Outcome<Vec<u8>> {
-        file(&self.name, image::read(&self.image))
+        let bytes = file(&self.name, image::read(&self.image))?;
+        only_one(&self.name, &bytes, "links")?;
+        Ok(bytes)
     }
 
     fn rows(&self) -> Outcome<Vec<Row>> {
@@ -147,6 +150,7 @@ fn write(given: &Given) -> Outcome<u8> {
     let rows = read_table(&named(source), &String::from_utf8_lossy(&table))?;
     let numbers: Vec<u64> = rows.iter().flat_map(|(row, _)| row.numbers()).collect();
     change(&given.words[1], |name, bytes| {
+        only_one(name, bytes, "links")?;
         let answer = links::write(bytes, given.path(2), date, &numbers);
         let line = match answer {
             Err(Refusal::BrokenRow { at: row } | Refusal::RowNotAbove { row }) => usize::try_from(row).ok().and_then(|row| rows.get(row)),

@@ -1,7 +1,8 @@
 //! Commands that only look.
 
-use super::{looked_at, Command, MANY};
+use super::{looked_at, looked_at_one, Command, MANY};
 use crate::args::{named, Given};
+use crate::either::{self, is_two};
 use crate::image;
 use crate::output::{shown, Object, Output};
 use crate::paths::{all_below, content, rows, Paths, Row};
@@ -41,12 +42,12 @@ pub const COMMANDS: &[Command] = &[
     },
 ];
 
-/// How many entries the root has.
+/// How many entries the root of version 1 has.
 const ROOT_ENTRIES: usize = 6;
 
 fn info(given: &Given, out: &mut Output) -> Outcome<u8> {
     let (name, bytes) = looked_at(given)?;
-    let space = asked(&name, b"", zealfs::verdict(&bytes))?;
+    let space = asked(&name, b"", either::verdict(&bytes))?;
     let all = asked(&name, b"/", all_below(&bytes, b"/"))?;
     let count = |is: fn(Kind) -> bool| all.iter().filter(|row| is(row.found.kind)).count() as u64;
     let (directories, locked) = (count(Kind::is_directory), count(Kind::is_locked));
@@ -54,22 +55,31 @@ fn info(given: &Given, out: &mut Output) -> Outcome<u8> {
     let content: usize = all.iter().filter(|row| !row.found.kind.is_directory()).map(|row| row.found.kind.size()).sum();
     let root = asked(&name, b"/", rows(&bytes, b"/"))?.len();
     let (length, pages, free) = (bytes.len(), space.pages as u64, space.free as u64);
-    // a page has room for 255 bytes of a file
-    let room = free * 255;
+    let two = is_two(&bytes);
+    let (version, page) = (if two { 2 } else { 1 }, length as u64 / pages);
+    // in version 1 the first byte of a page is its link; in version 2 a directory that is full takes a page too
+    let (room, less) = if two { (free * page, ", a page less where its directory is full") } else { (free * (page - 1), "") };
+    let taken = match (two, root) {
+        (false, root) => format!("{root} of {ROOT_ENTRIES} entries"),
+        (true, 1) => "1 entry".to_owned(),
+        (true, root) => format!("{root} entries"),
+    };
     let told = || {
-        let told = Object::default().text("image", &name).number("bytes", length as u64).number("pages", pages).number("free", free);
+        let told = Object::default().text("image", &name).number("version", version).number("page_size", page);
+        let told = told.number("bytes", length as u64).number("pages", pages).number("free", free);
         let told = told.number("files", files).number("content", content as u64).number("locked", locked);
         told.number("directories", directories).number("root", root as u64).number("room", room)
     };
     let text = || {
         format!(
             "{name}\n\
+             version      {version}, pages of {page} bytes\n\
              length       {length} bytes\n\
              pages        {pages}, of which {free} free\n\
              files        {files} with {content} bytes, of which {locked} locked\n\
              directories  {directories}\n\
-             root         {root} of {ROOT_ENTRIES} entries taken\n\
-             room         {room} bytes for a new file"
+             root         {taken} taken\n\
+             room         {room} bytes for a new file{less}"
         )
     };
     out.tell(told, text)?;
@@ -78,7 +88,7 @@ fn info(given: &Given, out: &mut Output) -> Outcome<u8> {
 
 /// Neighbouring pages of one owner are one line.
 fn map(given: &Given, out: &mut Output) -> Outcome<u8> {
-    let (name, bytes) = looked_at(given)?;
+    let (name, bytes) = looked_at_one(given, "map")?;
     let space = asked(&name, b"", zealfs::verdict(&bytes))?;
     let Some(owners) = zealfs::audit(&bytes) else {
         return file(&name, Err(std::io::Error::other("the two judges disagree; run check")));
@@ -116,31 +126,37 @@ fn letter(kind: Kind) -> char {
     }
 }
 
-fn long_line(row: &Row) -> String {
+/// Sizes are as wide as the longest, and as any of version 1.
+fn long_line(row: &Row, width: usize) -> String {
     let kind = row.found.kind;
     let lock = if kind.is_locked() { "locked" } else { "-" };
     let mark = if kind.is_directory() { "/" } else { "" };
-    format!("{} {lock:6} {:>5} {} {}{mark}", letter(kind), kind.size(), row.found.date, shown(row.name()))
+    format!("{} {lock:6} {:>width$} {} {}{mark}", letter(kind), kind.size(), row.found.date, shown(row.name()))
 }
 
 fn ls(given: &Given, out: &mut Output) -> Outcome<u8> {
     let (name, bytes) = looked_at(given)?;
     let path = given.path_or_root(1);
-    let found = asked(&name, path, zealfs::find(&bytes, path))?;
+    let found = asked(&name, path, either::find(&bytes, path))?;
     let listed = if found.kind.is_directory() { asked(&name, path, rows(&bytes, path))? } else { vec![Row { path: path.to_vec(), found }] };
+    let width = listed.iter().map(|row| row.found.kind.size().to_string().len()).max().unwrap_or(0).max(5);
     for row in &listed {
         let mark = if row.found.kind.is_directory() { "/" } else { "" };
         let short = || format!("{}{mark}", shown(row.name()));
-        out.tell(|| row_object(row), || if given.has("-l") { long_line(row) } else { short() })?;
+        out.tell(|| row_object(row), || if given.has("-l") { long_line(row, width) } else { short() })?;
     }
     Ok(DONE)
 }
 
-/// Of the whole image this is the proved text, byte for byte; of a part of it the lines of that part.
+/// Of a whole image of version 1 this is the proved text, byte for byte; of one of version 2 lines of the same form, by its entries; of a part of
+/// either the lines of that part.
 fn tree(given: &Given, out: &mut Output) -> Outcome<u8> {
     let (name, bytes) = looked_at(given)?;
-    asked(&name, b"", zealfs::verdict(&bytes))?;
-    if given.words.len() == 1 && !out.json {
+    let space = asked(&name, b"", either::verdict(&bytes))?;
+    let is_text = given.words.len() == 1 && !out.json;
+    if is_text && is_two(&bytes) {
+        out.line(&format!("pages {} free {}", space.pages, space.free))?;
+    } else if is_text {
         for window in zealfs::listing(&bytes) {
             out.bytes(&window)?;
         }

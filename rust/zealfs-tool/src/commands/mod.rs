@@ -12,6 +12,7 @@ mod stores;
 mod tidy;
 
 use crate::args::{named, Given};
+use crate::either::only_one;
 use crate::image;
 use crate::output::Output;
 use crate::trouble::{file, words, Outcome};
@@ -69,5 +70,12 @@ impl Command {
 fn looked_at(given: &Given) -> Outcome<(String, Vec<u8>)> {
     let name = named(given.image());
     let bytes = file(&name, image::read(given.image()))?;
+    Ok((name, bytes))
+}
+
+/// The same for what only version 1 has.
+fn looked_at_one(given: &Given, what: &'static str) -> Outcome<(String, Vec<u8>)> {
+    let (name, bytes) = looked_at(given)?;
+    only_one(&name, &bytes, what)?;
     Ok((name, bytes))
 }

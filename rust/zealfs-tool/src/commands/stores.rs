@@ -1,6 +1,6 @@
 //! store: the page stores of a put, for the programmer of boards (paper 02 §11). The image stays as it is.
 
-use super::{looked_at, Command};
+use super::{looked_at_one, Command};
 use crate::args::{named, Given};
 use crate::image;
 use crate::output::{Object, Output};
@@ -20,7 +20,7 @@ pub const COMMANDS: &[Command] = &[Command {
 }];
 
 fn run(given: &Given, out: &mut Output) -> Outcome<u8> {
-    let (name, bytes) = looked_at(given)?;
+    let (name, bytes) = looked_at_one(given, "store")?;
     let (source, path, date) = (&given.words[1], given.path(2), given.date()?);
     let content = file(&named(source), image::read_content(source))?;
     let mut stores = Vec::new();

@@ -3,6 +3,7 @@
 use super::change::judge_again;
 use super::Command;
 use crate::args::{named, Given};
+use crate::either::only_one;
 use crate::image::{self, Held};
 use crate::output::{Object, Output};
 use crate::trouble::{asked, file, Outcome, DONE};
@@ -20,6 +21,7 @@ pub const COMMANDS: &[Command] = &[Command {
 
 /// The image with its pages in their new places, and how many have moved.
 fn tidied(name: &str, bytes: &[u8]) -> Outcome<(Vec<u8>, usize)> {
+    only_one(name, bytes, "tidy")?;
     let space = asked(name, b"", zealfs::verdict(bytes))?;
     let mut places = vec![0; space.pages];
     asked(name, b"", propose(bytes, &mut places))?;

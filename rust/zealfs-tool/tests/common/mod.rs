@@ -24,6 +24,15 @@ pub fn damaged(number: u8) -> Vec<u8> {
     image
 }
 
+/// Version 2: /0042 of 300 bytes on pages 2 and 3, /A on page 4, and the empty /A/7 on page 5; the table of links is page 1.
+pub fn example_two() -> Vec<u8> {
+    fs::read(concat!(env!("CARGO_MANIFEST_DIR"), "/../../samples/version2.img")).expect("the sample")
+}
+
+/// That example with one byte changed, by the number that it is then given.
+pub const DAMAGES_TWO: [(u8, usize, u8); 8] =
+    [(26, 6, 1), (16, 33, b'/'), (17, 49, 1), (17, 256, 1), (18, 81, 2), (19, 7, 0x7F), (20, 7, 0x1F), (3, 4, 3)];
+
 pub struct Folder(pub PathBuf);
 
 impl Drop for Folder {
@@ -46,6 +55,13 @@ impl Folder {
     pub fn with_example() -> Self {
         let folder = Self::new();
         folder.write("loan.img", &example());
+        folder
+    }
+
+    /// A folder with version 2's example as loan.img.
+    pub fn with_example_two() -> Self {
+        let folder = Self::new();
+        folder.write("loan.img", &example_two());
         folder
     }
 

@@ -3,76 +3,105 @@
 //! the directory is given each number by the library;
 //! `corpus show TARGET FILE` prints the calls of an input.
 
+use std::fmt::Debug;
 use std::path::Path;
 use std::{env, fs, io};
-use zealfs_fuzz::{images, lists, seeds};
-use zealfs_tests::c::Library;
-use zealfs_tests::calls::{CALL_NAMES, EVERY_CALL, NUMBERS};
+use zealfs_fuzz::{images, lists, seeds, v2};
+use zealfs_tests::calls::{Answer, Call, CALL_NAMES, NUMBERS};
 use zealfs_tests::harness::Scenario;
+use zealfs_tests::{c, v2 as tests_v2};
 
-/// One of the two targets, with what is known of it.
-struct Target {
-    decode: fn(&[u8]) -> Scenario,
+/// One of the targets, with what is known of it.
+struct Target<C> {
+    decode: fn(&[u8]) -> Scenario<C>,
     seeds: fn() -> Vec<Vec<u8>>,
+    /// Performs a call by the library.
+    perform: fn(&mut C, &mut [u8]) -> Answer,
+    index: fn(&C) -> usize,
+    names: &'static [&'static str],
 }
 
 fn main() -> io::Result<()> {
     let arguments: Vec<String> = env::args().skip(1).collect();
     let [what, target, path] = arguments.as_slice() else {
-        panic!("corpus seeds|tally|show images|calls PATH");
-    };
-    let target = match target.as_str() {
-        "images" => Target {
-            decode: images::decode,
-            seeds: seeds::of_images,
-        },
-        "calls" => Target {
-            decode: lists::decode,
-            seeds: seeds::of_lists,
-        },
-        _ => panic!("a target is images or calls"),
+        panic!("corpus seeds|tally|show images|calls|images2|calls2 PATH");
     };
     let path = Path::new(path);
-    match what.as_str() {
-        "seeds" => write_seeds(&target, path),
-        "tally" => tally(&target, path),
-        _ => show(&target, path),
+    match target.as_str() {
+        "images" => version_1(images::decode, seeds::of_images).run(what, path),
+        "calls" => version_1(lists::decode, seeds::of_lists).run(what, path),
+        "images2" => version_2(v2::images::decode, v2::seeds::of_images).run(what, path),
+        "calls2" => version_2(v2::lists::decode, v2::seeds::of_lists).run(what, path),
+        _ => panic!("a target is images, calls, images2 or calls2"),
     }
 }
 
-fn write_seeds(target: &Target, directory: &Path) -> io::Result<()> {
-    fs::create_dir_all(directory)?;
-    for (number, seed) in (target.seeds)().iter().enumerate() {
-        fs::write(directory.join(format!("seed-{number:03}")), seed)?;
+fn version_1(decode: fn(&[u8]) -> Scenario, seeds: fn() -> Vec<Vec<u8>>) -> Target<Call> {
+    Target {
+        decode,
+        seeds,
+        perform: |call, image| call.perform(&c::Library, image),
+        index: Call::index,
+        names: &CALL_NAMES,
     }
-    Ok(())
 }
 
-fn tally(target: &Target, directory: &Path) -> io::Result<()> {
-    let mut tally = [[0_u64; NUMBERS]; EVERY_CALL];
-    for file in fs::read_dir(directory)? {
-        let mut scenario = (target.decode)(&fs::read(file?.path())?);
-        for call in &mut scenario.calls {
-            let answer = call.perform(&Library, &mut scenario.image);
-            tally[call.index()][usize::from(answer.number)] += 1;
+fn version_2(
+    decode: fn(&[u8]) -> Scenario<tests_v2::calls::Call>,
+    seeds: fn() -> Vec<Vec<u8>>,
+) -> Target<tests_v2::calls::Call> {
+    Target {
+        decode,
+        seeds,
+        perform: |call, image| call.perform(&tests_v2::c::Library, image),
+        index: tests_v2::calls::Call::index,
+        names: &tests_v2::calls::CALL_NAMES,
+    }
+}
+
+impl<C: Debug> Target<C> {
+    fn run(&self, what: &str, path: &Path) -> io::Result<()> {
+        match what {
+            "seeds" => self.write_seeds(path),
+            "tally" => self.tally(path),
+            _ => self.show(path),
         }
     }
-    for (name, numbers) in CALL_NAMES.iter().zip(tally) {
-        let met = numbers.iter().enumerate().filter(|(_, &count)| count > 0);
-        let met: Vec<String> = met
-            .map(|(number, count)| format!("{number}: {count}"))
-            .collect();
-        println!("{name:>16}  {}", met.join(", "));
-    }
-    Ok(())
-}
 
-fn show(target: &Target, file: &Path) -> io::Result<()> {
-    let mut scenario = (target.decode)(&fs::read(file)?);
-    println!("an image of {} bytes", scenario.image.len());
-    for call in &mut scenario.calls {
-        println!("{call:02X?}");
-        println!("    {}", call.perform(&Library, &mut scenario.image));
+    fn write_seeds(&self, directory: &Path) -> io::Result<()> {
+        fs::create_dir_all(directory)?;
+        for (number, seed) in (self.seeds)().iter().enumerate() {
+            fs::write(directory.join(format!("seed-{number:03}")), seed)?;
+        }
+        Ok(())
     }
-    Ok(())
+
+    fn tally(&self, directory: &Path) -> io::Result<()> {
+        let mut tally = vec![[0_u64; NUMBERS]; self.names.len()];
+        for file in fs::read_dir(directory)? {
+            let mut scenario = (self.decode)(&fs::read(file?.path())?);
+            for call in &mut scenario.calls {
+                let answer = (self.perform)(call, &mut scenario.image);
+                tally[(self.index)(call)][usize::from(answer.number)] += 1;
+            }
+        }
+        for (name, numbers) in self.names.iter().zip(tally) {
+            let met = numbers.iter().enumerate().filter(|(_, &count)| count > 0);
+            let met: Vec<String> = met
+                .map(|(number, count)| format!("{number}: {count}"))
+                .collect();
+            println!("{name:>16}  {}", met.join(", "));
+        }
+        Ok(())
+    }
+
+    fn show(&self, file: &Path) -> io::Result<()> {
+        let mut scenario = (self.decode)(&fs::read(file)?);
+        println!("an image of {} bytes", scenario.image.len());
+        for call in &mut scenario.calls {
+            println!("{call:02X?}");
+            println!("    {}", (self.perform)(call, &mut scenario.image));
+        }
+        Ok(())
+    }
 }

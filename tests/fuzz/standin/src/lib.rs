@@ -1,9 +1,10 @@
-//! A stand-in for the C library: the functions of include/zealfs.h over the
+//! A stand-in for the C libraries: the functions of include/zealfs.h over the
 //! plain implementation, with the fault that ZEALFS_FAULT names, one of
 //! tests/src/wrong.rs or of [`rare`], or with none. It is compiled without
 //! instrumentation, as the library is.
 
 mod rare;
+mod v2;
 
 use rare::{Rarely, RARE};
 use std::sync::OnceLock;

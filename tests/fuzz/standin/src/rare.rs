@@ -1,7 +1,7 @@
 //! Faults that show only where several things come together, unlike those of
 //! tests/src/wrong.rs.
 
-use zealfs_tests::calls::{Answer, Audit, Calls, Kind, NAME_BYTES};
+use zealfs_tests::calls::{Answer, Audit, Base, Calls, Kind, NAME_BYTES};
 use zealfs_tests::damage::Survey;
 use zealfs_tests::plain::reader::judge;
 use zealfs_tests::plain::{Plain, BITMAP_AT, CONTENT, PAGE};
@@ -116,11 +116,7 @@ fn append_to_locked(
     answer
 }
 
-impl Calls for Rarely {
-    fn format(&self, image: &mut [u8]) -> Answer {
-        Plain.format(image)
-    }
-
+impl Base for Rarely {
     fn verdict(&self, image: &[u8]) -> Answer {
         Plain.verdict(&self.judged(image))
     }
@@ -186,6 +182,12 @@ impl Calls for Rarely {
 
     fn unlock(&self, image: &mut [u8], path: &[u8]) -> Answer {
         Plain.unlock(image, path)
+    }
+}
+
+impl Calls for Rarely {
+    fn format(&self, image: &mut [u8]) -> Answer {
+        Plain.format(image)
     }
 
     fn store(

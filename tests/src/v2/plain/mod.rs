@@ -4,10 +4,11 @@
 pub mod reader;
 pub mod writer;
 
-use super::calls::{Call, Calls};
+use super::calls::{Call, Calls, ROW};
 use super::layout::{check_length, layout, Layout};
-use crate::calls::{Answer, Kind, Refusal};
-use crate::plain::tree::Tree;
+use crate::calls::{Answer, Base, Kind, Refusal};
+use crate::plain::path::parse;
+use crate::plain::tree::{Entry, Shape, Tree};
 use writer::Writer;
 
 /// The layout of an image of an allowed length with a page code.
@@ -74,16 +75,7 @@ impl Plain {
     }
 }
 
-impl Calls for Plain {
-    fn format(&self, image: &mut [u8], code: u64) -> Answer {
-        let laid = check_length(image.len()).and_then(|()| (self.lay)(image.len(), code));
-        laid.map(|layout| {
-            Writer { image, layout }.format();
-            Answer::granted()
-        })
-        .into()
-    }
-
+impl Base for Plain {
     fn verdict(&self, image: &[u8]) -> Answer {
         self.ask(image, |tree| Ok(tree.verdict()))
     }
@@ -133,6 +125,56 @@ impl Calls for Plain {
     }
 }
 
+impl Calls for Plain {
+    fn entries(&self, image: &[u8], path: &[u8], first: u64, rows: &mut [u8]) -> Answer {
+        self.ask(image, |tree| entries(tree, path, first, rows))
+    }
+
+    fn format(&self, image: &mut [u8], code: u64) -> Answer {
+        let laid = check_length(image.len()).and_then(|()| (self.lay)(image.len(), code));
+        laid.map(|layout| {
+            Writer { image, layout }.format();
+            Answer::granted()
+        })
+        .into()
+    }
+}
+
+/// Tells the entries of a directory of the tree.
+pub(crate) fn entries(
+    tree: &Tree,
+    path: &[u8],
+    first: u64,
+    rows: &mut [u8],
+) -> Result<Answer, Refusal> {
+    let entries = &tree.directory(&parse(path)?)?.entries;
+    if first > entries.len() as u64 {
+        return Err(Refusal::number(12));
+    }
+    let mut told = 0;
+    for (row, entry) in rows.chunks_exact_mut(ROW).zip(&entries[first as usize..]) {
+        row.copy_from_slice(&row_of(entry.as_ref(), &tree.shape));
+        told += 1;
+    }
+    Ok(Answer::entries(told, entries.len() as u64))
+}
+
+/// What is told of an entry.
+fn row_of(entry: Option<&Entry>, shape: &Shape) -> Vec<u8> {
+    let Some(entry) = entry else {
+        return vec![0; ROW];
+    };
+    let (kind, locked) = (entry.node.kind().value(), entry.node.is_locked());
+    let size = entry.node.size(shape) as u32;
+    [
+        &[1, kind as u8, locked.into(), 0],
+        &size.to_le_bytes()[..],
+        &entry.date,
+        &entry.padded_name(),
+    ]
+    .concat()
+}
+
 /// The replay of a list of calls on the tree alone: it sees the tree of the
 /// starting image, the image's length and the calls' arguments, and no byte of
 /// any later image.
@@ -164,6 +206,7 @@ impl Replay {
                 *self = fresh;
                 Answer::granted()
             }),
+            Call::Entries(path, first, rows) => entries(&self.tree, path, *first, rows),
             Call::Same(call) => self.tree.step(call),
         };
         result.into()

@@ -1,0 +1,2 @@
+-- The answers told apart.
+pub mod Injective

@@ -1,0 +1,4 @@
+pub mod Formats
+-- A directory with room for an entry, and a make.
+pub mod Rooms
+pub mod Makes

@@ -1,0 +1,3 @@
+-- What each call answers and leaves.
+pub mod Removes
+pub mod Locks
