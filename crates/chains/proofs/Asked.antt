@@ -12,6 +12,7 @@ use Rattle.volume.proofs.Follow as Follow
 use Rattle.volume.proofs.Writing.{Writable}
 use Rattle.volume.proofs.Growing as Grow
 use Rattle.volume.proofs.Releasing as Release
+use Rattle.volume.proofs.Claiming.{LinkThenContent}
 use Rattle.model.specs.Layout.{version1, pageCount, link}
 use Rattle.model.proofs.Version1.{home, version1-lawful}
 use Rattle.chains.specs.Asked.{Inside, Returned, Growing}
@@ -46,3 +47,6 @@ growing {n} {k} {joint} {b} c = record {
   own = c .own;
   room = c .room;
 }
+
+pub link-first : LinkThenContent version1
+link-first p i l u = (omega arith, omega arith)

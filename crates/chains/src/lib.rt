@@ -1,13 +1,14 @@
 // Chains of pages in an image of version 1: the functions of `shape_chains` at the shape of version 1, with contracts in the model's words.
 // What they ask is that the pages lie in the image; how it gives what the shared functions ask stands in proofs/Asked.antt.
 ghost use mathlib.Core.Path.{_≡_};
-ghost use Prim.Native.Nat.{_≤_};
+ghost use Prim.Native.Nat.{_-_, _≤_};
 ghost use mathlib.Core.List.{foldl, flatMap};
 ghost use lib.ListN.{length, take, drop};
 ghost use Rattle.volume.specs.Bytes.{put};
 ghost use Rattle.volume.specs.Chain.{chain, beyond, spread};
 ghost use Rattle.volume.specs.Field.{byte};
 ghost use Rattle.volume.specs.Geometry as On;
+ghost use Rattle.volume.proofs.Unzeroed.{ButFor};
 ghost use Rattle.model.specs.Layout.{version1, room, link};
 ghost use Rattle.chains.specs.Asked.{Inside, Returned, Growing};
 use bitmap::VERSION1;
@@ -52,6 +53,14 @@ pub fn grow(image: &mut [u8], n: usize, joint: usize, count: usize)
     ensures { λ _. ⌜ now (image .exit) ≡ On.grown version1 n count (byte joint) (now (image .entry)) ⌝ }
 {
     shape_chains::grow(image, VERSION1, n, Cell::Byte(joint), count);
+}
+
+// The same for pages whose content is written next: the last one alone is zeroed.
+pub fn grow_unzeroed(image: &mut [u8], n: usize, joint: usize, count: usize)
+    requires { ⌜ Growing n count joint (now image) ⌝ }
+    ensures { λ _. ⌜ ButFor version1 (take (count - 1) (On.gained version1 n count (now (image .entry)))) (On.grown version1 n count (byte joint) (now (image .entry))) (now (image .exit)) ⌝ }
+{
+    shape_chains::grow_unzeroed(image, VERSION1, n, Cell::Byte(joint), count);
 }
 
 // Gives the k pages of a chain back. Their bytes stay, and so do the links.

@@ -70,7 +70,7 @@ module _ (b : Bytes) (f : Facts b) (p : Path) (at begins : ℕ) (x : EntryOf b p
       let h = held f (entry-slot b f p at begins x) 18 2 (omega arith) in
       record { inside = h .inside; bytes = λ i l u. (h .bytes i l u .0, h .bytes i l u .1, λ y. omega arith) }
 
-  module _ (from : ℕ) (v : Bytes) (space : pagesFor (max k (from + length v)) - pagesFor k ≤ zeroBits b (pageCount b)) where
+  module _ (from : ℕ) (v : Bytes) (reached : from ≤ k) (space : pagesFor (max k (from + length v)) - pagesFor k ≤ zeroBits b (pageCount b)) where
     few : max k (from + length v) < 65536
     few =
         let s : ℕ = max k (from + length v) in
@@ -80,6 +80,7 @@ module _ (b : Bytes) (f : Facts b) (p : Path) (at begins : ℕ) (x : EntryOf b p
     writing = record {
       inside = entry-inside b f p at begins x;
       is = is;
+      begins = reached;
       own = x .page;
       chained = chained;
       beside = beside;

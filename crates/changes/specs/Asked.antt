@@ -19,11 +19,12 @@ pub record Making (at flags size k : ℕ) (name date b : Bytes) : Type 0 where
   pub sized : size < 65536
   pub growing : Growing (pageCount b) k (at + 17) (put at (newEntry flags name 0 size date) b)
 
--- The file at a position can have v put at a place of its content: the page of its entry is none of the chain that starts there, whose pages are
+-- The file at a position can have v put at a place of its content or at its end: the page of its entry is none of the chain that starts there, whose pages are
 -- its own, the pages wanted are free and counted, and the new size fits its two bytes.
 pub record Writing (at start size from : ℕ) (v b : Bytes) : Type 0 where
   pub inside : at + 32 ≤ length b
   pub is : entryAt b at ≡ aFile (isLocked b at) (nameAt b at) (dateAt b at) start size
+  pub begins : from ≤ size
   pub own : ℕ
   pub chained : Chained version1 home (pageCount b) b (byte (at + 17)) own (pagesFor size)
   pub beside : Beside version1 home (pageCount b) (byte (at + 17)) own (at + 18) 2 b

@@ -165,7 +165,7 @@ pub fn write_entry(
     let held = fields::pages_for(size);
     let wanted = fields::pages_for(new_size);
     let joint = joint_of(image, entry, start, held);
-    chains::grow(image, n, joint, wanted - held);
+    chains::grow_unzeroed(image, n, joint, wanted - held);
     let sized = size_bytes(new_size);
     entry_bytes::put(image, entry + 18, &sized);
     // Growth may have put it there: nothing here leans on a file having pages before.

@@ -253,7 +253,7 @@ module _ {b : Bytes} {s : Shape} {n : ℕ} (k : Known b s n) where
             ∙ ap₂ (λ (x y : Bytes). aFile (isLocked b at) x y start size) (sym (o .names)) (sym (o .dates))
 
         -- the new size fits four bytes: its pages are those held and free ones
-        module _ (good : T (goodDirectory (suc e) v t)) (from : ℕ) (w : Bytes)
+        module _ (good : T (goodDirectory (suc e) v t)) (from : ℕ) (w : Bytes) (begins : from ≤ size)
             (space : pagesFor (pageSize (codeIn b)) (max size (from + length w)) - j ≤ On.zeroBits G b N) where
           fits : max size (from + length w) < 4294967296
           fits =
@@ -267,6 +267,7 @@ module _ {b : Bytes} {s : Shape} {n : ℕ} (k : Known b s n) where
             formed = k .formed;
             inside = entry-inside;
             is = is-read;
+            begins = begins;
             own = here .page;
             chained = at-shape (k .formed) (λ g i. Chained g H i b (startField at) (here .page) (pagesFor (g .size) size)) (chained good);
             beside = at-shape (k .formed) (λ g i. Beside g H i (startField at) (here .page) (at + 19) 4 b) beside;

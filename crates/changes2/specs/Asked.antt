@@ -44,12 +44,13 @@ pub record Making (s : Shape) (n at flags size k : ℕ) (name date b : Bytes) : 
   pub sized : size < 4294967296
   pub growing : Growing (geometryOf s) n k (startField at) (put at (newEntry flags name size date) b)
 
--- The file at a position can have v put at a place of its content: the page of its entry is none of the chain that starts there, whose pages are its
+-- The file at a position can have v put at a place of its content or at its end: the page of its entry is none of the chain that starts there, whose pages are its
 -- own, the pages wanted are free and counted, and the new size fits its four bytes.
 pub record Writing (s : Shape) (n at start size from : ℕ) (v b : Bytes) : Type 0 where
   pub formed : Formed b s n
   pub inside : at + 32 ≤ length b
   pub is : entryAt b at ≡ aFile (isLocked b at) (nameAt b at) (dateAt b at) start size
+  pub begins : from ≤ size
   pub own : ℕ
   pub chained : Chained (geometryOf s) (homeIn b) n b (startField at) own (pagesFor (s .size) size)
   pub beside : Beside (geometryOf s) (homeIn b) n (startField at) own (at + 19) 4 b

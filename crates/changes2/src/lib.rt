@@ -132,7 +132,7 @@ pub fn write_entry(
     let held = fields2::pages_for(shape, size);
     let wanted = fields2::pages_for(shape, new_size);
     let joint = last_link(image, shape, start, held);
-    shape_chains::grow(image, shape, n, joint, wanted - held);
+    shape_chains::grow_unzeroed(image, shape, n, joint, wanted - held);
     let sized = entries2::size_bytes(new_size);
     entry_bytes::put(image, entry + 19, &sized);
     // A file has a page before it is written, so its start page stays.

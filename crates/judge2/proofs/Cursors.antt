@@ -1,5 +1,5 @@
 -- The entry at which a cursor stands, by what the code read there: its cases are the view's, and the place of its faults is the cursor's.
-use mathlib.Core.Path.{_≡_, sym, ap, _∙_, subst}
+use mathlib.Core.Path.{_≡_, refl, sym, ap, _∙_, subst}
 use mathlib.Core.Logic.{_≢_}
 use Prim.Native.Nat.{ℕ, zero, suc, _+_, _*_, _-_, _^_, _≤_, _<_}
 use native.Mathlib.Omega.{arith}
@@ -13,10 +13,11 @@ use Rattle.volume.specs.Chain.{linked}
 use Rattle.volume.specs.Geometry.{Geometry}
 use Rattle.volume.proofs.Occ.{Mem}
 use Rattle.volume.proofs.Chains.{chain-length}
+use Rattle.model.specs.Entry.{vacant, aFile, aDirectory}
 use Rattle.model.specs.Effect.{isVacant}
 use Rattle.model.specs.Judge.{Judged, fault, clean, badEntry, thenJudge, judgeChain, judgePages, freshName, judgeEntry, judgeDirectory}
 use Rattle.model2.specs.Layout.{pageSize, pageCount, pagesFor, codeIn}
-use Rattle.model2.specs.Entry.{isLocked, nameAt, dateAt, entryAt}
+use Rattle.model2.specs.Entry.{occupied, isDirectory, isLocked, nameAt, dateAt, startAt, sizeAt, entryAt}
 use Rattle.model2.specs.Version2.{linkedPages, nextBy, entriesOn, view2}
 use Rattle.view_laws.specs.Marks.{unowned}
 use Rattle.view_laws.proofs.Comes.{Paged}
@@ -77,21 +78,60 @@ row-few r [] = omega arith
 row-few {size} {n} r (p ∷ ps) =
     omega (arith, length-append (entriesOn size n p) (flatMap (entriesOn size n) ps), on-length size n p, few-entries r p, row-few r ps)
 
-pub number-few : {b : Bytes} {s : Shape} {n : ℕ} (d i : ℕ) {c : Cursor} → Formed b s n → Reached b s n (view2 b .entries d) c i → i < 32768
-number-few {b} d i k t =
+pub entries-few : {b : Bytes} {s : Shape} {n : ℕ} (d : ℕ) → Formed b s n → length (view2 b .entries d) ≤ 32768
+entries-few {b} d k =
     let m = bounds (k .allowed) in
     let next = nextBy (codeIn b) (length b) b in
     let N = pageCount (codeIn b) (length b) in
     omega (
       arith,
-      reached-number t,
       row-few record { large = m .large; bound = m .bound; few = m .few } (view2 b .directoryPages d),
       chain-length next (linked next N d) d,
       linked-most next N d,
       m .few,
     )
 
--- ---- the entry
+pub number-few : {b : Bytes} {s : Shape} {n : ℕ} (d i : ℕ) {c : Cursor} → Formed b s n → Reached b s n (view2 b .entries d) c i → i < 32768
+number-few d i k t = omega (arith, reached-number t, entries-few d k)
+
+-- ---- an occupied entry: it has flags, and its name is fresh or not
+
+pub flags-of : {b : Bytes} {s : Shape} {n : ℕ} → Formed b s n → (at : ℕ) → isVacant (entryAt b at) ≡ false → 1 ≤ byteAt b at
+unfolding isVacant
+flags-of {b} k at o = elim (decLt 0 (byteAt b at)) [
+  | yes h ↦ h
+  | no h ↦
+      let e : byteAt b at ≡ 0 = omega arith in
+      absurd (false≢true (sym o ∙ ap isVacant (shelved2 (k .allowed) .empty b at e)))
+]
+
+module _ (b : Bytes) (s : Shape) (n d i : ℕ) (c : Cursor) (m : List ℕ) (k : Formed b s n) (t : Reached b s n (view2 b .entries d) c i) where
+  abbrev here : ℕ
+  here = positionAt s n c
+
+  abbrev past-entries : List ℕ
+  past-entries = earlier (view2 b .entries d) i
+
+  pub stale-entry : isVacant (entryAt b here) ≡ false → (fresh : Bool) → fresh ≡ freshName (view2 b) past-entries (nameAt b here) → not fresh ≡ true
+      → (below : ℕ → List ℕ → Judged) → fault (badEntry (c .page .0) (c .number)) ≡ judgeEntry below (view2 b) d i past-entries (entryAt b here) m
+  unfolding entryAt isVacant
+  stale-entry o fresh name f below = go (occupied b here) (isDirectory b here) o
+    where
+      go : (x y : Bool) → isVacant (if x then (if y then aDirectory (nameAt b here) (dateAt b here) (startAt b here) (sizeAt b here)
+          else aFile (isLocked b here) (nameAt b here) (dateAt b here) (startAt b here) (sizeAt b here)) else vacant) ≡ false
+          → fault (badEntry (c .page .0) (c .number)) ≡ judgeEntry below (view2 b) d i past-entries
+          (if x then (if y then aDirectory (nameAt b here) (dateAt b here) (startAt b here) (sizeAt b here)
+          else aFile (isLocked b here) (nameAt b here) (dateAt b here) (startAt b here) (sizeAt b here)) else vacant) m
+      go true true h =
+          directory-stale (view2 b) below d i past-entries m (aDirectory (nameAt b here) (dateAt b here) (startAt b here) (sizeAt b here))
+          (c .page .0) (c .number) (place-is d i k t) (nameAt b here) (dateAt b here) (startAt b here) (sizeAt b here) refl (untold name f)
+      go true false h =
+          file-stale (view2 b) below d i past-entries m (aFile (isLocked b here) (nameAt b here) (dateAt b here) (startAt b here) (sizeAt b here))
+          (c .page .0) (c .number) (place-is d i k t)
+          (isLocked b here) (nameAt b here) (dateAt b here) (startAt b here) (sizeAt b here) refl (untold name f)
+      go false y h = absurd (false≢true (sym h))
+
+-- ---- what was read of it
 
 module _ (b : Bytes) (s : Shape) (n d i : ℕ) (c : Cursor) (at : ℕ) (r : Entry) (m : List ℕ)
     (k : Formed b s n) (t : Reached b s n (view2 b .entries d) c i) (here : at ≡ positionAt s n c) (read : entryOf r (isLocked b at) (nameAt b at) (dateAt b at) ≡ entryAt b at) where
@@ -109,24 +149,6 @@ module _ (b : Bytes) (s : Shape) (n d i : ℕ) (c : Cursor) (at : ℕ) (r : Entr
   pub vacant-entry : (below : ℕ → List ℕ → Judged) → r ≡ Vacant → clean m ≡ judgeEntry below (view2 b) d i before (entryAt b spot) m
   vacant-entry below e = entry-vacant (view2 b) below d i before m (entryAt b spot) (seen e)
 
-  -- an occupied entry has flags
-  flags-of : isVacant (entryAt b spot) ≡ false → 1 ≤ byteAt b spot
-  unfolding isVacant
-  flags-of o = elim (decLt 0 (byteAt b spot)) [
-    | yes h ↦ h
-    | no h ↦
-        let e : byteAt b spot ≡ 0 = omega arith in
-        absurd (false≢true (sym o ∙ ap isVacant (shelved2 (k .allowed) .empty b spot e)))
-  ]
-
-  pub file-flags : (start : Page) (size : ℕ) → r ≡ File start size → 1 ≤ byteAt b spot
-  unfolding isVacant
-  file-flags start size e = flags-of (sym (ap isVacant (seen e)))
-
-  pub directory-flags : (start : Page) (size : ℕ) → r ≡ Directory start size → 1 ≤ byteAt b spot
-  unfolding isVacant
-  directory-flags start size e = flags-of (sym (ap isVacant (seen e)))
-
   pub sized-directory : (start : Page) (size : ℕ) (below : ℕ → List ℕ → Judged) → r ≡ Directory start size → size ≢ s .size
       → fault (badEntry (c .page .0) (c .number)) ≡ judgeEntry below (view2 b) d i before (entryAt b spot) m
   sized-directory start size below e z =
@@ -135,11 +157,6 @@ module _ (b : Bytes) (s : Shape) (n d i : ℕ) (c : Cursor) (at : ℕ) (r : Entr
 
   module _ (start : Page) (size : ℕ) (fresh : Bool) (name : fresh ≡ freshName (view2 b) before (nameAt b spot)) where
     module _ (below : ℕ → List ℕ → Judged) (file : r ≡ File start size) where
-      pub stale-file : not fresh ≡ true → fault (badEntry (c .page .0) (c .number)) ≡ judgeEntry below (view2 b) d i before (entryAt b spot) m
-      stale-file f =
-          file-stale (view2 b) below d i before m (entryAt b spot) (c .page .0) (c .number) (place-is d i k t)
-          (isLocked b spot) (nameAt b spot) (dateAt b spot) (start .0) size (seen file) (untold name f)
-
       pub fresh-file : not fresh ≡ false → (many : ℕ) → many ≡ pagesFor (s .size) size → (j : Judged)
           → j ≡ judgeChain (view2 b) (c .page .0) (c .number) many 0 (start .0) m → j ≡ judgeEntry below (view2 b) d i before (entryAt b spot) m
       fresh-file f many e j chain =
@@ -148,12 +165,6 @@ module _ (b : Bytes) (s : Shape) (n d i : ℕ) (c : Cursor) (at : ℕ) (r : Entr
           (chain ∙ ap (λ (x : ℕ). judgeChain (view2 b) (c .page .0) (c .number) x 0 (start .0) m) (e ∙ ap (λ (x : ℕ). pagesFor x size) (size-is k)))
 
     module _ (directory : r ≡ Directory start size) where
-      pub stale-directory : (below : ℕ → List ℕ → Judged) → not fresh ≡ true
-          → fault (badEntry (c .page .0) (c .number)) ≡ judgeEntry below (view2 b) d i before (entryAt b spot) m
-      stale-directory below f =
-          directory-stale (view2 b) below d i before m (entryAt b spot) (c .page .0) (c .number) (place-is d i k t)
-          (nameAt b spot) (dateAt b spot) (start .0) size (seen directory) (untold name f)
-
       -- its pages: the answer for them is q, and it leaves the marks l
       module _ (f : not fresh ≡ false) (z : size ≡ s .size) (q : Check) (l : List ℕ)
           (pages : outcome q l ≡ judgePages (view2 b) (c .page .0) (c .number) 0 (view2 b .directoryPages (start .0)) clean m) where

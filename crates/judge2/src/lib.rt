@@ -1,16 +1,17 @@
 // The judge of a version 2 image (paper 02 §2 and §12): a walk down the tree of directories that gives each page its owner, to the first fault.
 // No function changes the image. The one public function has no `requires`: it says of any bytes what they are.
 use cursor2::Cursor;
-use cursor2::Step;
 use fields::Entry;
 use fields::Page;
 use fields2::Header;
 use judge::Check;
 use judge::Fault;
+use occupied2::Met;
 use shape::Shape;
 use shape2::Cartridge;
 ghost use mathlib.Core.Path.{_≡_};
 ghost use Prim.Native.Nat.{ℕ, suc, _≤_};
+ghost use mathlib.Core.Bool.{false};
 ghost use lib.ListN.{length, replicate};
 ghost use Rattle.model.specs.Judge.{judgeEntry, judgeDirectory, judgeRoot, judgeView};
 ghost use Rattle.model2.specs.Entry.{entryAt};
@@ -19,6 +20,7 @@ ghost use Rattle.view_laws.specs.Marks.{unowned};
 ghost use Rattle.view_laws.proofs.Comes.{Inside};
 ghost use Rattle.judge.specs.Answers.{outcome};
 ghost use Rattle.cursor2.specs.Row.{positionAt};
+ghost use Rattle.occupied2.specs.Passing.{isFree};
 ghost use Rattle.known2.specs.Known.{Formed};
 ghost use Rattle.names2.specs.Reached.{earlier, Reached};
 ghost use Rattle.judge2.specs.Answers.{findingOf, concluded, judgedAs, Shaped};
@@ -34,7 +36,7 @@ pub enum Judgement {
 
 // ---- the walk: a directory judges its entries, and an entry that is a directory is judged as one in turn
 
-// Judges entry `number` of a directory, at which the cursor stands, and all below it. A directory's pages get their owner before it is judged, so fewer
+// Judges entry `number` of a directory, an occupied one at which the cursor stands, and all below it. A directory's pages get their owner before it is judged, so fewer
 // pages have none: any depth f from their number on is enough, and the walk ends. A fault is told by the cursor's own page and the number there (§12).
 fn judge_entry(
     image: &[u8],
@@ -46,7 +48,8 @@ fn judge_entry(
     number: usize,
 ) -> Check
     requires { ⌜ Formed (now image) shape pages × (length (now marks) ≡ pages) × Inside (view2 (now image)) (directory .0)
-        × Reached (now image) shape pages (view2 (now image) .entries (directory .0)) cursor number ⌝ }
+        × Reached (now image) shape pages (view2 (now image) .entries (directory .0)) cursor number
+        × (isFree (now image) (positionAt shape pages cursor) ≡ false) ⌝ }
     ensures { λ r. ⌜ ((f : ℕ) → unowned (now (marks .entry)) ≤ f →
         outcome r (now (marks .exit))
         ≡ judgeEntry (judgeDirectory f (view2 (now (image .entry)))) (view2 (now (image .entry))) (directory .0) number
@@ -55,20 +58,17 @@ fn judge_entry(
 {
     let on = cursor.page;
     let i = cursor.number;
+    if !names2::name_is_fresh(image, shape, pages, directory, cursor, number) {
+        return Check::Faulty(Fault::BadEntry(on, i));
+    }
     match fields2::entry_at(image, cursor2::position_of(image, shape, pages, cursor)) {
         Entry::Vacant => Check::Clean,
         Entry::File(start, size) => {
-            if !names2::name_is_fresh(image, shape, pages, directory, cursor, number) {
-                return Check::Faulty(Fault::BadEntry(on, i));
-            }
             let k = fields2::pages_for(shape, size);
             owning2::own_chain(image, shape, marks, on, i, k, start)
         }
         Entry::Directory(start, size) => {
             if size != shape.size {
-                return Check::Faulty(Fault::BadEntry(on, i));
-            }
-            if !names2::name_is_fresh(image, shape, pages, directory, cursor, number) {
                 return Check::Faulty(Fault::BadEntry(on, i));
             }
             let owned = owning2::own_directory(image, shape, marks, on, i, start);
@@ -80,7 +80,7 @@ fn judge_entry(
     }
 }
 
-// Judges the entries of a directory in order, on all its pages. The root is the directory on page 0.
+// Judges the entries of a directory in order, on all its pages; vacant ones are clean and are passed over. The root is the directory on page 0.
 fn judge_directory(
     image: &[u8],
     shape: Shape,
@@ -95,15 +95,22 @@ fn judge_directory(
     let mut cursor = cursor2::first_entry(image, shape, pages, directory);
     let mut number = 0;
     loop {
-        let judged = judge_entry(image, shape, pages, marks, directory, cursor, number);
+        let Met::Occupied(at, i) = occupied2::next_occupied(image, shape, pages, cursor, number)
+        else {
+            return Check::Clean;
+        };
+        let judged = judge_entry(image, shape, pages, marks, directory, at, i);
         if let Check::Faulty(fault) = judged {
             return Check::Faulty(fault);
         }
-        number += 1;
-        match cursor2::next_entry(image, shape, pages, cursor) {
-            Step::At(next) => cursor = next,
-            Step::End => return Check::Clean,
-        }
+        let page = at.page;
+        let left = at.left;
+        cursor = Cursor {
+            page,
+            number: at.number + 1,
+            left,
+        };
+        number = i + 1;
     }
 }
 

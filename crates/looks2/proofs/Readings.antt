@@ -33,8 +33,11 @@ module _ (b path : Bytes) {a : Arrival} {c : Cartridge} {p : Place} (here : a �
   pub read-directory : (at : ℕ) (room : Bytes) → (tagOf the-type p ≡ 0) ⊎ (tagOf the-type p ≡ 2) → ReadRefuses v2 b path at room (refusal 7)
   read-directory at room k = Any.read-no-file reads2 b path at room (spotOf p) (no-file p k) (ap arrivalOf (sym here) ∙ arrives .1)
 
-  pub read-room : (0 < c .shape .room) × (c .shape .room ≤ c .shape .size)
-  read-room = page-room (known-at b path here arrives)
+  pub read-room : (0 < c .shape .room) × (c .shape .room ≤ c .shape .size) × (c .shape .room ≤ 1024)
+  read-room =
+      let k = known-at b path here arrives in
+      let p = page-room k in
+      (p .0, p .1, omega (arith, p .1, known-roomy k .bound))
 
   module _ {t : Target} (is : p ≡ place.File t) where
     pub read-past : (at : ℕ) (room : Bytes) → t .size < at → ReadRefuses v2 b path at room (refusal 12)

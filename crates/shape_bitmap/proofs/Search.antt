@@ -14,7 +14,7 @@ use Rattle.volume.specs.Bytes.{Bytes, bit}
 use Rattle.volume.specs.Lists.{first, countFrom}
 use Rattle.volume.specs.Geometry.{Geometry, pageBit, isFree, zeroBits, lowestFree}
 use Rattle.shape_bitmap.specs.declared.Free.the-variants.{At, None}
-use Rattle.shape_bitmap.specs.Lowest.{Lowest}
+use Rattle.shape_bitmap.specs.Lowest.{Before, Lowest}
 use Rattle.shape_bitmap.specs.Words.{Holds, Ends}
 use Rattle.volume.proofs.Search.{lowestFrom, from-start, from-free, from-end, from-run}
 use Rattle.shape_bitmap.proofs.Words.{zeros-and-ones, holds-pages}
@@ -54,8 +54,8 @@ module _ (g : Geometry) {b : Bytes} (q : ℕ) {w : ℕ} (held : Holds b (g .map 
         ap (lowestFrom g b n) next ∙ word-run
 
 module _ (g : Geometry) (b : Bytes) (n : ℕ) where
-  pub search-first : lowestFrom g b n 0 ≡ lowestFree g n b
-  search-first = from-start g b n
+  pub before-first : Before g n 0 b
+  before-first = record { low = omega arith; same = from-start g b n }
 
   pub search-done : (q : ℕ) → lowestFrom g b n (64 * q) ≡ lowestFree g n b → n ≤ 64 * q → Lowest n (lowestFree g n b) None
   search-done q so-far h = record { number = sym (from-end g b n (64 * q) h) ∙ so-far; none = λ u. refl }

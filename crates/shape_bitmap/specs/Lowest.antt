@@ -1,6 +1,9 @@
--- What an answer says of the lowest free page.
+-- What an answer says of the lowest free page, and what is known before a search that begins at a word.
 use mathlib.Core.Path.{_≡_}
-use Prim.Native.Nat.{ℕ}
+use Prim.Native.Nat.{ℕ, _+_, _*_, _≤_}
+use Rattle.volume.specs.Bytes.{Bytes}
+use Rattle.volume.specs.Geometry.{Geometry, lowestFree}
+use Rattle.volume.proofs.Search.{lowestFrom}
 use Rattle.shape_bitmap.specs.declared.Free.{Free}
 use Rattle.shape_bitmap.specs.declared.Free.the-variants.{At, None}
 
@@ -13,3 +16,8 @@ numberOf n None = n
 pub record Lowest (n x : ℕ) (r : Free) : Type 0 where
   pub number : numberOf n r ≡ x
   pub none : x ≡ n → r ≡ None
+
+-- of n pages none below those of a word of 64 bits is free
+pub record Before (g : Geometry) (n word : ℕ) (b : Bytes) : Type 0 where
+  pub low : 64 * word ≤ n + 63
+  pub same : lowestFrom g b n (64 * word) ≡ lowestFree g n b

@@ -7,7 +7,7 @@ ghost use lib.ListN.{length};
 ghost use Rattle.volume.specs.Geometry as On;
 ghost use Rattle.volume.proofs.Growing.{WordsLie};
 ghost use Rattle.shape.specs.Geometry.{geometryOf};
-ghost use Rattle.shape_bitmap.specs.Lowest.{Lowest};
+ghost use Rattle.shape_bitmap.specs.Lowest.{Before, Lowest};
 ghost use Rattle.shape_bitmap.specs.Words.{Holds, Ends, Clear};
 use fields::Page;
 use shape::Shape;
@@ -110,11 +110,12 @@ pub fn clear_bytes(image: &[u8], shape: Shape, byte: usize) -> usize
     8
 }
 
-pub fn lowest_free(image: &[u8], shape: Shape, n: usize) -> Free
-    requires { ⌜ WordsLie (geometryOf shape) n (now image) ⌝ }
+// The lowest free page, where none is free before a word: who takes one page after the other need not look at all before them again.
+pub fn lowest_free_from(image: &[u8], shape: Shape, n: usize, word: usize) -> Free
+    requires { ⌜ WordsLie (geometryOf shape) n (now image) × Before (geometryOf shape) n word (now image) ⌝ }
     ensures { λ r. ⌜ Lowest n (On.lowestFree (geometryOf shape) n (now (image .entry))) r ⌝ }
 {
-    let mut searched = 0;
+    let mut searched = word;
     while 64 * searched < n {
         let k = lowest_zero(bits64(image, shape.map + 8 * searched));
         if k < 64 {
@@ -126,6 +127,13 @@ pub fn lowest_free(image: &[u8], shape: Shape, n: usize) -> Free
         searched += 1;
     }
     Free::None
+}
+
+pub fn lowest_free(image: &[u8], shape: Shape, n: usize) -> Free
+    requires { ⌜ WordsLie (geometryOf shape) n (now image) ⌝ }
+    ensures { λ r. ⌜ Lowest n (On.lowestFree (geometryOf shape) n (now (image .entry))) r ⌝ }
+{
+    lowest_free_from(image, shape, n, 0)
 }
 
 // The value of bit k.

@@ -12,7 +12,7 @@ use Rattle.volume.specs.Geometry as On
 use Rattle.volume.specs.Geometry.{Geometry}
 use Rattle.volume.proofs.Occ.{occ, occ-append}
 use Rattle.volume.proofs.Chains.{chain-append, beyond-suc}
-use Rattle.volume.proofs.Follow.{Inside}
+use Rattle.volume.proofs.Follow.{Inside, each-here}
 use Rattle.volume.proofs.Reading.{Reading, none-read, reading-first, reading-turn, reading-last, reading-done}
 use Rattle.volume.proofs.Writing.{Writable, Writing, none-put, writing-first, writing-turn, writing-last, writing-done}
 
@@ -88,3 +88,13 @@ module _ {g : Geometry} {b₀ v : Bytes} {k p₀ from : ℕ} where
       → b′ ≡ put (On.content g p + 0) (take (g .room - 0) (drop done v)) b
       → b′ ≡ spread (On.content g) (g .room) (chain (On.next g b₀) k p₀) from v b₀
   writing-end r h less eb = writing-done (writing-turn r h eb refl refl refl) (omega (arith, r .fits))
+
+  -- the link of a page may be followed before it is written: no link is content
+  pub writing-ahead : {i p at done : ℕ} {b : Bytes} → Writing g b₀ v k p₀ from i p at done b → i < k → {b′ : Bytes} {at′ done′ p′ : ℕ}
+      → b′ ≡ put (On.content g p + at) (take (g .room - at) (drop done v)) b
+      → done′ ≡ done + min (g .room - at) (length v - done) → at′ ≡ at - g .room → p′ ≡ On.next g b p
+      → Writing g b₀ v k p₀ from (i + 1) p′ at′ done′ b′
+  writing-ahead {i} {p} r h {b′} {at′} {done′} eb edone eat ep =
+      let w = writing-turn r h eb edone eat refl in
+      let m = each-here (On.next g b₀) k i p h (r .pages) in
+      subst (λ (q : ℕ). Writing g b₀ v k p₀ from (i + 1) q at′ done′ b′) (w .links p m ∙ sym (r .links p m) ∙ sym ep) w

@@ -6,12 +6,17 @@ ghost use mathlib.Core.List.{foldl, flatMap};
 ghost use lib.ListN.{length, take, drop};
 ghost use Rattle.volume.specs.Bytes.{put};
 ghost use Rattle.volume.specs.Chain.{chain, beyond, spread};
+ghost use Rattle.volume.specs.Field.{store};
 ghost use Rattle.volume.specs.Geometry as On;
 ghost use Rattle.volume.proofs.Follow.{PageLies, Inside};
 ghost use Rattle.volume.proofs.Writing.{Writable};
+ghost use Rattle.volume.proofs.Stores.{claimed};
 ghost use Rattle.volume.proofs.Growing.{Growing};
+ghost use Rattle.volume.proofs.Unzeroed.{ButFor};
+ghost use Rattle.volume.proofs.Claiming.{LinkThenContent};
 ghost use Rattle.volume.proofs.Releasing.{Returned};
 ghost use Rattle.shape.specs.Geometry.{fieldOf, geometryOf};
+ghost use Rattle.shape_bitmap.specs.Lowest.{Before};
 use fields::Page;
 use fields::Position;
 use shape::Cell;
@@ -41,7 +46,7 @@ fn read_page(
     done: usize,
     count: usize,
 ) -> usize
-    requires { ⌜ PageLies (geometryOf shape) (page .0) (now image) × (shape .room ≤ shape .size) × (done ≤ count) × (count ≤ length (now buffer)) ⌝ }
+    requires { ⌜ PageLies (geometryOf shape) (page .0) (now image) × (shape .room ≤ shape .size) × (done ≤ count) × (count ≤ length (now buffer)) × (shape .room ≤ 1024) ⌝ }
     ensures { λ r. ⌜ r ≡ done + min (shape .room - place) (count - done) ⌝ }
     ensures { λ _. ⌜ now (buffer .exit) ≡ put done (take (count - done) (drop place (On.contentOn (geometryOf shape) (now (image .entry)) (page .0)))) (now (buffer .entry)) ⌝ }
 {
@@ -52,7 +57,7 @@ fn read_page(
     let more = fields::least(room - place, count - done);
     let from = shape::first_byte(shape, page) + (shape.size - room) + place;
     let end = from + more;
-    shape_pages::copy_in(buffer, done, &image[from..end]);
+    shape_pages::copy_piece(buffer, done, &image[from..end]);
     done + more
 }
 
@@ -66,7 +71,7 @@ pub fn read_chain(
     buffer: &mut [u8],
     count: usize,
 )
-    requires { ⌜ (0 < shape .room) × (shape .room ≤ shape .size) × Inside (geometryOf shape) (now image) k (start .0) × (count ≤ length (now buffer)) ⌝ }
+    requires { ⌜ (0 < shape .room) × (shape .room ≤ shape .size) × Inside (geometryOf shape) (now image) k (start .0) × (count ≤ length (now buffer)) × (shape .room ≤ 1024) ⌝ }
     ensures { λ _. ⌜ now (buffer .exit) ≡ put 0 (take count (drop (position .0) (flatMap (On.contentOn (geometryOf shape) (now (image .entry))) (chain (On.next (geometryOf shape) (now (image .entry))) k (start .0))))) (now (buffer .entry)) ⌝ }
 {
     let room = shape.room;
@@ -83,8 +88,10 @@ pub fn read_chain(
             read_page(image, shape, page, 0, buffer, done, count);
             return;
         }
+        // The link first, so that the page need not be kept till its content is copied.
+        let next = shape::link(image, shape, page);
         done = read_page(image, shape, page, 0, buffer, done, count);
-        page = shape::link(image, shape, page);
+        page = next;
     }
 }
 
@@ -97,7 +104,7 @@ fn write_page(
     bytes: &[u8],
     done: usize,
 ) -> usize
-    requires { ⌜ PageLies (geometryOf shape) (page .0) (now image) × (shape .room ≤ shape .size) × (done ≤ length (now bytes)) ⌝ }
+    requires { ⌜ PageLies (geometryOf shape) (page .0) (now image) × (shape .room ≤ shape .size) × (done ≤ length (now bytes)) × (shape .room ≤ 1024) ⌝ }
     ensures { λ r. ⌜ r ≡ done + min (shape .room - place) (length (now (bytes .entry)) - done) ⌝ }
     ensures { λ _. ⌜ now (image .exit) ≡ put (On.content (geometryOf shape) (page .0) + place) (take (shape .room - place) (drop done (now (bytes .entry)))) (now (image .entry)) ⌝ }
 {
@@ -120,7 +127,7 @@ pub fn write_chain(
     position: Position,
     bytes: &[u8],
 )
-    requires { ⌜ (0 < shape .room) × Writable (geometryOf shape) (now image) k (start .0) ⌝ }
+    requires { ⌜ (0 < shape .room) × Writable (geometryOf shape) (now image) k (start .0) × (shape .room ≤ 1024) ⌝ }
     ensures { λ _. ⌜ now (image .exit) ≡ spread (On.content (geometryOf shape)) (shape .room) (chain (On.next (geometryOf shape) (now (image .entry))) k (start .0)) (position .0) (now (bytes .entry)) (now (image .entry)) ⌝ }
 {
     let room = shape.room;
@@ -137,17 +144,18 @@ pub fn write_chain(
             write_page(image, shape, page, 0, bytes, done);
             return;
         }
+        let next = shape::link(image, shape, page);
         done = write_page(image, shape, page, 0, bytes, done);
-        page = shape::link(image, shape, page);
+        page = next;
     }
 }
 
-// Takes the lowest free page of n, and puts its number at the joint.
-fn append(image: &mut [u8], shape: Shape, n: usize, joint: Cell) -> Page
-    requires { ⌜ Growing (geometryOf shape) n 1 (fieldOf joint) (now image) ⌝ }
+// Takes the lowest free page of n, and puts its number at the joint. No page before those of the word is free.
+fn append(image: &mut [u8], shape: Shape, n: usize, joint: Cell, word: usize) -> Page
+    requires { ⌜ Growing (geometryOf shape) n 1 (fieldOf joint) (now image) × Before (geometryOf shape) n word (now image) ⌝ }
     ensures { λ r. ⌜ (r .0 ≡ On.lowestFree (geometryOf shape) n (now (image .entry))) × (now (image .exit) ≡ On.grown (geometryOf shape) n 1 (fieldOf joint) (now (image .entry))) ⌝ }
 {
-    let Free::At(page) = shape_bitmap::lowest_free(image, shape, n) else {
+    let Free::At(page) = shape_bitmap::lowest_free_from(image, shape, n, word) else {
         // Never: a page is free, says the contract.
         return Page(0);
     };
@@ -156,16 +164,52 @@ fn append(image: &mut [u8], shape: Shape, n: usize, joint: Cell) -> Page
     page
 }
 
-// Adds pages to a chain. The joint of the next one is the link of the last one added.
+// Adds pages to a chain. The joint of the next one is the link of the last one added, and before that one's word no page is free any more.
 pub fn grow(image: &mut [u8], shape: Shape, n: usize, joint: Cell, count: usize)
     requires { ⌜ Growing (geometryOf shape) n count (fieldOf joint) (now image) ⌝ }
     ensures { λ _. ⌜ now (image .exit) ≡ On.grown (geometryOf shape) n count (fieldOf joint) (now (image .entry)) ⌝ }
 {
     let mut at = joint;
+    let mut word = 0;
     for _ in 0..count {
-        let page = append(image, shape, n, at);
+        let page = append(image, shape, n, at, word);
         at = shape::link_cell(shape, page);
+        word = page.0 / 64;
     }
+}
+
+// The same, but the page's bytes stay.
+fn append_claimed(image: &mut [u8], shape: Shape, n: usize, joint: Cell, word: usize) -> Page
+    requires { ⌜ Growing (geometryOf shape) n 1 (fieldOf joint) (now image) × Before (geometryOf shape) n word (now image) ⌝ }
+    ensures { λ r. ⌜ (r .0 ≡ On.lowestFree (geometryOf shape) n (now (image .entry))) × (now (image .exit) ≡ store (fieldOf joint) (r .0) (claimed (geometryOf shape) (r .0) (now (image .entry)))) ⌝ }
+{
+    let Free::At(page) = shape_bitmap::lowest_free_from(image, shape, n, word) else {
+        // Never, as above.
+        return Page(0);
+    };
+    shape_pages::claim_page(image, shape, page);
+    shape::store(image, joint, page.0);
+    page
+}
+
+// Adds pages whose content is written next, all of it but for some of the last page's: that one alone is zeroed. In the others' place the content may be
+// anything, and all else is as `grow` makes it.
+pub fn grow_unzeroed(image: &mut [u8], shape: Shape, n: usize, joint: Cell, count: usize)
+    requires { ⌜ Growing (geometryOf shape) n count (fieldOf joint) (now image) × LinkThenContent (geometryOf shape) ⌝ }
+    ensures { λ _. ⌜ ButFor (geometryOf shape) (take (count - 1) (On.gained (geometryOf shape) n count (now (image .entry))))
+        (On.grown (geometryOf shape) n count (fieldOf joint) (now (image .entry))) (now (image .exit)) ⌝ }
+{
+    if count == 0 {
+        return;
+    }
+    let mut at = joint;
+    let mut searched = 0;
+    for _ in 0..count - 1 {
+        let page = append_claimed(image, shape, n, at, searched);
+        at = shape::link_cell(shape, page);
+        searched = page.0 / 64;
+    }
+    append(image, shape, n, at, searched);
 }
 
 // Gives the k pages of a chain back. Their bytes stay, and so do the links.

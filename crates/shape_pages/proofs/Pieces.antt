@@ -1,11 +1,11 @@
--- A copy in pieces: one that goes on where the last ended makes both one, and a whole array copied over leaves none of the old bytes.
+-- A copy in pieces: one that goes on where the last ended makes both one, and an array copied to, or put to, has in front what was copied.
 use mathlib.Core.Path.{_≡_, sym, ap, _∙_}
-use Prim.Native.Nat.{ℕ, _+_, _≤_, _<_}
-use native.Mathlib.Nat.{zero-add}
+use Prim.Native.Nat.{ℕ, _+_, _-_, _≤_, _<_}
+use native.Mathlib.Nat.{zero-add, sub-zero}
 use native.Mathlib.Omega.{arith}
 use mathlib.Core.List.{_++_, append-nil}
 use lib.ListN.{length, getD, set, take, drop, drop-of-length-le}
-use lib.Seq.{paste, take-add, take-all, length-take-le}
+use lib.Seq.{paste, take-add, take-all, take-append-seam, length-take-le}
 use Rattle.volume.specs.Bytes.{Bytes, put}
 use Rattle.volume.proofs.Splice.{splice-nil, splice-splice}
 use Rattle.volume.proofs.Fills.{paste-turn, paste-all}
@@ -20,6 +20,13 @@ module _ (d s : Bytes) (n : ℕ) (r : Bytes) (e : r ≡ paste d 0 s n) where
   front-all k l =
       paste-all d 0 s n r e k
       ∙ ap (λ (w : Bytes). s ++ w) (drop-of-length-le d {i = 0 + length s} (omega arith)) ∙ append-nil s
+
+-- ---- s put to the front of an array w₀, and as many bytes of what that made put into d
+
+pub front-put : (o : ℕ) (s w₀ w d r : Bytes) → w ≡ put 0 s w₀ → r ≡ put o (take (length s - 0) (drop 0 w)) d → r ≡ put o s d
+front-put o s w₀ w d r ew er =
+    let front : take (length s - 0) w ≡ s = ap (λ (n : ℕ). take n w) (sub-zero (length s)) ∙ ap (take (length s)) ew ∙ take-append-seam s (drop (0 + length s) w₀) in
+    er ∙ ap (λ (v : Bytes). put o v d) front
 
 -- ---- the first i bytes of s put into d, and then n more
 

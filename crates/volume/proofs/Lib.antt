@@ -31,3 +31,6 @@ pub mod Writing
 pub mod Stores
 pub mod Releasing
 pub mod Growing
+pub mod Unzeroed
+pub mod Claiming
+pub mod Covering

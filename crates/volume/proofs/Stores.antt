@@ -22,11 +22,18 @@ pub present-as-long : {g : Geometry} {p : ℕ} {b b′ : Bytes} → length b′ 
 present-as-long e h =
     record { page = omega (arith, e, h .page); link = omega (arith, e, h .link); count = omega (arith, e, h .count); map = omega (arith, e, h .map) }
 
+-- page p taken as `taken` says, but its bytes stay: for one whose content is written next
+unfoldable pub claimed : (g : Geometry) (p : ℕ) → Bytes → Bytes
+claimed g p b = store (g .link p) 0 (store (g .count) (On.freeCount g b - 1) (On.mark g p b))
+
+pub taken-claimed : (g : Geometry) (p : ℕ) (b r r′ : Bytes) → r ≡ claimed g p b → r′ ≡ put (On.start g p) (zeros (g .size)) r → r′ ≡ On.taken g p b
+unfolding claimed On.taken zeros
+taken-claimed g p b r r′ e e′ = rw (e′, e)
+
 module _ (g : Geometry) (p free : ℕ) (b b₁ b₂ : Bytes) (e : free ≡ On.freeCount g b) where
-  pub taken-stored : (b₃ b₄ : Bytes) → b₁ ≡ On.mark g p b → b₂ ≡ store (g .count) (free - 1) b₁ → b₃ ≡ store (g .link p) 0 b₂
-      → b₄ ≡ put (On.start g p) (zeros (g .size)) b₃ → b₄ ≡ On.taken g p b
-  unfolding On.taken zeros
-  taken-stored b₃ b₄ e₁ e₂ e₃ e₄ = rw (e₄, e₃, e₂, e₁, e)
+  pub claimed-stored : (b₃ : Bytes) → b₁ ≡ On.mark g p b → b₂ ≡ store (g .count) (free - 1) b₁ → b₃ ≡ store (g .link p) 0 b₂ → b₃ ≡ claimed g p b
+  unfolding claimed
+  claimed-stored b₃ e₁ e₂ e₃ = rw (e₃, e₂, e₁, e)
 
   pub released-stored : b₁ ≡ On.unmark g p b → b₂ ≡ store (g .count) (free + 1) b₁ → b₂ ≡ On.released g b p
   unfolding On.released

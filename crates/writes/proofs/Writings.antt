@@ -151,7 +151,7 @@ module _ {b path : Bytes} {from : ℕ} {t : Target} (p : Passed b path from t) (
     write-nothing z = Any.write-nothing reads passed v free counted fits z
 
     pub writable : Writing (t .entry) (t .start .0) (t .size) from v b
-    writable = writing b (its .facts) (pathOf path) (t .entry) (t .begins) (its .at .0) (its .at .1) from v
+    writable = writing b (its .facts) (pathOf path) (t .entry) (t .begins) (its .at .0) (its .at .1) from v (p .inside)
         (omega (arith, ltb-false (freeCount b) (more (t .size) from (length v)) (sym counted ∙ fits), its .facts .counted))
 
     pub write-done : (length v ≡ 0 → ⊥) → {b′ : Bytes} → b′ ≡ rewritten (t .entry) from v b → (granted (tt {0}) ≡ answer (write path from v) b) × (b′ ≡ after (write path from v) b)

@@ -139,7 +139,7 @@ module _ (b path : Bytes) {a : Arrival} {c : Cartridge} {p : Place} (here : a �
               let room : more (pageSize (codeIn b)) ≤ On.freeCount (view2 b .geometry) b =
               subst (λ (g : Geometry). more (pageSize (codeIn b)) ≤ On.freeCount g b) (known .formed .made)
               (ltb-false (On.freeCount (geometryOf (c .shape)) b) (more (pageSize (codeIn b))) (sym lacking ∙ fits)) in
-              file-writing known (x .ns) (l .0) (x .page) (l .1) (t .entry) (among (known .facts) x) (its .at .1) (l .2) from v
+              file-writing known (x .ns) (l .0) (x .page) (l .1) (t .entry) (among (known .facts) x) (its .at .1) (l .2) from v inside
               (omega (arith, room, known .facts .counted))
 
           pub write-done : (length v ≡ 0 → ⊥) → {b′ : Bytes} → b′ ≡ rewritten layout2 view2 (t .entry) from v b

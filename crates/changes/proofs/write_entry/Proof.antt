@@ -1,4 +1,5 @@
--- `write_entry` goes as the model's effect goes: the chain grows at its joint, the size is set, and the bytes are spread over the chain as it is then.
+-- `write_entry` goes as the model's effect goes: the chain grows at its joint, the size is set, and the bytes are spread over the chain as it is then. Of the
+-- pages gained they cover all but the last, so that no other has to be zeroed.
 use Rattle.changes.proofs.Writes.{held-inside, no-fewer, write-growing, Resized, resize}
 use borrow.Author.Needs.{needs}
 use Rattle.changes.proofs.write_entry as fn
@@ -9,7 +10,7 @@ resized c =
     let grow = c .before .before .before .before .before .before .before .before .before .before in
     let held = grow .before .before .before .before .before in
     resize (held .before .before .before .before .before .before .pre) (held .before .before .before .page-count .ensures) (held .before .larger .ensures) (held .pages-for .ensures)
-    (grow .before .before .before .before .pages-for2 .ensures) (grow .before .before .joint-of .ensures) (grow .grow .ensures) (c .before .before .before .before .before .before .before .size-bytes .ensures) (c .before .before .before .before .put .ensures) (c .start-of .ensures .0)
+    (grow .before .before .before .before .pages-for2 .ensures) (grow .before .before .joint-of .ensures) (grow .grow-unzeroed .ensures) (c .before .before .before .before .before .before .before .size-bytes .ensures) (c .before .before .before .before .put .ensures) (c .start-of .ensures .0)
 
 pub write-entry-spec : {M : Type 1} → fn.Statement.statement M
 write-entry-spec = fn.Tie.close (fn.Tie.spec

@@ -20,6 +20,6 @@ format-image-spec = fn.Tie.close (fn.Tie.spec
     (λ c κs. let k = known c in omega arith)
     (λ c κs. known (c .before .before) .inside)
     (λ c. search needs)
-    (λ c κs. let k = known (c .before .before .before .before .before .before .before) in (omega (arith, k .first, c .before .before .before .before .zero-aside .kept .0), omega arith))
+    (λ c κs. let k = known (c .before .before .before .before .before .before .before) in (omega (arith, k .first, c .before .before .before .before .zero-aside .kept .0), omega arith, omega arith))
     (λ c. search needs)
     (λ c. format-done _ (c .before .before .before .before .before .before .before .before .before .before .before .before .before .before .shape-of .result .shape) (c .before .before .before .before .before .before .before .before .before .before .before .before .before .before .before .before .pre) (c .before .before .before .before .before .before .before .before .before .before .before .before .before .before .shape-of .ensures) refl refl (c .before .before .before .before .before .before .before .before .before .marks-below .ensures) (c .before .before .before .before .before .before .before .zero-aside .ensures) (c .before .before .fill-page .ensures)))

@@ -18,7 +18,7 @@ read-spec = fn.Tie.close (fn.Tie.spec
     (λ c κs.
     let a = c .before .before .before .before .before .before .before .before .before .before .before in
     let r = read-room _ _ (a .arrival .given .1) (a .before .before .arrive .ensures) in
-    (r .0, r .1, read-inside _ _ (a .arrival .given .1) (a .before .before .arrive .ensures) (c .before .before .before .before .before .before .before .before .place .given .1) (c .before .pages-for .ensures), omega arith))
+    (r .0, r .1, read-inside _ _ (a .arrival .given .1) (a .before .before .arrive .ensures) (c .before .before .before .before .before .before .before .before .place .given .1) (c .before .pages-for .ensures), omega arith, r .2))
     (λ c. search needs)
     (λ c.
     let a = c .before .before .before .before .before .before .before .before .before .before .before .before .before .before in (

@@ -1,20 +1,9 @@
--- `lowest_free` looks at one word a turn: the pages below its lowest zero are taken, and that one is free.
-use Rattle.fields.proofs.Plain.{needs, arith, _≡_, _+_, _*_, _-_, _≤_}
-use Rattle.volume.specs.Geometry.{lowestFree}
-use Rattle.shape.specs.Geometry.{geometryOf}
-use Rattle.volume.proofs.Search.{lowestFrom}
-use Rattle.shape_bitmap.proofs.Search.{search-first, word-free, word-past, word-taken, search-done}
+-- `lowest_free` searches from the first word on: no page is before it.
+use Rattle.fields.proofs.Plain.{needs}
+use Rattle.shape_bitmap.proofs.Search.{before-first}
 use Rattle.shape_bitmap.proofs.lowest_free.{Statement.statement, Tie.close, Tie.spec}
 
 pub lowest-free-spec : {M : Type 1} → statement M
 lowest-free-spec = close (spec
-    (λ image shape n searched₀ searched. (64 * searched ≤ n + 63) × (lowestFrom (geometryOf shape) image n (64 * searched) ≡ lowestFree (geometryOf shape) n image))
-    (λ image shape n searched₀ searched. n - 64 * searched)
-    (λ c. (omega arith, search-first _ _ _))
-    (λ c. search needs) (λ c. search needs) (λ c. search needs) (λ c. search needs) (λ c. search needs) (λ c. search needs) (λ c. omega arith)
-    (λ c. search needs) (λ c. omega arith)
-    (λ c. search word-free)
-    (λ c. search word-past)
-    (λ c. search needs) (λ c. search needs)
-    (λ c. (omega arith, search word-taken))
-    (λ c. search search-done))
+    (λ c κs. (c .before .pre, before-first _ _ _))
+    (λ c. search needs))

@@ -54,7 +54,7 @@ rem-read-page : tie.Need-rem-read-page Inv-loop μ-loop
 rem-read-page c = omega (arith, c .before .before .before .before .before .before .pre .0)
 
 read-page-requires : tie.Need-read-page-requires Inv-loop μ-loop
-read-page-requires c κs = let s = c .before .before .before .before .before .before .before in (reading-here (arrived (c .before .before)) (c .before .before .before .if1 .left) .0, s .pre .1, omega arith, s .pre .3)
+read-page-requires c κs = let s = c .before .before .before .before .before .before .before in (reading-here (arrived (c .before .before)) (c .before .before .before .if1 .left) .0, s .pre .1, omega arith, s .pre .3, s .pre .4)
 
 link-requires : tie.Need-link-requires Inv-loop μ-loop
 link-requires c κs = reading-here (arrived (c .before .before .before .before .before)) (c .before .before .before .before .before .before .if1 .left) .1
@@ -72,7 +72,7 @@ read-page-requires-2 : tie.Need-read-page-requires-2 Inv-loop μ-loop
 read-page-requires-2 c κs =
     let r = going (c .before .before .before) in
     let s = c .before .before .before .before .before .before .before .before .before .before .before .before .before .before .before in
-    (reading-here r (c .before .before .loop-test .taken) .0, s .pre .1, r .fits, omega (arith, r .size, s .pre .3))
+    (reading-here r (c .before .before .loop-test .taken) .0, s .pre .1, r .fits, omega (arith, r .size, s .pre .3), s .pre .4)
 
 same-length : tie.Need-same-length Inv-loop μ-loop
 same-length c = omega (arith, going (c .before .before .before .before .before .before) .size, c .before .before .read-page2 .kept .1 .1 .1 .1 .0)
@@ -82,20 +82,20 @@ returns-2 c =
     let s = c .before .before .before .before .before .before .before .before .before .before .before .before .before .before .before .before .before .before in
     reading-end (s .pre .1) (s .pre .3) (going (c .before .before .before .before .before .before)) (c .before .before .before .before .before .loop-test .taken) (c .before .before .before .before .if2 .taken) (c .before .before .read-page2 .kept .1 .1 .1 .1 .0) (c .before .before .read-page2 .ensures .1)
 
+link-requires-2 : tie.Need-link-requires-2 Inv-loop μ-loop
+link-requires-2 c κs = reading-here (going (c .before .before)) (c .before .loop-test .taken) .1
+
 read-page-requires-3 : tie.Need-read-page-requires-3 Inv-loop μ-loop
 read-page-requires-3 c κs =
-    let r = going (c .before .before .before) in
-    let s = c .before .before .before .before .before .before .before .before .before .before .before .before .before .before .before in
-    (reading-here r (c .before .before .loop-test .taken) .0, s .pre .1, r .fits, omega (arith, r .size, s .pre .3))
-
-link-requires-2 : tie.Need-link-requires-2 Inv-loop μ-loop
-link-requires-2 c κs = reading-here (going (c .before .before .before .before .before .before)) (c .before .before .before .before .before .loop-test .taken) .1
+    let r = going (c .before .before .before .before) in
+    let s = c .before .before .before .before .before .before .before .before .before .before .before .before .before .before .before .before in
+    (reading-here r (c .before .before .before .loop-test .taken) .0, s .pre .1, r .fits, omega (arith, r .size, s .pre .3), s .pre .4)
 
 loop-again : tie.Need-loop-again Inv-loop μ-loop
 loop-again c = λ start from d r.
     let s = c .before .before .before .before .before .before .before .before .before .before .before .before .before .before .before .before .before .before .before in
-    let read = c .before .before .before .read-page3 in
-    reading-turn (c .before .before .before .before .before .before .before .loop .inv start from d r) (c .before .before .before .before .before .before .loop-test .taken) (s .pre .1) (omega (arith, s .pre .3, begun (c .before .before .before .before .before .before .before .before) .size, r .size)) (read .kept .1 .1 .1 .1 .0) (read .ensures .1) (read .ensures .0) (omega arith) (c .link2 .ensures)
+    let read = c .before .before .read-page3 in
+    reading-turn (c .before .before .before .before .before .before .before .loop .inv start from d r) (c .before .before .before .before .before .before .loop-test .taken) (s .pre .1) (omega (arith, s .pre .3, begun (c .before .before .before .before .before .before .before .before) .size, r .size)) (read .kept .1 .1 .1 .1 .0) (read .ensures .1) (read .ensures .0) (omega arith) (c .before .before .before .before .link2 .ensures)
 
 same-length-2 : tie.Need-same-length-2 Inv-loop μ-loop
 same-length-2 c = going (c .before) .size
@@ -104,5 +104,5 @@ returns-3 : tie.Need-returns-3 Inv-loop μ-loop
 returns-3 c = reading-last (going (c .before)) (c .loop-test .left)
 
 pub read-chain-spec : {M : Type 1} → statement M
-read-chain-spec = tie.close (tie.spec Inv-loop μ-loop div-passed returns page-at-requires rem-read-page read-page-requires link-requires add-counter loop-holds sub-if2 read-page-requires-2 same-length returns-2 read-page-requires-3 link-requires-2
+read-chain-spec = tie.close (tie.spec Inv-loop μ-loop div-passed returns page-at-requires rem-read-page read-page-requires link-requires add-counter loop-holds sub-if2 read-page-requires-2 same-length returns-2 link-requires-2 read-page-requires-3
     (λ c. omega (arith, c .before .before .before .before .before .before .loop-test .taken, c .before .before .before .before .before .before .before .before .before .before .before .before .before .before .before .before .before .before .before .fits .k .fits)) (λ c. search needs) loop-again same-length-2 returns-3)

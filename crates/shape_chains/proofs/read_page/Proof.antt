@@ -16,4 +16,4 @@ read-page-spec = close (spec
     let from = c .before .before .before .before .before .before .first-byte .result + (s .args .shape .size - s .args .shape .room) + s .args .place in
     let read = some-read (geometryOf (s .args .shape)) (s .args .image .now) (s .args .buffer .now) (s .args .page .0) (s .args .place) (s .args .done) (s .args .count) in
     let there = read (s .pre .0) (s .pre .1) (omega arith) from (from + c .before .before .before .before .before .before .before .least .result) (omega arith) (omega arith) in
-    (omega arith, c .before .before .copy-in .ensures ∙ there)))
+    (omega arith, c .before .before .copy-piece .ensures ∙ there)))

@@ -5,7 +5,7 @@ use native.Mathlib.Nat.{mod-lt}
 use Rattle.volume.specs.Bytes.{Bytes}
 use Rattle.volume.proofs.Writing.{Writing, writing-here, writing-turn, writing-last}
 use Rattle.shape.specs.Geometry.{geometryOf}
-use Rattle.shape_chains.proofs.Passing.{inside-front, writing-none, writing-page, writing-end}
+use Rattle.shape_chains.proofs.Passing.{inside-front, writing-none, writing-page, writing-end, writing-ahead}
 use Rattle.shape_chains.proofs.write_chain.Statement.{statement}
 use Rattle.shape_chains.proofs.write_chain.Tie as tie
 
@@ -54,7 +54,7 @@ rem-write-page : tie.Need-rem-write-page Inv-loop μ-loop
 rem-write-page c = omega (arith, c .before .before .before .before .before .before .before .before .pre .0)
 
 write-page-requires : tie.Need-write-page-requires Inv-loop μ-loop
-write-page-requires c κs = let s = c .before .before .before .before .before .before .before .before in (writing-here (arrived (c .before .before)) (c .before .before .before .before .if1 .left) .0, s .pre .1 .room, omega arith)
+write-page-requires c κs = let s = c .before .before .before .before .before .before .before .before in (writing-here (arrived (c .before .before)) (c .before .before .before .before .if1 .left) .0, s .pre .1 .room, omega arith, s .pre .2)
 
 link-requires : tie.Need-link-requires Inv-loop μ-loop
 link-requires c κs = omega (arith, writing-here (arrived (c .before .before .before .before .before .before)) (c .before .before .before .before .before .before .before .before .if1 .left) .1, c .before .before .before .write-page .kept .0)
@@ -71,7 +71,8 @@ sub-if2 c = going (c .before) .fits
 write-page-requires-2 : tie.Need-write-page-requires-2 Inv-loop μ-loop
 write-page-requires-2 c κs =
     let r = going (c .before .before .before) in
-    (writing-here r (c .before .before .loop-test .taken) .0, r .able .room, r .fits)
+    let s = c .before .before .before .before .before .before .before .before .before .before .before .before .before .before .before .before .before in
+    (writing-here r (c .before .before .loop-test .taken) .0, r .able .room, r .fits, s .pre .2)
 
 same-length : tie.Need-same-length Inv-loop μ-loop
 same-length c = omega (arith, going (c .before .before .before .before .before .before) .size, c .before .before .write-page2 .kept .0)
@@ -79,18 +80,19 @@ same-length c = omega (arith, going (c .before .before .before .before .before .
 returns-2 : tie.Need-returns-2 Inv-loop μ-loop
 returns-2 c = writing-end (going (c .before .before .before .before .before .before)) (c .before .before .before .before .before .loop-test .taken) (c .before .before .before .before .if2 .taken) (c .before .before .write-page2 .ensures .1)
 
+link-requires-2 : tie.Need-link-requires-2 Inv-loop μ-loop
+link-requires-2 c κs = writing-here (going (c .before .before .before)) (c .before .before .loop-test .taken) .1
+
 write-page-requires-3 : tie.Need-write-page-requires-3 Inv-loop μ-loop
 write-page-requires-3 c κs =
-    let r = going (c .before .before .before) in
-    (writing-here r (c .before .before .loop-test .taken) .0, r .able .room, r .fits)
-
-link-requires-2 : tie.Need-link-requires-2 Inv-loop μ-loop
-link-requires-2 c κs = omega (arith, writing-here (going (c .before .before .before .before .before .before .before)) (c .before .before .before .before .before .before .loop-test .taken) .1, c .before .before .before .write-page3 .kept .0)
+    let r = going (c .before .before .before .before .before) in
+    let s = c .before .before .before .before .before .before .before .before .before .before .before .before .before .before .before .before .before .before .before in
+    (writing-here r (c .before .before .before .before .loop-test .taken) .0, r .able .room, r .fits, s .pre .2)
 
 loop-again : tie.Need-loop-again Inv-loop μ-loop
 loop-again c = λ b start from r.
-    let put = c .before .before .before .before .write-page3 in
-    writing-turn (c .before .before .before .before .before .before .before .before .loop .inv b start from r) (c .before .before .before .before .before .before .before .loop-test .taken) (put .ensures .1) (put .ensures .0) (omega arith) (c .link2 .ensures)
+    let put = c .before .before .write-page3 in
+    writing-ahead (c .before .before .before .before .before .before .before .before .loop .inv b start from r) (c .before .before .before .before .before .before .before .loop-test .taken) (put .ensures .1) (put .ensures .0) (omega arith) (c .before .before .before .before .link2 .ensures)
 
 same-length-2 : tie.Need-same-length-2 Inv-loop μ-loop
 same-length-2 c = going (c .before) .size
@@ -99,5 +101,5 @@ returns-3 : tie.Need-returns-3 Inv-loop μ-loop
 returns-3 c = writing-last (going (c .before)) (c .loop-test .left)
 
 pub write-chain-spec : {M : Type 1} → statement M
-write-chain-spec = tie.close (tie.spec Inv-loop μ-loop div-passed returns page-at-requires rem-write-page write-page-requires link-requires add-counter loop-holds sub-if2 write-page-requires-2 same-length returns-2 write-page-requires-3 link-requires-2
+write-chain-spec = tie.close (tie.spec Inv-loop μ-loop div-passed returns page-at-requires rem-write-page write-page-requires link-requires add-counter loop-holds sub-if2 write-page-requires-2 same-length returns-2 link-requires-2 write-page-requires-3
     (λ c. omega (arith, c .before .before .before .before .before .before .before .loop-test .taken, c .before .before .before .before .before .before .before .before .before .before .before .before .before .before .before .before .before .before .before .before .before .before .fits .k .fits)) (λ c. search needs) loop-again same-length-2 returns-3)

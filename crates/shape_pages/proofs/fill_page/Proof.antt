@@ -10,4 +10,4 @@ fill-page-spec = close (spec
     let s = c .before .before .before .before .before .before .before .before in
     let first = c .before .before .before .before .before .first-byte in
     lent-filled (first .result) (first .result + s .args .shape .size) _ (s .args .shape .size) (s .args .image .now) _ (first .ensures) refl
-    (omega (arith, s .pre .0, first .ensures)) (s .args .offset) (s .args .source .now) (s .pre .1) (c .before .before .copy-in .ensures)))
+    (omega (arith, s .pre .0, first .ensures)) (s .args .offset) (s .args .source .now) (s .pre .1) (c .before .before .copy-piece .ensures)))
