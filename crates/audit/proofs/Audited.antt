@@ -24,7 +24,9 @@ use Rattle.laws.proofs.Facts.{valid-sized, Facts, sound-facts, facts-sound}
 use Rattle.laws.proofs.Counting.{count-owned}
 use Rattle.laws.proofs.Lists.{page-owned}
 use Rattle.audit.specs.Owner.{nobody, header, firstOwner, ownerOf, ownerRow, ownerNumber, ownerNumbers}
-use Rattle.audit.specs.Visit.{Visited, stops, goes, visit, nobodies, isMarked, concluded, firstRow, audit}
+use Rattle.claims.specs.Claim.{Visited, stops, goes}
+use Rattle.audit.specs.Visit.{visit, concluded, firstRow, audit}
+use Rattle.agreement.specs.Marked.{nobodies, isMarked}
 use Rattle.audit.proofs.Owners.{owner-is, keep-mem, getD-countFrom, length-countFrom}
 use Rattle.audit.proofs.Visits.{used, Ownable, used-after}
 use Rattle.audit.proofs.Visiting.{AtYes, IsYes, Yes, visit-yes, visit-done}

@@ -3,9 +3,7 @@ pub mod Visits
 pub mod Visiting
 pub mod Audited
 pub mod Promise
-pub mod Legal
-pub mod Claims
+pub mod Spends
 pub mod Stands
-pub mod Names
 pub mod Marks
 pub mod Table

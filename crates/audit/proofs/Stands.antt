@@ -15,10 +15,12 @@ use Rattle.model.specs.Entry.{entries}
 use Rattle.model.specs.Version1.{view}
 use Rattle.model.specs.Sound.{pagesAt, namesApart}
 use Rattle.laws.proofs.Entries.{entry-within}
-use Rattle.audit.specs.Visit.{Visited, stops, goes, thenVisit, claimEntries, directoriesAt, visit}
+use Rattle.claims.specs.Claim.{Visited, stops, goes, thenVisit, claimEntries, directoriesAt}
+use Rattle.audit.specs.Visit.{visit, free}
 use Rattle.audit.proofs.Visiting.{few, children-low}
-use Rattle.audit.specs.Lent.{Row, free}
-use Rattle.audit.proofs.Claims.{Spends, entries-spend}
+use Rattle.claims.specs.Lent.{Row, entered}
+use Rattle.claims.proofs.Claims.{never}
+use Rattle.audit.proofs.Spends.{Spends, entries-spend}
 
 pub record Stands (b : Bytes) (row₀ list row : List ℕ) (found done : ℕ) : Type 0 where
   pub big : 256 ≤ length list
@@ -28,6 +30,15 @@ pub record Stands (b : Bytes) (row₀ list row : List ℕ) (found done : ℕ) : 
   pub long : length row ≡ pageCount b
   pub within : (x : ℕ) → Mem x (drop done (take found list)) → x < pageCount b
   pub comes : visit (pageCount b) b (0 ∷ []) row₀ ≡ visit (pageCount b - done) b (drop done (take found list)) row
+
+-- entries that went on have names apart, and have claimed their pages
+pub entered-both : (b : Bytes) (ats row : List ℕ) {row′ : List ℕ} → goes row′ ≡ entered b ats row → (namesApart (view b) ats ≡ true) × (goes row′ ≡ claimEntries b ats row)
+unfolding entered
+entered-both b ats row {row′} c = go (namesApart (view b) ats) c
+  where
+    go : (a : Bool) → goes row′ ≡ (if a then claimEntries b ats row else stops) → (a ≡ true) × (goes row′ ≡ claimEntries b ats row)
+    go true q = (refl, q)
+    go false q = never q
 
 nothing : (b : Bytes) (n : ℕ) (row : List ℕ) → visit n b [] row ≡ goes row
 unfolding visit
@@ -88,6 +99,15 @@ module _ (b : Bytes) (row₀ : List ℕ) where
     pub stands-unclaimed : done < found → namesApart (view b) (entries (getD list done 0)) ≡ true → stops ≡ claimEntries b (entries (getD list done 0)) row → stops ≡ visit (pageCount b) b (0 ∷ []) row₀
     unfolding thenVisit
     stands-unclaimed l e c = sym (named l e ∙ ap (λ (v : Visited). thenVisit v (visit (pageCount b - (done + 1)) b (drop (suc done) (take found list) ++ directoriesAt b (entries (getD list done 0))))) (sym c))
+
+    -- the two at once
+    pub stands-unentered : done < found → stops ≡ entered b (entries (getD list done 0)) row → stops ≡ visit (pageCount b) b (0 ∷ []) row₀
+    unfolding entered
+    stands-unentered l c = go (namesApart (view b) (entries (getD list done 0))) refl c
+      where
+        go : (a : Bool) → namesApart (view b) (entries (getD list done 0)) ≡ a → stops ≡ (if a then claimEntries b (entries (getD list done 0)) row else stops) → stops ≡ visit (pageCount b) b (0 ∷ []) row₀
+        go true e q = stands-unclaimed l e q
+        go false e q = stands-unnamed l e
 
     module _ (l : done < found) (e : namesApart (view b) (entries (getD list done 0)) ≡ true) (row′ : List ℕ) (c : goes row′ ≡ claimEntries b (entries (getD list done 0)) row) where
       spent : (length row′ ≡ length row) × (free row′ + length (flatMap (pagesAt (view b)) (entries (getD list done 0))) ≡ free row)

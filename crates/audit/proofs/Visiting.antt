@@ -18,7 +18,8 @@ use Rattle.laws.proofs.Entries.{entry-within, nodup-entries}
 use Rattle.laws.proofs.Owns.{own, owned-entries}
 use Rattle.laws.proofs.Frame.{SameDirectory, depth}
 use Rattle.laws.proofs.Level.{good-split, good-join, apart-split, apart-join}
-use Rattle.audit.specs.Visit.{Visited, stops, goes, thenVisit, claimEntries, directoriesAt, visit}
+use Rattle.claims.specs.Claim.{Visited, stops, goes, thenVisit, claimEntries, directoriesAt}
+use Rattle.audit.specs.Visit.{visit}
 use Rattle.audit.proofs.Visits.{Ownable, Sets, Tells, refuted, proved, ownable-rest, ownable-both, sets-both, ownable-occ, sets-occ, sets-names, Among, entries-told}
 
 -- the page of a directory, and nothing for any other entry

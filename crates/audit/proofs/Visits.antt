@@ -18,7 +18,7 @@ use Rattle.model.specs.Name.{legalName}
 use Rattle.model.specs.Entry.{Entry, vacant, aFile, aDirectory, entryAt}
 use Rattle.model.specs.Version1.{view}
 use Rattle.model.specs.Sound.{pagesOf, pagesAt, goodEntry}
-use Rattle.audit.specs.Visit.{Visited, stops, goes, thenVisit, claim, claimChain, claimEntry, claimEntries}
+use Rattle.claims.specs.Claim.{Visited, stops, goes, thenVisit, claim, claimChain, claimEntry, claimEntries}
 
 -- 1 if the page has an owner, and 0 if not
 abbrev pub used : List ℕ → ℕ → ℕ

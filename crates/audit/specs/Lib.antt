@@ -1,4 +1,3 @@
 pub mod Owner
 pub mod Demand
 pub mod Visit
-pub mod Lent

@@ -28,7 +28,7 @@ pub fn bit(image: &[u8], page: Page) -> usize
     requires { ⌜ On.bitmapByte version1 (page .0) < length (now image) ⌝ }
     ensures { λ r. ⌜ r ≡ On.pageBit version1 (now (image .entry)) (page .0) ⌝ }
 {
-    shape_bitmap::bit(image, VERSION1, page)
+    shape_bits::bit(image, VERSION1, page)
 }
 
 // The zero bits among the first n.
@@ -59,7 +59,7 @@ pub fn mark(image: &mut [u8], page: Page)
     requires { ⌜ On.bitmapByte version1 (page .0) < length (now image) ⌝ }
     ensures { λ _. ⌜ now (image .exit) ≡ On.mark version1 (page .0) (now (image .entry)) ⌝ }
 {
-    shape_bitmap::mark(image, VERSION1, page);
+    shape_bits::mark(image, VERSION1, page);
 }
 
 // Clears the bit of a page.
@@ -67,5 +67,5 @@ pub fn unmark(image: &mut [u8], page: Page)
     requires { ⌜ On.bitmapByte version1 (page .0) < length (now image) ⌝ }
     ensures { λ _. ⌜ now (image .exit) ≡ On.unmark version1 (page .0) (now (image .entry)) ⌝ }
 {
-    shape_bitmap::unmark(image, VERSION1, page);
+    shape_bits::unmark(image, VERSION1, page);
 }

@@ -68,12 +68,12 @@ pub fn lock(image: &mut [u8], path: &[u8]) -> u64
     ensures { λ r. ⌜ r ≡ codeOf (answer v2 (setLock true (now (path .entry))) (now (image .entry))) ⌝ }
     ensures { λ _. ⌜ now (image .exit) ≡ after v2 (setLock true (now (path .entry))) (now (image .entry)) ⌝ }
 {
-    change_code(removals2::lock(image, path))
+    change_code(locks2::lock(image, path))
 }
 
 pub fn unlock(image: &mut [u8], path: &[u8]) -> u64
     ensures { λ r. ⌜ r ≡ codeOf (answer v2 (setLock false (now (path .entry))) (now (image .entry))) ⌝ }
     ensures { λ _. ⌜ now (image .exit) ≡ after v2 (setLock false (now (path .entry))) (now (image .entry)) ⌝ }
 {
-    change_code(removals2::unlock(image, path))
+    change_code(locks2::unlock(image, path))
 }

@@ -3,7 +3,7 @@
 use links::FindLinkAnswer;
 ghost use mathlib.Core.Path.{_≡_};
 ghost use Rattle.link_list.specs.Links.{readLinks, writeLinks, findLink, checkLinks, linkAnswer, linkAfter};
-ghost use Rattle.link_rows.specs.Judged.{rowsOf};
+ghost use Rattle.link_judge.specs.Judged.{rowsOf};
 ghost use Rattle.link_looks.specs.Looks.{numbersAfter};
 ghost use Rattle.link_codes.specs.Codes.{linkCodeOf};
 ghost use Rattle.codes.specs.Outs.{numberOut, figureOut};

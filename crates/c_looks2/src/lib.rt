@@ -70,7 +70,7 @@ pub fn list(
     ensures { λ _. ⌜ now (name .exit) ≡ listName (answer v2 (list (now (path .entry)) entry) (now (image .entry))) ⌝ }
     ensures { λ _. ⌜ now (date .exit) ≡ listDate (answer v2 (list (now (path .entry)) entry) (now (image .entry))) ⌝ }
 {
-    let listed = looks2::list(image, path, entry as usize);
+    let listed = listed2::list(image, path, entry as usize);
     let listed_name = listed.name;
     *name = listed_name;
     let listed_date = listed.date;
@@ -102,7 +102,7 @@ pub fn read(image: &[u8], path: &[u8], position: u64, buffer: &mut [u8], out: &m
     ensures { λ _. ⌜ now (out .exit) ≡ numberOut (answer v2 (read (now (path .entry)) position (now (buffer .entry))) (now (image .entry))) ⌝ }
     ensures { λ _. ⌜ now (buffer .exit) ≡ bufferAfter v2 (read (now (path .entry)) position (now (buffer .entry))) (now (image .entry)) ⌝ }
 {
-    match looks2::read(image, path, Position(position as usize), buffer) {
+    match reads2::read(image, path, Position(position as usize), buffer) {
         ReadAnswer::Copied(count) => {
             *out = [count as u64];
             0

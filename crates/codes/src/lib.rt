@@ -1,11 +1,11 @@
 // A refusal as one number, for callers that are not Rattle: the paper's number in the low byte, and its place above it. The code says the case, and
 // `refusalCode` in specs/ what it stands for; that every refusal that a call can give has this room is law `place-fits`.
-use judge::Fault;
+use faults::Fault;
 use refusals::Refusal;
 ghost use mathlib.Core.Path.{_≡_};
 ghost use Rattle.model.specs.Call.{isFile};
 ghost use Rattle.model.specs.Meaning.{faultTold};
-ghost use Rattle.judge.specs.Answers.{faultOf};
+ghost use Rattle.faults.specs.Answers.{faultOf};
 ghost use Rattle.refusals.specs.Told.{told};
 ghost use Rattle.codes.specs.Codes.{packed, refusalCode, Fits};
 ghost use Rattle.codes.specs.Outs.{lockNumber};

@@ -1,3 +1,1 @@
-pub mod Sizes
-pub mod Headers
 pub mod Dates

@@ -13,12 +13,14 @@ use Rattle.model.specs.Version1.{view}
 use Rattle.model.specs.Judge.{Judged, fault, thenJudge, judgeDirectory, judgeRest, judgeWalk, judge, judgeView}
 use Rattle.view_laws.specs.Marks.{unowned}
 use Rattle.view_laws.proofs.Comes.{unowned-all}
-use Rattle.judge.specs.declared.Check.{Check}
-use Rattle.judge.specs.declared.Check.the-variants.{Clean, Faulty}
-use Rattle.judge.specs.declared.Fault.{Fault}
-use Rattle.judge.specs.Answers.{faultOf, outcome, badLength, badHeader, unsound, isSound, concluded, judgedAs}
-use Rattle.judge.specs.Walk.{Marked}
-use Rattle.judge.proofs.Marks.{told, untold, clean-of, fault-of}
+use Rattle.faults.specs.declared.Check.{Check}
+use Rattle.faults.specs.declared.Check.the-variants.{Clean, Faulty}
+use Rattle.faults.specs.declared.Fault.{Fault}
+use Rattle.faults.specs.Answers.{faultOf, outcome}
+use Rattle.judge.specs.Answers.{badLength, badHeader, unsound, isSound, concluded, judgedAs}
+use Rattle.owning.specs.Marked.{Marked}
+use Rattle.fields.proofs.Plain.{told, untold}
+use Rattle.faults.proofs.Answers.{clean-of, fault-of}
 
 -- ---- the length
 

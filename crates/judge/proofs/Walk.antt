@@ -25,12 +25,15 @@ use Rattle.fields.specs.declared.Entry.{Entry}
 use Rattle.fields.specs.declared.Entry.the-variants.{Vacant, File, Directory}
 use Rattle.fields.specs.Read.{entryOf}
 use Rattle.names.proofs.Steps.{and-false}
-use Rattle.judge.specs.declared.Check.{Check}
-use Rattle.judge.specs.declared.Check.the-variants.{Clean, Faulty}
-use Rattle.judge.specs.declared.Fault.{Fault}
-use Rattle.judge.specs.Answers.{faultOf, outcome}
-use Rattle.judge.specs.Walk.{Marked, position, earlier}
-use Rattle.judge.proofs.Marks.{told, untold, clean-of, fault-of, page-made}
+use Rattle.faults.specs.declared.Check.{Check}
+use Rattle.faults.specs.declared.Check.the-variants.{Clean, Faulty}
+use Rattle.faults.specs.declared.Fault.{Fault}
+use Rattle.faults.specs.Answers.{faultOf, outcome}
+use Rattle.owning.specs.Marked.{Marked}
+use Rattle.fresh.specs.Earlier.{position, earlier}
+use Rattle.fields.proofs.Plain.{told, untold}
+use Rattle.faults.proofs.Answers.{clean-of, fault-of}
+use Rattle.owning.proofs.Marks.{page-made}
 use Rattle.judge.proofs.Placed.{paged}
 
 -- ---- a directory, entry by entry

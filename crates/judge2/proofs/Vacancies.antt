@@ -26,7 +26,7 @@ use Rattle.known2.specs.Known.{Formed}
 use Rattle.names2.specs.Reached.{earlier, Reached}
 use Rattle.names2.proofs.Earlier.{rest-tail}
 use Rattle.names2.proofs.Reaching.{whole-row, here}
-use Rattle.judge.specs.declared.Check.the-variants.{Clean}
+use Rattle.faults.specs.declared.Check.the-variants.{Clean}
 use Rattle.judge2.proofs.Entries.{entry-vacant}
 use Rattle.judge2.proofs.Walk.{Walking, walking-next, walking-last}
 use Rattle.judge2.proofs.Cursors.{entries-few}

@@ -1,11 +1,11 @@
 // The judge of a version 2 image (paper 02 §2 and §12): a walk down the tree of directories that gives each page its owner, to the first fault.
 // No function changes the image. The one public function has no `requires`: it says of any bytes what they are.
 use cursor2::Cursor;
+use faults::Check;
+use faults::Fault;
 use fields::Entry;
 use fields::Page;
-use fields2::Header;
-use judge::Check;
-use judge::Fault;
+use header2::Header;
 use occupied2::Met;
 use shape::Shape;
 use shape2::Cartridge;
@@ -18,7 +18,7 @@ ghost use Rattle.model2.specs.Entry.{entryAt};
 ghost use Rattle.model2.specs.Version2.{view2};
 ghost use Rattle.view_laws.specs.Marks.{unowned};
 ghost use Rattle.view_laws.proofs.Comes.{Inside};
-ghost use Rattle.judge.specs.Answers.{outcome};
+ghost use Rattle.faults.specs.Answers.{outcome};
 ghost use Rattle.cursor2.specs.Row.{positionAt};
 ghost use Rattle.occupied2.specs.Passing.{isFree};
 ghost use Rattle.known2.specs.Known.{Formed};
@@ -160,7 +160,7 @@ fn judge_formed(image: &[u8], cartridge: Cartridge) -> Judgement
 pub fn judge_image(image: &[u8]) -> Judgement
     ensures { λ r. ⌜ (findingOf r ≡ judgedAs (now (image .entry))) × Shaped (now (image .entry)) r ⌝ }
 {
-    match fields2::read_header(image) {
+    match header2::read_header(image) {
         Header::BadLength => Judgement::BadLength,
         Header::BadVersion => Judgement::BadVersion,
         Header::BadShape => Judgement::BadShape,

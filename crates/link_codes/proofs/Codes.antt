@@ -4,7 +4,7 @@ use Prim.Native.Nat.{ℕ}
 use Rattle.volume.proofs.Tests.{if-no}
 use mathlib.Core.Bool.{not}
 use lib.Dec.{T}
-use Rattle.judge.specs.declared.Fault.the-variants.{BadEntry, BadChain, OwnedTwice, MarkedFree, LostPage, BadCount}
+use Rattle.faults.specs.declared.Fault.the-variants.{BadEntry, BadChain, OwnedTwice, MarkedFree, LostPage, BadCount}
 use Rattle.refusals.specs.Told.{told}
 use Rattle.refusals.specs.declared.Refusal.{Refusal}
 use Rattle.refusals.specs.declared.Refusal.the-variants.{BadLength, BadHeader, Unsound, NoPath, BadDate, IsRoot, NoSuchName, NotADirectory, NameTaken, IsADirectory, Locked, PastEnd, DirectoryFull, NoFreePages, NotEmpty, NotAPage}

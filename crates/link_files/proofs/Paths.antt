@@ -13,8 +13,7 @@ use Rattle.volume.specs.Lists.{all}
 use Rattle.model.specs.Name.{legalText}
 use Rattle.model.specs.Path.{Name, noPath, root, texts, namesFrom, pathTo, pathOf, isNoPath, isRoot}
 use Rattle.family.specs.Family.{onward}
-use Rattle.link_rows.proofs.Steps.{put-cons, put-nil}
-use Rattle.link_rows.proofs.Puts.{put-after}
+use Rattle.link_numbers.proofs.Puts.{put-cons, put-nil, put-after}
 use Rattle.link_files.proofs.Depth.{texts-long, some-texts, names-long}
 
 -- ---- bytes put one at a time

@@ -1,22 +1,18 @@
--- What the calls that judge the whole file share: the image's lines and the file's own stand above what is asked of the bytes; and what the loading and the
--- judging say.
-use mathlib.Core.Path.{_≡_, refl, sym, ap, _∙_, subst}
+-- What the calls that judge the whole file share: the image's lines and the file's own stand above what is asked of the bytes; and what the loading
+-- says.
+use mathlib.Core.Path.{_≡_, sym, ap, _∙_, subst}
 use mathlib.Core.Logic.{_⊎_}
-use Prim.Native.Nat.{ℕ, _+_, _≤_, _<_}
-use native.Mathlib.Omega.{arith}
+use Prim.Native.Nat.{ℕ, _≤_, _<_}
 use mathlib.Core.List.{List, _++_}
-use lib.ListN.{length, take}
+use lib.ListN.{take}
 use Rattle.volume.specs.Bytes.{Bytes}
 use Rattle.model.specs.Image.{treeOf}
 use Rattle.model.specs.Call.{Refusal, refused, granted}
 use Rattle.model.specs.Refusal.{Line, contentIn, node, settle, Passes}
 use Rattle.model.specs.Meaning.{imageLines}
-use Rattle.laws.proofs.Lines.{granted-passed, not-granted, settle-append}
-use Rattle.link_list.specs.declared.Row.{Row}
-use Rattle.link_list.specs.Judging.{Reading, bad, rows}
+use Rattle.laws.proofs.Lines.{granted-passed, settle-append}
 use Rattle.link_list.specs.Links.{linksPath, reading, fileLines, badLine, judgedLines}
 use Rattle.link_list.proofs.Writing.{settle-passed}
-use Rattle.link_rows.specs.Told.{counted}
 use Rattle.refusals.specs.declared.Refusal.{Refusal as Base}
 use Rattle.refusals.specs.Told.{told}
 use Rattle.link_files.specs.declared.Loaded.{Loaded}
@@ -65,15 +61,3 @@ module _ (d b v : Bytes) (room : ℕ) (r : Loaded) (says : Loads d b v room r) w
 
   pub loads-not : (q : Base) → r ≡ loaded.Refused q → refused (told q) ≡ fileLoaded d b
   loads-not q e = subst (Loads d b v room) e says
-
--- ---- what a judging says of the rows
-
-pub reading-rows : (x : Reading) (n : ℕ) → granted n ≡ counted 0 x → (rs : List Row) × (x ≡ rows rs) × (n ≡ length rs)
-unfolding counted
-reading-rows (bad f) n e = absurd (not-granted e)
-reading-rows (rows rs) n e = (rs, refl, let q : n ≡ 0 + length rs = cc e in omega (arith, q))
-
-pub reading-bad : (x : Reading) (f : Refusal) → refused f ≡ counted 0 x → x ≡ bad f
-unfolding counted
-reading-bad (bad g) f e = let q : g ≡ f = cc (sym e) in ap (λ (y : Refusal). bad y) q
-reading-bad (rows rs) f e = absurd (not-granted (sym e))

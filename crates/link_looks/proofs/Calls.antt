@@ -12,10 +12,12 @@ use Rattle.laws.proofs.Lines.{settle-append, settle-refused}
 use Rattle.link_list.specs.Links.{readLinks, findLink, checkLinks, linksPath, reading, rowsIn, fileLines, badLine, shortLine, recordLines, figureOf, linkLines, linkTold, linkAnswer}
 use Rattle.link_list.proofs.Writing.{settle-passed}
 use Rattle.link_rows.specs.Told.{numbersOf}
-use Rattle.link_rows.specs.Judged.{rowsOf}
+use Rattle.link_judge.specs.Judged.{rowsOf}
 use Rattle.link_files.specs.Loaded.{fileLoaded}
 use Rattle.link_files.proofs.Whole.{above, under, passes}
-use Rattle.link_looks.specs.Looks.{readIn, numbersIn, findIn, checkedRows, checkIn, numbersAfter}
+use Rattle.link_reads.specs.Reads.{readIn, numbersIn, findIn}
+use Rattle.link_checks.specs.Checks.{checkedRows, checkIn}
+use Rattle.link_looks.specs.Looks.{numbersAfter}
 
 module _ (d b : Bytes) where
   abbrev content : Bytes

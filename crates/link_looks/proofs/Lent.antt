@@ -15,10 +15,10 @@ use Rattle.laws.proofs.Passed.{image-passed}
 use Rattle.link_list.specs.declared.Row.{Row}
 use Rattle.link_list.specs.Links.{readLinks, reading, rowsIn, judgedLines, shortLine, linkLines, listFilled, linkList}
 use Rattle.link_rows.specs.Told.{numbersOf}
-use Rattle.link_rows.specs.Judged.{rowNumbered, rowsFrom, rowsOf}
-use Rattle.link_rows.proofs.Steps.{put-nil}
+use Rattle.link_judge.specs.Judged.{rowNumbered, rowsFrom, rowsOf}
+use Rattle.link_numbers.proofs.Puts.{put-nil}
+use Rattle.link_reads.proofs.InFile.{rows-long}
 use Rattle.link_looks.specs.Looks.{numbersAfter}
-use Rattle.link_looks.proofs.InFile.{rows-long}
 
 module _ (a b c : ℕ) (ns : List ℕ) where
   shifted : (i : ℕ) → rowNumbered (a ∷ b ∷ c ∷ ns) (i + 1) ≡ rowNumbered ns i

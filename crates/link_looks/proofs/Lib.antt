@@ -1,5 +1,2 @@
-pub mod InFile
 pub mod Calls
-pub mod Found
-pub mod Checked
 pub mod Lent

@@ -1,7 +1,4 @@
-pub mod Turns
-pub mod Ranges
-pub mod Orders
+pub mod Rows
 pub mod Readings
 pub mod Steps
-pub mod Puts
-pub mod Lists
+pub mod Packs

@@ -9,16 +9,18 @@ use mathlib.Core.List.{List, [], _∷_}
 use lib.ListN.{length, drop, length-drop, drop-of-length-le}
 use lib.Seq.{drop-drop}
 use lib.Dec.{T, eqb, ltb}
-use borrow.Author.Tests.{ne-eqb, eqb-false, not-true, not-false}
+use borrow.Author.Tests.{ne-eqb, not-true, not-false}
 use Rattle.volume.specs.Bytes.{Bytes, if_then_else_}
 use Rattle.model.specs.Call.{Refusal, refusalAt, Answer, refused, granted}
+use Rattle.laws.proofs.Lines.{not-granted}
 use Rattle.link_list.specs.declared.Row.{Row}
-use Rattle.link_list.specs.Coding.{Taken, joined, takeNumber, inRange, andThen, kept, takeRow, above}
+use Rattle.link_list.specs.Coding.{Taken, joined, takeNumber, inRange, andThen, kept, takeRow}
 use Rattle.link_list.specs.Judging.{follows, Reading, bad, rows, row, readRow, readFrom, readList}
+use Rattle.link_judge.specs.Judged.{followsLast}
+use Rattle.link_judge.proofs.Orders.{beforeOf, follows-last}
 use Rattle.link_rows.specs.declared.RowAt.{RowAt}
 use Rattle.link_rows.specs.declared.RowAt.the-variants as row-at
 use Rattle.link_rows.specs.Told.{rowTold, RowFits, stepOf, stepAt, stepsFrom, counted}
-use Rattle.link_rows.specs.Judged.{followsLast}
 
 -- ---- what is left is shorter
 
@@ -73,17 +75,9 @@ row-shorter v r w e =
 
 -- ---- where a file that is read stands
 
-unfoldable pub beforeOf : Bool → Row → Option Row
-beforeOf any last = if any then some last else none
-
 -- i rows and `at` bytes of v are behind
 unfoldable pub countedAt : Bytes → (i at : ℕ) → Bool → Row → Answer ℕ
 countedAt v i at any last = counted i (readFrom (length v - i) (length v) i (beforeOf any last) (drop at v))
-
-pub follows-last : (any : Bool) (last r : Row) → follows (beforeOf any last) r ≡ followsLast any last r
-unfolding follows beforeOf followsLast
-follows-last true last r = refl
-follows-last false last r = refl
 
 counted-row : (i : ℕ) (r : Row) (rest : Reading) → counted i (row r rest) ≡ counted (i + 1) rest
 unfolding counted row
@@ -265,3 +259,15 @@ steps-from (suc most) size i before v at rs h e = go (eqb (length (drop at v)) 0
 pub steps-read : (v : Bytes) (rs : List Row) → readList v ≡ rows rs → stepsFrom v (length rs) 0 ≡ rs
 unfolding readList
 steps-read v rs e = steps-from (length v) (length v) 0 none v 0 rs (omega arith) e
+
+-- ---- what a judging says of the rows
+
+pub reading-rows : (x : Reading) (n : ℕ) → granted n ≡ counted 0 x → (rs : List Row) × (x ≡ rows rs) × (n ≡ length rs)
+unfolding counted
+reading-rows (bad f) n e = absurd (not-granted e)
+reading-rows (rows rs) n e = (rs, refl, let q : n ≡ 0 + length rs = cc e in omega (arith, q))
+
+pub reading-bad : (x : Reading) (f : Refusal) → refused f ≡ counted 0 x → x ≡ bad f
+unfolding counted
+reading-bad (bad g) f e = let q : g ≡ f = cc (sym e) in ap (λ (y : Refusal). bad y) q
+reading-bad (rows rs) f e = absurd (not-granted (sym e))

@@ -1,41 +1,19 @@
 -- The rows of a file that was judged, a step at a time.
-use mathlib.Core.Path.{_≡_, refl, sym, ap, subst, _∙_}
-use mathlib.Core.Bool.{Bool, true, false, not, _&&_}
-use mathlib.Core.Option.{Option, none, some, Option·none-ne-some}
-use Prim.Native.Nat.{ℕ, zero, suc, _+_, _-_, _*_, _≤_, _<_}
+use mathlib.Core.Path.{_≡_, ap, _∙_}
+use mathlib.Core.Bool.{false}
+use mathlib.Core.Option.{none, some}
+use Prim.Native.Nat.{ℕ, suc, _+_, _-_, _*_, _≤_, _<_}
 use native.Mathlib.Omega.{arith}
-use mathlib.Core.List.{List, [], _∷_, _++_}
-use lib.ListN.{length, drop, take, set, length-drop, length-set}
-use lib.Seq.{drop-nil}
+use mathlib.Core.List.{List, _∷_}
+use lib.ListN.{length, set, length-set}
 use lib.Dec.{eqb}
 use borrow.Author.Tests.{eq-eqb, ne-eqb}
 use Rattle.volume.specs.Bytes.{Bytes, put, if_then_else_}
-use Rattle.model.specs.Call.{refusalAt}
 use Rattle.link_list.specs.declared.Row.{Row}
 use Rattle.link_list.specs.Links.{isAccession, figureOf}
+use Rattle.link_numbers.proofs.Puts.{put-cons, put-nil}
 use Rattle.link_rows.specs.declared.Step.{Step}
 use Rattle.link_rows.specs.Told.{stepAt, stepsFrom, numbersOf}
-
--- ---- numbers put one after another
-
-put-suc : (k : ℕ) (w : List ℕ) (x : ℕ) (xs : List ℕ) → put (suc k) w (x ∷ xs) ≡ x ∷ put k w xs
-put-suc k w x xs = let e : suc k + length w ≡ suc (k + length w) = omega arith in rw e
-
-pub put-cons : (k a : ℕ) (w xs : List ℕ) → k < length xs → put k (a ∷ w) xs ≡ put (k + 1) w (set xs k a)
-put-cons k a w [] h = absurd (omega arith)
-put-cons zero a w (x ∷ xs) h =
-    let e : 0 + suc (length w) ≡ suc (length w) = omega arith in
-    let f : 1 + length w ≡ suc (length w) = omega arith in
-    rw (e, f)
-put-cons (suc k) a w (x ∷ xs) h =
-    let e : suc (k + 1) ≡ suc k + 1 = omega arith in
-    put-suc k (a ∷ w) x xs ∙ ap (λ (ys : List ℕ). x ∷ ys) (put-cons k a w xs (omega arith)) ∙ sym (put-suc (k + 1) w x (set xs k a))
-    ∙ ap (λ (j : ℕ). put j w (x ∷ set xs k a)) e
-
-pub put-nil : (k : ℕ) (xs : List ℕ) → put k [] xs ≡ xs
-put-nil zero xs = refl
-put-nil (suc k) [] = drop-nil (suc k + 0)
-put-nil (suc k) (x ∷ xs) = put-suc k [] x xs ∙ ap (λ (ys : List ℕ). x ∷ ys) (put-nil k xs)
 
 -- ---- a step
 

@@ -1,15 +1,15 @@
--- What the answers of this crate say of the bytes v that were read, and of a list that is judged.
-use Prim.Native.Nat.{ℕ, zero, suc, _+_, _-_, _≤_, _<_, _^_}
+-- What the answers of this crate say of the bytes v that were read, of a file that is judged, and of a list that is packed.
+use mathlib.Core.Path.{_≡_}
+use Prim.Native.Nat.{ℕ, zero, suc, _+_, _-_, _≤_, _<_}
 use mathlib.Core.List.{List, [], _∷_}
 use mathlib.Core.Option.{Option, none, some}
 use lib.ListN.{length, drop}
-use Rattle.volume.specs.Bytes.{Bytes}
+use Rattle.volume.specs.Bytes.{Bytes, put}
 use Rattle.model.specs.Call.{refusalAt, Answer, refused, granted}
 use Rattle.link_list.specs.declared.Row.{Row}
 use Rattle.link_list.specs.Coding.{Taken, takeRow}
 use Rattle.link_list.specs.Judging.{Reading, bad, rows}
-use Rattle.link_rows.specs.declared.NumberAt.{NumberAt}
-use Rattle.link_rows.specs.declared.NumberAt.the-variants as number
+use Rattle.link_judge.specs.Judged.{noRow}
 use Rattle.link_rows.specs.declared.RowAt.{RowAt}
 use Rattle.link_rows.specs.declared.RowAt.the-variants as row
 use Rattle.link_rows.specs.declared.Step.{Step}
@@ -17,15 +17,8 @@ use Rattle.link_rows.specs.declared.FileJudged.{FileJudged}
 use Rattle.link_rows.specs.declared.FileJudged.the-variants as file
 use Rattle.link_rows.specs.declared.Figure.{Figure}
 use Rattle.link_rows.specs.declared.Figure.the-variants as figure
-
-abbrev pub numberTold : Bytes → NumberAt → Taken ℕ
-numberTold v (number.Is n next) = some (n, drop next v)
-numberTold v number.Broken = none
-
--- the number is below 128 to the bytes that it may have, and ends within v
-abbrev pub NumberFits : Bytes → (most : ℕ) → NumberAt → Type 0
-NumberFits v most (number.Is n next) = (n < 128 ^ most) × (next ≤ length v)
-NumberFits v most number.Broken = Unit {0}
+use Rattle.link_rows.specs.declared.Packed.{Packed}
+use Rattle.link_rows.specs.declared.Packed.the-variants as packed
 
 abbrev pub rowTold : Bytes → RowAt → Taken Row
 rowTold v (row.Is r next) = some (r, drop next v)
@@ -34,9 +27,6 @@ rowTold v row.Broken = none
 abbrev pub RowFits : Bytes → RowAt → Type 0
 RowFits v (row.Is r next) = next ≤ length v
 RowFits v row.Broken = Unit {0}
-
-abbrev pub noRow : Row
-noRow = record { count = 0; value = 0; figure = 0 }
 
 -- the row taken off the bytes from `at` on, and the byte of v at which what is left begins
 unfoldable pub stepOf : Bytes → (at : ℕ) → Taken Row → Step
@@ -69,3 +59,8 @@ fileTold (file.NotAbove i) = refused (refusalAt 22 i)
 abbrev pub figureTold : Figure → Option ℕ
 figureTold (figure.Is n) = some n
 figureTold figure.Absent = none
+
+-- v at the front of the bytes, if there is room for it and one row more; otherwise they may hold anything
+abbrev pub Packs : (v before after : Bytes) → Packed → Type 0
+Packs v before after (packed.Size n) = (n ≡ length v) × (after ≡ put 0 v before)
+Packs v before after packed.TooLong = (length before < length v + 24) × (length after ≡ length before)

@@ -16,9 +16,8 @@ use Rattle.link_list.specs.Coding.{inRange, rowBytes, fileOf}
 use Rattle.link_list.specs.Judging.{badFrom, badRow}
 use Rattle.link_list.proofs.Rows.{holds}
 use Rattle.link_list.proofs.Files.{head-good}
-use Rattle.link_rows.proofs.Steps.{put-nil}
-use Rattle.link_rows.proofs.Puts.{put-length, put-after}
-use Rattle.link_rows.proofs.Lists.{row-short}
+use Rattle.link_numbers.proofs.Puts.{put-nil, put-length, put-after}
+use Rattle.link_rows.proofs.Packs.{row-short}
 use Rattle.link_writes.specs.Writing.{StandsFor}
 use Rattle.link_files.proofs.Loading.{path-read}
 use Rattle.link_slices.specs.Writing.{packedAt, packedBytes, packedFrom}

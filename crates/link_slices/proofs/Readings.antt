@@ -19,7 +19,7 @@ use Rattle.link_list.proofs.Writing.{settle-passed}
 use Rattle.link_rows.specs.declared.FileJudged.{FileJudged}
 use Rattle.link_rows.specs.declared.FileJudged.the-variants as file
 use Rattle.link_rows.specs.Told.{stepAt, stepsFrom, counted, fileTold}
-use Rattle.link_rows.proofs.Readings.{steps-read}
+use Rattle.link_rows.proofs.Readings.{steps-read, reading-rows, reading-bad}
 use Rattle.refusals.specs.declared.Refusal.{Refusal as Base}
 use Rattle.refusals.specs.Told.{told}
 use Rattle.link_answers.specs.declared.LinkRefusal.{LinkRefusal}
@@ -27,7 +27,6 @@ use Rattle.link_answers.specs.declared.LinkRefusal.the-variants as link
 use Rattle.link_answers.specs.declared.ReadAnswer.the-variants as read
 use Rattle.link_answers.specs.Answers.{linkRefusal}
 use Rattle.link_files.specs.Loaded.{fileLoaded}
-use Rattle.link_files.proofs.Whole.{reading-rows, reading-bad}
 use Rattle.link_files.proofs.Whole.{above, passes}
 use Rattle.link_slices.specs.declared.Found.{Found}
 use Rattle.link_slices.specs.Reading.{placed, rowsRead, listRead, FoundIn, FoundFor}

@@ -12,8 +12,8 @@ use Rattle.model.specs.Call.{Answer}
 use Rattle.link_list.specs.Coding.{inRange, rowBytes, fileOf}
 use Rattle.link_list.specs.Judging.{badRow}
 use Rattle.link_list.specs.Links.{writeLinks, linkAnswer, linkAfter}
-use Rattle.link_rows.specs.declared.Judged.{Judged}
-use Rattle.link_rows.specs.Judged.{unjudged, judgedFrom}
+use Rattle.link_judge.specs.declared.Judged.{Judged}
+use Rattle.link_judge.specs.Judged.{unjudged, judgedFrom}
 use Rattle.link_writes.specs.Writing.{StandsFor}
 
 -- the byte behind a row at `at`, of so many bytes: all of them, if there may be no room for it, and if it may not be written

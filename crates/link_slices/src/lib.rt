@@ -5,15 +5,15 @@ use link_answers::DoneAnswer;
 use link_answers::LinkRefusal;
 use link_answers::ReadAnswer;
 use link_files::Loaded;
+use link_judge::Judged;
 use link_list::Row;
 use link_rows::FileJudged;
-use link_rows::Judged;
 ghost use mathlib.Core.Path.{_≡_};
 ghost use Prim.Native.Nat.{_≤_};
 ghost use lib.ListN.{length};
 ghost use Rattle.link_list.specs.Links.{readLinks, writeLinks, linkAnswer, linkList, linkAfter};
 ghost use Rattle.link_answers.specs.Answers.{readTold, doneTold};
-ghost use Rattle.link_rows.specs.Judged.{unjudged, judgedFrom};
+ghost use Rattle.link_judge.specs.Judged.{unjudged, judgedFrom};
 ghost use Rattle.link_slices.specs.Writing.{packedAt, packedBytes, packedFrom, WrittenFor};
 ghost use Rattle.link_slices.specs.Reading.{placed, FoundIn, FoundFor};
 
@@ -105,10 +105,10 @@ pub fn read_rows(image: &[u8], directory: &[u8], rows: &mut [Row]) -> ReadAnswer
 fn judge_rows(rows: &[Row]) -> Judged
     ensures { λ r. ⌜ r ≡ judgedFrom 0 unjudged (now (rows .entry)) ⌝ }
 {
-    let mut state = link_rows::fresh();
+    let mut state = link_judge::fresh();
     let mut i = 0;
     while i < rows.len() {
-        state = link_rows::judge_row(state, i, rows[i]);
+        state = link_judge::judge_row(state, i, rows[i]);
         i = i + 1;
     }
     state
@@ -119,7 +119,7 @@ fn pack_row(bytes: &mut [u8], at: usize, row: Row) -> usize
     ensures { λ r. ⌜ (r ≡ packedAt (length (now (bytes .entry))) at row) × (now (bytes .exit) ≡ packedBytes at row (now (bytes .entry))) ⌝ }
 {
     let len = bytes.len();
-    if !link_rows::in_range(row) {
+    if !link_judge::in_range(row) {
         return len;
     }
     if len < 24 {
@@ -154,7 +154,7 @@ fn write_judged(
 ) -> DoneAnswer
     ensures { λ r. ⌜ WrittenFor judged (now (bytes .entry)) (now (directory .entry)) (now (date .entry)) (now (image .entry)) (doneTold r) (now (image .exit)) ⌝ }
 {
-    link_writes::write_packed(image, directory, date, link_rows::judgement(judged), bytes)
+    link_writes::write_packed(image, directory, date, link_judge::judgement(judged), bytes)
 }
 
 // Writes the rows as a directory's LINKS: any old one is removed, and it is made anew with the date. No image has room for a file that the array has no

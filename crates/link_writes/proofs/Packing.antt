@@ -12,10 +12,11 @@ use Rattle.model.specs.Call.{Refusal}
 use Rattle.link_list.specs.declared.Row.{Row}
 use Rattle.link_list.specs.Coding.{fileOf}
 use Rattle.link_list.specs.Judging.{badRow}
-use Rattle.link_rows.specs.declared.ListJudged.{ListJudged}
+use Rattle.link_judge.specs.declared.ListJudged.{ListJudged}
 use Rattle.link_rows.specs.declared.Packed.{Packed}
 use Rattle.link_rows.specs.declared.Packed.the-variants as packed
-use Rattle.link_rows.specs.Judged.{listTold, Packs}
+use Rattle.link_judge.specs.Judged.{listTold}
+use Rattle.link_rows.specs.Told.{Packs}
 use Rattle.link_writes.specs.Writing.{PackedAs}
 use Rattle.link_files.proofs.Loading.{path-read}
 

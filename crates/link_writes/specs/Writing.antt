@@ -16,8 +16,8 @@ use Rattle.link_list.specs.declared.Row.{Row}
 use Rattle.link_list.specs.Coding.{fileOf}
 use Rattle.link_list.specs.Judging.{badRow}
 use Rattle.link_list.specs.Links.{writeLinks, linkAnswer, runAfter, linkAfter}
-use Rattle.link_rows.specs.declared.ListJudged.{ListJudged}
-use Rattle.link_rows.specs.Judged.{listTold}
+use Rattle.link_judge.specs.declared.ListJudged.{ListJudged}
+use Rattle.link_judge.specs.Judged.{listTold}
 
 -- ---- the base's calls in turn, of which the first refusal ends it
 

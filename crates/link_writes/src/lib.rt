@@ -3,8 +3,8 @@
 use fields::Position;
 use link_answers::DoneAnswer;
 use link_answers::LinkRefusal;
+use link_judge::ListJudged;
 use link_old::Old;
-use link_rows::ListJudged;
 use link_rows::Packed;
 use zealfs::ChangeAnswer;
 ghost use mathlib.Core.Path.{_≡_};
@@ -19,7 +19,7 @@ ghost use Rattle.model.specs.Meaning.{imageLines};
 ghost use Rattle.answers.specs.Answers.{changeAnswer};
 ghost use Rattle.link_list.specs.Judging.{badRow};
 ghost use Rattle.link_list.specs.Links.{writeLinks, linksPath, oldLines, linkAnswer, linkAfter};
-ghost use Rattle.link_rows.specs.Judged.{listTold, rowsOf};
+ghost use Rattle.link_judge.specs.Judged.{listTold, rowsOf};
 ghost use Rattle.link_answers.specs.Answers.{doneTold};
 ghost use Rattle.link_old.specs.Before.{oldSettled};
 ghost use Rattle.link_writes.specs.Writing.{replacing, runAnswer, runWhole, RunsTo, PackedAs, WrittenAs};
@@ -164,7 +164,7 @@ pub fn write(image: &mut [u8], directory: &[u8], date: &[u8], numbers: &[u64]) -
     ensures { λ r. ⌜ doneTold r ≡ linkAnswer (writeLinks (now (directory .entry)) (now (date .entry)) (rowsOf (now (numbers .entry)))) (now (image .entry)) ⌝ }
     ensures { λ _. ⌜ now (image .exit) ≡ linkAfter (writeLinks (now (directory .entry)) (now (date .entry)) (rowsOf (now (numbers .entry)))) (now (image .entry)) ⌝ }
 {
-    let judged = link_rows::judge_list(numbers);
+    let judged = link_judge::judge_list(numbers);
     let mut bytes = [0u8; 65536];
     let size = pack(judged, numbers, &mut bytes);
     write_packed(image, directory, date, judged, &bytes[..size])

@@ -22,7 +22,9 @@ use Rattle.model.specs.Refusal.{settle}
 use Rattle.model.specs.Demands.{Unsound, byLength, byHeader, byFault}
 use Rattle.laws.proofs.Lists.{account}
 use Rattle.laws.proofs.Steps.{unsound}
-use Rattle.listing_text.specs.Lines.{directoryLines, Readable}
+use Rattle.listing_lines.specs.Window.{Window, poured}
+use Rattle.listing_lines.proofs.Windows.{poured-next}
+use Rattle.listing_rows.specs.Lines.{directoryLines, Readable}
 
 abbrev said : Answer Verdict → Verdict
 said (refused f) = record { pages = 0; free = 0 }
@@ -56,6 +58,14 @@ module _ (b : Bytes) (v : Verdict) (given : granted v ≡ answer verdict b) wher
 pub refused-listing : (b : Bytes) (f : Refusal) → refused f ≡ answer verdict b → text "refused " ++ decimal (f .number) ++ newline ≡ listing b
 unfolding listing listingOf
 refused-listing b f e = ap (λ (a : Answer Verdict). listingOf a (treeOf b)) e
+
+-- its line: the word, the number and the end, in order
+module _ (w : Window) {w₁ w₂ w₃ : Window} where
+  pub refused-poured : {n wide number : ℕ} → wide ≡ n → n ≡ number → w₁ ≡ poured (text "refused ") w → w₂ ≡ poured (decimal wide) w₁ → w₃ ≡ poured newline w₂
+      → w₃ ≡ poured (text "refused " ++ decimal number ++ newline) w
+  refused-poured {n} {wide} {number} e f a b c =
+      poured-next (text "refused " ++ decimal number) newline w
+      (poured-next (text "refused ") (decimal number) w a (b ∙ ap (λ (k : ℕ). poured (decimal k) w₁) (e ∙ f))) c
 
 -- ---- a sound image
 

@@ -1,6 +1,1 @@
-pub mod Windows
-pub mod Digits
-pub mod Pieces
-pub mod Paths
-pub mod Rows
 pub mod Images

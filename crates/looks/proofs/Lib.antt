@@ -1,4 +1,2 @@
 pub mod Verdicts
 pub mod Finds
-pub mod Lists
-pub mod Readings

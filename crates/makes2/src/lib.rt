@@ -28,10 +28,10 @@ pub fn format(image: &mut [u8], code: usize) -> ChangeAnswer
     ensures { λ r. ⌜ (changeAnswer r ≡ answer v2 (formatAs code) (now (image .entry))) × (now (image .exit) ≡ after v2 (formatAs code) (now (image .entry))) ⌝ }
 {
     let bytes = image.len();
-    if !fields2::length_is_allowed(bytes) {
+    if !header2::length_is_allowed(bytes) {
         return ChangeAnswer::Refused(Refusal::BadLength);
     }
-    if !fields2::code_fits(code, bytes) {
+    if !header2::code_fits(code, bytes) {
         return ChangeAnswer::Refused(Refusal::BadShape);
     }
     format2::format_image(image, code);

@@ -1,30 +1,25 @@
--- Rows that rule out wrong definitions: for each must-fail edit of this crate there is a row here that the edited definitions no longer give. They are
--- few and on small images, since each edit computes all of them; the tables of every theme are in crates/tables2. Each row is computed from the
--- definitions, so it holds by `refl`.
+-- Rows that rule out wrong definitions: for each must-fail edit of this crate there is a row here that the edited definitions no longer give. Each edit
+-- computes all of them, so none asks a call, which judges a whole image; the tables of every theme, calls too, are in crates/tables2. Each row is computed
+-- from the definitions, so it holds by `refl`.
 use mathlib.Core.Path.{_≡_, refl}
-use Prim.Native.Nat.{ℕ, _+_}
+use Prim.Native.Nat.{ℕ}
 use mathlib.Core.Bool.{true, false}
-use mathlib.Core.Option.{some}
 use mathlib.Core.List.{List, [], _∷_, _++_, map}
 use lib.ListN.{replicate, set}
 use Rattle.volume.specs.Bytes.{part, put}
 use Rattle.volume.specs.Field.{Field, byte, pair}
-use Rattle.volume.specs.Geometry as On
 use Rattle.model.specs.Entry.{vacant, aFile, aDirectory}
-use Rattle.model.specs.Walk.{arrived, entryNamed, walkOn}
-use Rattle.model.specs.Sound.{pagesAt, goodDirectory}
-use Rattle.model.specs.Tree.{Tree, emptyRow}
-use Rattle.model.specs.Call.{formatAs, verdict, find, list, makeFile, makeDirectory, write, isDirectory, empty, granted}
+use Rattle.model.specs.Tree.{emptyRow}
+use Rattle.model.specs.Call.{formatAs, makeFile}
 use Rattle.model.specs.MeaningOf.{numbers, treeOf, treeAfter}
 use Rattle.model.specs.DemandsOf.{freshOf}
-use Rattle.model.specs.Text.{text}
 use Rattle.model2.specs.Layout.{rootStart, geometry2, pagesFor, headerLines}
 use Rattle.model2.specs.Entry.{startField, sizePlace, sizeBytes, entryAt, newEntry}
-use Rattle.model2.specs.Version2.{entryCount, view2}
+use Rattle.model2.specs.Version2.{entryCount, numbers2, view2}
 use Rattle.model2.specs.Format.{formatLines, formatted}
 use Rattle.model2.specs.Calls.{v2}
-use Rattle.model2.proofs.Run2.{computing2, toldBy, Case, _gives_, done, sized, answered, unsound, refusal, Hold, computed, stated, hold}
-use Rattle.model2.proofs.Desk2.{day1, day2, called, slot, desk2, desk512, full2}
+use Rattle.model2.proofs.Run2.{computing2, toldBy}
+use Rattle.model2.proofs.Desk2.{day1, day2, called, slot, desk2, desk512}
 
 -- ---- numbers, on no image
 
@@ -61,6 +56,14 @@ pub roots : (map rootStart (8 ∷ 200 ∷ 208 ∷ 512 ∷ 1024 ∷ []) ≡ 32 �
     × (map (λ n. entryCount 256 n 0) (8 ∷ 200 ∷ 208 ∷ 256 ∷ []) ≡ 7 ∷ 7 ∷ 6 ∷ 6 ∷ [])
     × (entryCount 512 512 0 ∷ entryCount 1024 1024 0 ∷ entryCount 512 512 1 ∷ entryCount 1024 1024 1 ∷ [] ≡ 13 ∷ 27 ∷ 16 ∷ 32 ∷ [])
 roots = (refl, refl, refl)
+
+-- the numbers of a version by code and length: what is set aside, what a directory's size is, its entries, and that it grows
+pub counted : (map (λ n. numbers2 1 n .aside) (65536 ∷ 69632 ∷ []) ≡ 2 ∷ 3 ∷ [])
+    × (map (λ code. numbers2 code 65536 .pageSize) (0 ∷ 1 ∷ 2 ∷ []) ≡ 256 ∷ 512 ∷ 1024 ∷ [])
+    × (map (λ code. numbers2 code 65536 .rootEntries) (0 ∷ 1 ∷ 2 ∷ []) ≡ 6 ∷ 15 ∷ 31 ∷ [])
+    × (map (λ code. numbers2 code 65536 .pageEntries) (0 ∷ 1 ∷ 2 ∷ []) ≡ 8 ∷ 16 ∷ 32 ∷ [])
+    × (numbers2 0 2048 .grows ≡ true)
+counted = (refl, refl, refl, refl, refl)
 
 -- a file of no bytes has a page, and a page is all content
 pub sizes : (map (pagesFor 256) (0 ∷ 1 ∷ 256 ∷ 257 ∷ 512 ∷ 513 ∷ []) ≡ 1 ∷ 1 ∷ 1 ∷ 2 ∷ 2 ∷ 3 ∷ []) × (map (pagesFor 1024) (1024 ∷ 1025 ∷ []) ≡ 1 ∷ 2 ∷ [])
@@ -112,18 +115,9 @@ unfolding computing2 desk2
 pages-of = (refl, refl, refl, refl, refl)
 
 -- a directory whose last page links to its first, or to itself, does not end
-pub loops : (view2 (set desk2 267 4) .directoryEnds 4 ≡ false) × (view2 (set desk2 267 11) .directoryEnds 4 ≡ false) × (goodDirectory 24 (view2 desk2) 0 ≡ true)
+pub loops : (view2 (set desk2 267 4) .directoryEnds 4 ≡ false) × (view2 (set desk2 267 11) .directoryEnds 4 ≡ false)
 unfolding computing2 desk2
-loops = (refl, refl, refl)
-
--- names are found across pages, and pages followed by their links
-pub walked : (entryNamed (view2 desk2) 0 (called "B") ≡ some 2528)
-    × (walkOn (view2 desk2) (record { bytes = called "A"; begins = 1 } ∷ record { bytes = called "C"; begins = 3 } ∷ []) 0 ≡ arrived 15)
-    × (map (pagesAt (view2 desk2)) (32 ∷ 64 ∷ 128 ∷ 224 ∷ []) ≡ (2 ∷ 5 ∷ 3 ∷ []) ∷ (4 ∷ 11 ∷ []) ∷ (6 ∷ []) ∷ (14 ∷ []) ∷ [])
-    × (pagesAt (view2 desk512) 1504 ≡ 5 ∷ 4 ∷ [])
-    × (goodDirectory 8 (view2 desk512) 0 ≡ true)
-unfolding computing2 desk2 desk512
-walked = (refl, refl, refl, refl, refl)
+loops = (refl, refl)
 
 -- ---- calls
 
@@ -131,26 +125,6 @@ walked = (refl, refl, refl, refl, refl)
 pub given : (numbers v2 (makeFile [] []) ≡ 1 ∷ 2 ∷ 26 ∷ 16 ∷ 17 ∷ 18 ∷ 20 ∷ 19 ∷ 3 ∷ 4 ∷ 11 ∷ 5 ∷ 6 ∷ 8 ∷ 10 ∷ []) × (numbers v2 (formatAs 0) ≡ 1 ∷ 26 ∷ [])
 unfolding computing2
 given = (refl, refl)
-
--- 26 after 2; a make of two pages with two free and with one; and what a directory of 512 bytes tells
-pub calls : List Case
-calls =
-    unsound (set (set desk2 1 1) 6 9) 2 0 0 0
-    ∷ unsound (set desk2 6 9) 26 0 0 0
-    ∷ unsound (set desk2 7 0xFD) 3 0 0 0
-    ∷ answered desk2 (formatAs 1 gives refusal 26 ∷ [])
-    ∷ answered full2 (makeFile (text "/7") day2 gives done ∷ verdict gives sized 24 0 ∷ list (text "/") 14 gives granted empty ∷ makeFile (text "/8") day2 gives refusal 10 ∷ [])
-    ∷ answered full2 (write (text "/f") 1500 (replicate 37 1) gives done ∷ makeDirectory (text "/D/x") day2 gives refusal 10 ∷ verdict gives sized 24 1 ∷ [])
-    ∷ answered desk512 (
-    verdict gives sized 8 2
-    ∷ find (text "/D") gives granted (record { kind = isDirectory; size = 512; date = day1 })
-    ∷ list (text "/") 31 gives refusal 12
-    ∷ [])
-    ∷ []
-
-pub calls-hold : Hold calls
-unfolding computing2 computed stated calls desk2 desk512 full2
-calls-hold = hold calls refl
 
 -- N and the code of a fresh tree are those of the new page size
 pub fresh-trees : (freshOf v2 1 69632 ≡ record { pages = 136; code = 1; root = emptyRow 15 })

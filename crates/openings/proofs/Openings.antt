@@ -38,8 +38,9 @@ use Rattle.walk.specs.declared.Parent.{Parent}
 use Rattle.walk.specs.declared.Parent.the-variants.{In, Missing, Blocked}
 use Rattle.walk.specs.declared.Walk.{Walk}
 use Rattle.fields.proofs.Plain.{told as is-told, untold}
-use Rattle.judge.specs.Answers.{faultOf, findingOf, judgedAs}
-use Rattle.judge.specs.declared.Fault.{Fault}
+use Rattle.faults.specs.Answers.{faultOf}
+use Rattle.judge.specs.Answers.{findingOf, judgedAs}
+use Rattle.faults.specs.declared.Fault.{Fault}
 use Rattle.judge.specs.declared.Judgement.{Judgement}
 use Rattle.judge.specs.declared.Judgement.the-variants.{Sound, BadLength, BadHeader, Unsound}
 use Rattle.arrivals.specs.Openings.{isNone}

@@ -23,8 +23,8 @@ use Rattle.arrivals.specs.Openings as model
 use Rattle.arrivals.specs.Openings.{vacancyIn, unlessFull, unlessNamed, openingNamed, openingWalked, opening}
 use Rattle.arrivals.proofs.Openings.{openingBy, opening-no-path, opening-bad-date, opening-root, opening-below, opening-stopped, opening-sound as sound-opening}
 use Rattle.fields.proofs.Plain.{told as is-told, untold}
-use Rattle.judge.specs.Answers.{faultOf}
-use Rattle.judge.specs.declared.Fault.{Fault}
+use Rattle.faults.specs.Answers.{faultOf}
+use Rattle.faults.specs.declared.Fault.{Fault}
 use Rattle.judge2.specs.Answers.{findingOf, judgedAs}
 use Rattle.judge2.specs.declared.Judgement.{Judgement}
 use Rattle.judge2.specs.declared.Judgement.the-variants.{Sound, BadLength, BadVersion, BadShape, Unsound}

@@ -13,10 +13,10 @@ use Rattle.fields.specs.declared.Entry.{Entry}
 use Rattle.fields.specs.declared.Entry.the-variants.{Vacant, File, Directory}
 use Rattle.fields.specs.declared.Page.{Page}
 use Rattle.fields.specs.Read.{entryOf}
-use Rattle.audit.specs.Visit.{directoriesAt}
-use Rattle.audit.specs.Lent.{position, rest}
-use Rattle.audit.proofs.Claims.{read-as}
-use Rattle.audit.proofs.Names.{dirs-next, Pushes, pushes-last}
+use Rattle.claims.specs.Claim.{directoriesAt}
+use Rattle.claims.specs.Lent.{position, rest}
+use Rattle.claims.proofs.Claims.{read-as}
+use Rattle.claims.proofs.Names.{dirs-next, Pushes, pushes-last}
 use Rattle.owner_rows.specs.Says.{directoryAt, Pushed}
 
 -- ---- one entry, by what was read at its position

@@ -17,9 +17,10 @@ use Rattle.fields.specs.declared.Entry.{Entry}
 use Rattle.fields.specs.declared.Entry.the-variants.{File, Directory}
 use Rattle.fields.specs.declared.Page.{Page}
 use Rattle.fields.specs.Read.{entryOf}
-use Rattle.audit.specs.Visit.{Visited, stops, goes, thenVisit, claim, claimChain, claimEntry, claimEntries, directoriesAt, visit}
-use Rattle.audit.specs.Lent.{position, rest, Row}
-use Rattle.audit.proofs.Claims.{never, page-claimed, chain-next, chain-end, chain-goes, read-as, entries-next, entries-go}
+use Rattle.claims.specs.Claim.{Visited, stops, goes, thenVisit, claim, claimChain, claimEntry, claimEntries, directoriesAt}
+use Rattle.audit.specs.Visit.{visit}
+use Rattle.claims.specs.Lent.{position, rest, Row}
+use Rattle.claims.proofs.Claims.{never, page-claimed, chain-next, chain-end, chain-goes, read-as, entries-next, entries-go}
 use Rattle.audit.proofs.Stands.{Stands, entries-asked, stands-unnamed, stands-unclaimed, push-fits, stands-next}
 use Rattle.owner_rows.specs.Says.{SaysYes, Pushed}
 

@@ -11,8 +11,10 @@ use Rattle.model.specs.Layout.{pageCount, validLength, validHeader}
 use Rattle.model.specs.Sound.{sound}
 use Rattle.laws.proofs.Facts.{sound-facts}
 use Rattle.audit.specs.Owner.{ownerRow, ownerNumber, ownerNumbers}
-use Rattle.audit.specs.Visit.{Visited, stops, goes, visit, isMarked, concluded, firstRow}
-use Rattle.audit.specs.Lent.{Row}
+use Rattle.claims.specs.Claim.{Visited, stops, goes}
+use Rattle.audit.specs.Visit.{visit, concluded, firstRow}
+use Rattle.agreement.specs.Marked.{isMarked}
+use Rattle.claims.specs.Lent.{Row}
 use Rattle.audit.specs.Demand.{AuditDemand}
 use Rattle.audit.proofs.Promise.{audit-demand}
 use Rattle.audit.proofs.Marks as Marks

@@ -6,7 +6,7 @@ use lib.ListN.{length, take, replicate}
 use Rattle.volume.specs.Bytes.{Bytes}
 use Rattle.model.specs.Entry.{entryAt}
 use Rattle.model.specs.Sound.{inDirectory}
-use Rattle.audit.specs.Visit.{Visited, goes}
+use Rattle.claims.specs.Claim.{Visited, goes}
 
 -- a part of the visit that says yes: it leaves a row
 pub record SaysYes (v : Visited) : Type 0 where

@@ -10,8 +10,9 @@ ghost use lib.ListN.{length};
 ghost use Rattle.model.specs.Layout.{pageCount};
 ghost use Rattle.model.specs.Entry.{entries, entryAt};
 ghost use Rattle.audit.specs.Owner.{ownerNumbers};
-ghost use Rattle.audit.specs.Visit.{goes, claim, claimChain, claimEntry, claimEntries, directoriesAt, visit, firstRow};
-ghost use Rattle.audit.specs.Lent.{Row, free};
+ghost use Rattle.claims.specs.Claim.{goes, claim, claimChain, claimEntry, claimEntries, directoriesAt};
+ghost use Rattle.audit.specs.Visit.{visit, firstRow, free};
+ghost use Rattle.claims.specs.Lent.{Row};
 ghost use Rattle.owner_rows.specs.Says.{SaysYes, directoryAt, Pushed};
 ghost use Rattle.owner_rows.specs.Unnamed.{Unnamed};
 

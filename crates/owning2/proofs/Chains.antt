@@ -18,11 +18,11 @@ use Rattle.model.specs.Judge.{fault, clean, thenJudge, judgePage, judgeChain, b
 use Rattle.model2.specs.Version2.{view2}
 use Rattle.shape.specs.declared.Shape.{Shape}
 use Rattle.shape.specs.Geometry.{geometryOf}
-use Rattle.judge.specs.declared.Check.{Check}
-use Rattle.judge.specs.declared.Check.the-variants.{Clean, Faulty}
-use Rattle.judge.specs.declared.Fault.{Fault}
-use Rattle.judge.specs.Answers.{faultOf, outcome}
-use Rattle.judge.proofs.Marks.{clean-of, fault-of}
+use Rattle.faults.specs.declared.Check.{Check}
+use Rattle.faults.specs.declared.Check.the-variants.{Clean, Faulty}
+use Rattle.faults.specs.declared.Fault.{Fault}
+use Rattle.faults.specs.Answers.{faultOf, outcome}
+use Rattle.faults.proofs.Answers.{clean-of, fault-of}
 use Rattle.owning2.specs.Ready.{Ready, follows}
 use Rattle.owning2.proofs.Pages.{then-fault, then-clean, still, next-is, link-lies, page-here}
 

@@ -22,11 +22,11 @@ use Rattle.shape.specs.declared.Shape.{Shape}
 use Rattle.shape.specs.Geometry.{geometryOf}
 use Rattle.cursor2.specs.Row.{behind}
 use Rattle.cursor2.proofs.Turns.{pages-first, behind-end}
-use Rattle.judge.specs.declared.Check.{Check}
-use Rattle.judge.specs.declared.Check.the-variants.{Clean, Faulty}
-use Rattle.judge.specs.declared.Fault.{Fault}
-use Rattle.judge.specs.Answers.{faultOf, outcome}
-use Rattle.judge.proofs.Marks.{clean-of, fault-of}
+use Rattle.faults.specs.declared.Check.{Check}
+use Rattle.faults.specs.declared.Check.the-variants.{Clean, Faulty}
+use Rattle.faults.specs.declared.Fault.{Fault}
+use Rattle.faults.specs.Answers.{faultOf, outcome}
+use Rattle.faults.proofs.Answers.{clean-of, fault-of}
 use Rattle.owning2.specs.Ready.{Ready, follows}
 use Rattle.owning2.proofs.Pages.{then-fault, then-clean, still, next-is, link-lies, some-page, page-here}
 

@@ -1,14 +1,14 @@
 // The pages of a version 2 image get their owner (paper 02 §2 and §12): one page, a file's chain, a directory's pages, and the root's after page 0.
-// No function changes the image. Faults are those of `judge`, told by the page that an entry stands on and its number there.
+// No function changes the image. Faults are those of `faults`, told by the page that an entry stands on and its number there.
+use faults::Check;
+use faults::Fault;
 use fields::Page;
-use judge::Check;
-use judge::Fault;
 use shape::Shape;
 ghost use mathlib.Core.Path.{_≡_};
 ghost use mathlib.Core.List.{tail};
 ghost use Rattle.model.specs.Judge.{clean, judgePage, judgeChain, judgePages};
 ghost use Rattle.model2.specs.Version2.{linkedPages, view2};
-ghost use Rattle.judge.specs.Answers.{faultOf, outcome};
+ghost use Rattle.faults.specs.Answers.{faultOf, outcome};
 ghost use Rattle.owning2.specs.Ready.{Ready, follows};
 
 // A page gets its owner. `range` is the fault of a page that an entry cannot own, for only the entry knows its place.
@@ -26,7 +26,7 @@ fn own_page(image: &[u8], shape: Shape, marks: &mut [u8], page: Page, range: Fau
     if marks[p] != 0 {
         return Check::Faulty(Fault::OwnedTwice(page));
     }
-    if shape_bitmap::bit(image, shape, page) != 1 {
+    if shape_bits::bit(image, shape, page) != 1 {
         return Check::Faulty(Fault::MarkedFree(page));
     }
     marks[p] = 1;

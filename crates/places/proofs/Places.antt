@@ -18,8 +18,9 @@ use Rattle.model.specs.Refusal.{settle}
 use Rattle.model.specs.Meaning.{faultTold, firstFault, imageLines}
 use Rattle.model.specs.Judge.{Judged, fault, clean, judge, isClean}
 use Rattle.judge.specs.Answers as found
-use Rattle.judge.specs.Answers.{Finding, faultOf, findingOf, judgedAs, concluded}
-use Rattle.judge.specs.declared.Fault.{Fault}
+use Rattle.faults.specs.Answers.{faultOf}
+use Rattle.judge.specs.Answers.{Finding, findingOf, judgedAs, concluded}
+use Rattle.faults.specs.declared.Fault.{Fault}
 use Rattle.judge.specs.declared.Judgement.{Judgement}
 use Rattle.judge.specs.declared.Judgement.the-variants.{Sound, BadLength, BadHeader, Unsound}
 use Rattle.laws.proofs.Judged.{judge-sound}

@@ -1,10 +1,10 @@
 // Why a call says no: one case for each number of the paper's table that a call can give, with its place where it has one;
 // the faults of an image are the judge's own cases.
 // The code says the case, the contracts say its number and place, by `told` in specs/; nothing else decides a number.
-use judge::Fault;
+use faults::Fault;
 ghost use mathlib.Core.Path.{_≡_};
 ghost use Rattle.model.specs.Meaning.{faultTold};
-ghost use Rattle.judge.specs.Answers.{faultOf};
+ghost use Rattle.faults.specs.Answers.{faultOf};
 ghost use Rattle.refusals.specs.Told.{told};
 
 pub enum Refusal {

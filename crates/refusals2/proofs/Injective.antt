@@ -4,7 +4,7 @@ use Prim.Native.Nat.{ℕ}
 use lib.Dec.{eqb}
 use Rattle.volume.specs.Bytes.{if_then_else_}
 use Rattle.model.specs.Call.{Refusal as Model}
-use Rattle.judge.specs.declared.Fault.the-variants.{BadEntry, BadChain, OwnedTwice, MarkedFree, LostPage, BadCount}
+use Rattle.faults.specs.declared.Fault.the-variants.{BadEntry, BadChain, OwnedTwice, MarkedFree, LostPage, BadCount}
 use Rattle.refusals.proofs.Injective.{faultCase}
 use Rattle.refusals2.specs.Told.{told}
 use Rattle.refusals2.specs.declared.Refusal.{Refusal}

@@ -1,7 +1,7 @@
 -- The paper's number and place of each case of version 2's enum `Refusal`.
 use Rattle.model.specs.Call.{Refusal as Model, refusal, refusalAt}
 use Rattle.model.specs.Meaning.{faultTold}
-use Rattle.judge.specs.Answers.{faultOf}
+use Rattle.faults.specs.Answers.{faultOf}
 use Rattle.refusals2.specs.declared.Refusal.{Refusal}
 use Rattle.refusals2.specs.declared.Refusal.the-variants.{BadLength, BadVersion, BadShape, Unsound, NoPath, BadDate, IsRoot, NoSuchName, NotADirectory, NameTaken, IsADirectory, Locked, PastEnd, NoFreePages, NotEmpty}
 

@@ -1,7 +1,7 @@
 // Why a call on a cartridge of version 2 says no: one case for each number of the paper's table that version 2 can give (paper 02 §12), with its place where
 // it has one; the faults of an image are the judge's own cases. 9 and 29 are not among them: a directory grows, and there are no stores.
 // The code says the case, the contracts say its number and place, by `told` in specs/; nothing else decides a number.
-use judge::Fault;
+use faults::Fault;
 ghost use mathlib.Core.Path.{_≡_};
 ghost use Rattle.refusals2.specs.Told.{told};
 

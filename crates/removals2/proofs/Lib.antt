@@ -1,3 +1,2 @@
 -- What each call answers and leaves.
 pub mod Removes
-pub mod Locks

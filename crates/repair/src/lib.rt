@@ -1,7 +1,7 @@
 // Lost pages won back (02 §7): the judge's walk, and the bits and the count set anew by its owner marks. The one public call has no `requires`:
 // whatever the bytes, it answers what `repairAnswer` says and leaves the image as `repairAfter` says.
+use faults::Check;
 use fields::Page;
-use judge::Check;
 use refusals::Refusal;
 use zealfs::ChangeAnswer;
 ghost use mathlib.Core.Path.{_≡_};
@@ -11,7 +11,7 @@ ghost use lib.ListN.{length, replicate};
 ghost use Rattle.volume.specs.Bytes.{if_then_else_};
 ghost use Rattle.volume.specs.Geometry as On;
 ghost use Rattle.model.specs.Layout.{version1, pageCount, validLength, validHeader};
-ghost use Rattle.judge.specs.Walk.{Marked};
+ghost use Rattle.owning.specs.Marked.{Marked};
 ghost use Rattle.repair.specs.Remark.{remarked, recounted};
 ghost use Rattle.repair.specs.Repair.{repairAnswer, repairAfter};
 ghost use Rattle.repair.specs.Taken.{isTaken, Shown, Right};

@@ -24,13 +24,13 @@ use Rattle.laws2.proofs.Version2.{lies2}
 use Rattle.shape.specs.declared.Shape.{Shape}
 use Rattle.shape.specs.Geometry.{geometryOf}
 use Rattle.fields.proofs.Plain.{told, untold}
-use Rattle.judge.specs.declared.Check.{Check}
-use Rattle.judge.specs.declared.Check.the-variants.{Clean, Faulty}
-use Rattle.judge.specs.declared.Fault.{Fault}
-use Rattle.judge.specs.Answers.{faultOf, outcome}
-use Rattle.judge.specs.Walk.{Searched}
-use Rattle.judge.proofs.Lost.{lostFrom}
-use Rattle.judge.proofs.Rest.{lost-decides, none-lost-decides}
+use Rattle.faults.specs.declared.Check.{Check}
+use Rattle.faults.specs.declared.Check.the-variants.{Clean, Faulty}
+use Rattle.faults.specs.declared.Fault.{Fault}
+use Rattle.faults.specs.Answers.{faultOf, outcome}
+use Rattle.lost.specs.Searched.{Searched}
+use Rattle.lost.proofs.Lost.{lostFrom}
+use Rattle.lost.proofs.Decides.{lost-decides, none-lost-decides}
 use Rattle.owning2.specs.Ready.{Ready}
 use Rattle.owning2.proofs.Pages.{aside-is}
 

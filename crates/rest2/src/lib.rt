@@ -1,8 +1,8 @@
 // What the judge of version 2 asks after a clean walk (paper 02 §2 and §12): the lowest lost page, then the bits of the pages set aside, then the count.
-// No function changes the image or the marks. Faults are those of `judge`, and lost pages are looked for by its search.
+// No function changes the image or the marks. Faults are those of `faults`, and lost pages are looked for by `lost`.
+use faults::Check;
+use faults::Fault;
 use fields::Page;
-use judge::Check;
-use judge::Fault;
 use shape::Shape;
 ghost use mathlib.Core.Path.{_≡_};
 ghost use Prim.Native.Nat.{_+_, _≤_};
@@ -12,7 +12,7 @@ ghost use Rattle.model.specs.Judge.{judgeRest};
 ghost use Rattle.model2.specs.Layout.{geometry2, codeIn};
 ghost use Rattle.model2.specs.Version2.{view2};
 ghost use Rattle.shape.specs.Geometry.{geometryOf};
-ghost use Rattle.judge.specs.Answers.{outcome};
+ghost use Rattle.faults.specs.Answers.{outcome};
 ghost use Rattle.owning2.specs.Ready.{Ready};
 
 // The bits of the pages below n are 1.
@@ -22,7 +22,7 @@ fn are_marked(image: &[u8], shape: Shape, n: usize) -> bool
 {
     let mut marked = true;
     for p in 0..n {
-        marked = marked & (shape_bitmap::bit(image, shape, Page(p)) == 1);
+        marked = marked & (shape_bits::bit(image, shape, Page(p)) == 1);
     }
     marked
 }
@@ -33,7 +33,7 @@ pub fn judge_rest(image: &[u8], shape: Shape, marks: &[u8]) -> Check
     requires { ⌜ Ready (now image) shape (now marks) ⌝ }
     ensures { λ r. ⌜ outcome r (now (marks .entry)) ≡ judgeRest (view2 (now (image .entry))) (now (marks .entry)) ⌝ }
 {
-    let lost = judge::lost_page(image, shape, marks);
+    let lost = lost::lost_page(image, shape, marks);
     if let Check::Faulty(fault) = lost {
         return Check::Faulty(fault);
     }

@@ -1,21 +1,15 @@
 -- The loops over the words, a turn at a time: the pages of a word add its zeros to the count, and the search goes by what is left of the numbers
 -- to look at.
 use mathlib.Core.Path.{_≡_, refl, sym, ap, _∙_}
-use mathlib.Core.Logic.{_≢_}
-use Prim.Native.Nat.{ℕ, zero, suc, min, _+_, _-_, _*_, _%_, _^_, _≤_, _<_}
-use native.Mathlib.Nat.{sub-zero, add-zero, zero-min}
-use native.Mathlib.Numerals.{add-one}
+use Prim.Native.Nat.{ℕ, min, _+_, _-_, _*_, _%_, _^_, _≤_, _<_}
+use native.Mathlib.Nat.{zero-min}
 use native.Mathlib.Omega.{arith}
-use native.Mathlib.Decide.{decLt}
-use mathlib.Core.Option.{Option·getD}
-use borrow.Author.Tests.{eq-eqb, ne-eqb}
 use lib.Count.{ones}
 use Rattle.volume.specs.Bytes.{Bytes, bit}
-use Rattle.volume.specs.Lists.{first, countFrom}
-use Rattle.volume.specs.Geometry.{Geometry, pageBit, isFree, zeroBits, lowestFree}
+use Rattle.volume.specs.Geometry.{Geometry, pageBit, zeroBits, lowestFree}
 use Rattle.shape_bitmap.specs.declared.Free.the-variants.{At, None}
 use Rattle.shape_bitmap.specs.Lowest.{Before, Lowest}
-use Rattle.shape_bitmap.specs.Words.{Holds, Ends}
+use Rattle.words.specs.Words.{Holds, Ends}
 use Rattle.volume.proofs.Search.{lowestFrom, from-start, from-free, from-end, from-run}
 use Rattle.shape_bitmap.proofs.Words.{zeros-and-ones, holds-pages}
 

@@ -204,7 +204,7 @@ pub fn grow_unzeroed(image: &mut [u8], shape: Shape, n: usize, joint: Cell, coun
     }
     let mut at = joint;
     let mut searched = 0;
-    for _ in 0..count - 1 {
+    for _ in 1..count {
         let page = append_claimed(image, shape, n, at, searched);
         at = shape::link_cell(shape, page);
         searched = page.0 / 64;

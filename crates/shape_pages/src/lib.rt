@@ -91,7 +91,7 @@ pub fn claim_page(image: &mut [u8], shape: Shape, page: Page)
     ensures { λ _. ⌜ now (image .exit) ≡ claimed (geometryOf shape) (page .0) (now (image .entry)) ⌝ }
 {
     let count = shape.count;
-    shape_bitmap::mark(image, shape, page);
+    shape_bits::mark(image, shape, page);
     let free = shape::load(image, count);
     shape::store(image, count, free - 1);
     shape::set_link(image, shape, page, Page(0));
@@ -113,6 +113,6 @@ pub fn release_page(image: &mut [u8], shape: Shape, page: Page)
 {
     let count = shape.count;
     let free = shape::load(image, count);
-    shape_bitmap::unmark(image, shape, page);
+    shape_bits::unmark(image, shape, page);
     shape::store(image, count, free + 1);
 }

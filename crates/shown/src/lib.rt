@@ -3,8 +3,8 @@
 ghost use mathlib.Core.Path.{_≡_};
 ghost use Prim.Native.Nat.{_≤_};
 ghost use lib.ListN.{length};
+use faults::Fault;
 use fields::Position;
-use judge::Fault;
 use refusals::Refusal;
 use store::StoreAnswer;
 use zealfs::ChangeAnswer;

@@ -19,7 +19,7 @@ use Rattle.model.specs.Layout.{pageCount, link}
 use Rattle.model.specs.Entry.{startAt, entryCount, entriesStart, entries, Entry, vacant, aFile, aDirectory}
 use Rattle.model.specs.Version1.{view}
 use Rattle.model.specs.Image.{contentOn}
-use Rattle.audit.specs.Lent.{position, rest as from}
+use Rattle.claims.specs.Lent.{position, rest as from}
 use Rattle.moves.specs.Tidy.{placeOf, movedEntry, ownerEntry, movedAs, movedPage}
 use Rattle.moves.proofs.Bytewise.{length-movedEntry}
 use Rattle.proposals.specs.Steps.{fieldBytes}

@@ -15,7 +15,7 @@ ghost use Rattle.audit.specs.Owner.{ownerNumbers};
 ghost use Rattle.moves.specs.Tidy.{tidyAnswer, tidyAfter};
 ghost use Rattle.moves.specs.Propose.{proposeAnswer, proposeAfter};
 ghost use Rattle.link_list.specs.Links.{readLinks, writeLinks, findLink, checkLinks, linkAnswer, linkAfter};
-ghost use Rattle.link_rows.specs.Judged.{rowsOf};
+ghost use Rattle.link_judge.specs.Judged.{rowsOf};
 ghost use Rattle.link_looks.specs.Looks.{numbersAfter};
 ghost use Rattle.codes.specs.Codes.{codeOf};
 ghost use Rattle.link_codes.specs.Codes.{linkCodeOf};

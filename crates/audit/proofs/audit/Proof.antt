@@ -1,6 +1,6 @@
 -- `audit` asks for the length and the header, and lends a row in which the header alone owns a page.
 use Rattle.fields.proofs.Plain.{arith, needs}
-use Rattle.audit.proofs.Claims.{told}
+use Rattle.claims.proofs.Claims.{told}
 use Rattle.audit.proofs.Marks.{allowed, few, first-length, first-row, no-length, no-header, no-row, yes-row}
 use Rattle.audit.proofs.audit as fn
 

@@ -4,10 +4,12 @@ use borrow.Fn.PlainCycle.{Measures, is, falls, and}
 use Rattle.fields.proofs as fields
 use Rattle.fields.proofs.Plain.{needs, arith, ℕ, _+_, _*_, _-_, _≤_, _<_}
 use Rattle.view_laws.specs.Marks.{unowned}
-use Rattle.judge.proofs.Marks.{clean-of, page-made}
+use Rattle.faults.proofs.Answers.{clean-of}
+use Rattle.owning.proofs as owning
+use Rattle.owning.proofs.Marks.{page-made}
+use Rattle.fresh.proofs as fresh
 use Rattle.judge.proofs.Walk.{Stands, stands-first, stands-next, stands-vacant, stands-faulty, stands-last}
 use Rattle.judge.proofs.Walk.{vacant-entry, file-flags, directory-flags, stale-file, fresh-file, stale-directory, sized-directory, faulty-page, directory-below}
-use Rattle.judge.proofs as judge
 use Rattle.judge.proofs.judge_directory.{Kinds.ps as dps, Reads.Pre as dpre, Reads.Post as dpost}
 use Rattle.judge.proofs.judge_entry.{Kinds.ps as eps, Reads.Pre as epre, Reads.Post as epost}
 use Rattle.judge.proofs.+judge_directory+judge_entry.{statement, Tie.close, Lts-judge_directory.spec as directory, Lts-judge_entry.spec as entry}
@@ -59,14 +61,14 @@ pub +judge-directory+judge-entry-spec : {M : Type 1} → statement M
       fields.entry_position.Reads.Learnt,
       fields.entry_at.Reads.Asked,
       fields.entry_at.Reads.Learnt,
-      judge.name_is_fresh.Reads.Asked,
-      judge.name_is_fresh.Reads.Learnt,
+      fresh.name_is_fresh.Reads.Asked,
+      fresh.name_is_fresh.Reads.Learnt,
       fields.pages_for.Reads.Asked,
       fields.pages_for.Reads.Learnt,
-      judge.own_chain.Reads.Asked,
-      judge.own_chain.Reads.Learnt,
-      judge.own_page.Reads.Asked,
-      judge.own_page.Reads.Learnt,
+      owning.own_chain.Reads.Asked,
+      owning.own_chain.Reads.Learnt,
+      owning.own_page.Reads.Asked,
+      owning.own_page.Reads.Learnt,
       and 2 dps (falls 2 dps _<_ μ-directory t) dpre,
       dpost,
     )

@@ -1,5 +1,5 @@
 -- The rows packed so far with those that are left are the file (`Packing`).
-use Rattle.link_rows.proofs.Lists.{Packing, packing-first, packing-fits, packing-next, packed-long, packed-all}
+use Rattle.link_rows.proofs.Packs.{Packing, packing-first, packing-fits, packing-next, packed-long, packed-all}
 use borrow.Author.Needs.{needs}
 use native.Mathlib.Omega.{arith}
 use mathlib.Core.Path.{_≡_, refl}

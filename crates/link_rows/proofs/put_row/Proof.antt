@@ -1,7 +1,8 @@
 -- Three numbers put one behind the other are the row's bytes; each has at most 8.
 
 use Rattle.link_list.proofs.Rows.{held, range-fits}
-use Rattle.link_rows.proofs.Puts.{groups-short, row-put}
+use Rattle.link_numbers.proofs.Puts.{groups-short}
+use Rattle.link_rows.proofs.Packs.{row-put}
 use native.Mathlib.Omega.{arith}
 use borrow.Author.Needs.{needs}
 use Rattle.link_rows.proofs.put_row.Statement.{statement}

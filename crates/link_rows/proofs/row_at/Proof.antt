@@ -1,5 +1,5 @@
 -- A row is three numbers, one behind the other, that are in range.
-use Rattle.link_rows.proofs.Ranges.{Three, row-none, row-counted, row-valued, three-read, row-out, row-in}
+use Rattle.link_rows.proofs.Rows.{Three, row-none, row-counted, row-valued, three-read, row-out, row-in}
 use lib.ListN.{drop}
 use borrow.Author.Needs.{needs}
 use Rattle.link_rows.proofs.row_at.Statement.{statement}

@@ -1,5 +1,5 @@
 -- A step is the row that was read and the byte behind it, or a row of zeros.
-use Rattle.link_rows.proofs.Ranges.{step-is, step-none}
+use Rattle.link_rows.proofs.Rows.{step-is, step-none}
 use mathlib.Core.Path.{sym}
 use borrow.Author.Needs.{needs}
 use Rattle.link_rows.proofs.row_from.Statement.{statement}

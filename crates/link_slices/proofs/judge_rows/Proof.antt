@@ -51,19 +51,18 @@ use denote.Triple.Walked.{says, Stays, stay-none-slice, walkOf, Walks, ends-at, 
 use Rattle.link_list.specs.declared.Row.{Row}
 use Rattle.link_list.proofs.Row as T
 use Rattle.link_list.proofs.Row.Laws as T′
-use Rattle.link_rows.specs.declared.Judged.{Judged}
-use Rattle.link_rows.proofs.Judged as J
-use Rattle.link_rows.proofs.Judged.Laws as J′
-use Rattle.link_rows.specs.Told.{noRow}
-use Rattle.link_rows.specs.Judged.{unjudged, judgedNext, judgedFrom}
-use Rattle.link_rows.proofs.fresh as fresh
-use Rattle.link_rows.proofs.fresh.Symbol as fresh-def
-use Rattle.link_rows.proofs.fresh.Symbol.{name as #link-rows·fresh}
-use Rattle.link_rows.proofs.fresh.Met as fresh-thm
-use Rattle.link_rows.proofs.judge_row as judge
-use Rattle.link_rows.proofs.judge_row.Symbol as judge-def
-use Rattle.link_rows.proofs.judge_row.Symbol.{name as #link-rows·judge-row}
-use Rattle.link_rows.proofs.judge_row.Met as judge-thm
+use Rattle.link_judge.specs.declared.Judged.{Judged}
+use Rattle.link_judge.proofs.Judged as J
+use Rattle.link_judge.proofs.Judged.Laws as J′
+use Rattle.link_judge.specs.Judged.{noRow, unjudged, judgedNext, judgedFrom}
+use Rattle.link_judge.proofs.fresh as fresh
+use Rattle.link_judge.proofs.fresh.Symbol as fresh-def
+use Rattle.link_judge.proofs.fresh.Symbol.{name as #link-judge·fresh}
+use Rattle.link_judge.proofs.fresh.Met as fresh-thm
+use Rattle.link_judge.proofs.judge_row as judge
+use Rattle.link_judge.proofs.judge_row.Symbol as judge-def
+use Rattle.link_judge.proofs.judge_row.Symbol.{name as #link-judge·judge-row}
+use Rattle.link_judge.proofs.judge_row.Met as judge-thm
 use Rattle.link_slices.proofs.Locals.{place-fits, tyAt}
 use Rattle.link_slices.proofs.judge_rows.Key.{name as #link-slices·judge-rows}
 use Rattle.link_slices.proofs.judge_rows as f
@@ -145,7 +144,7 @@ module _ {M : Type 1} (𝓤 : URA M) (H : Heap 𝓤) (A : Atoms 𝓤) (W : Given
   said : (j : Judged) (i : ℕ) (r : Row) (n : Judged) → ent 𝓤 (ensured 𝓤 H A judge.ended (judge.clauses 𝓤 H A mem run) tt (j, (i, (r, tt))) tt n) (fact 𝓤 (n ≡ judgedNext j i r))
   said j i r n = exE 𝓤 _ (λ ws. snd∗ 𝓤 (sem 𝓤 H A (lasts judge.ended tt (j, (i, (r, tt))) ws)) (fact 𝓤 (n ≡ judgedNext j i r)))
 
-  module _ (𝓣 : Tables 𝓤 H) (g : Room T.the-row (length xs)) (fm : FmC 𝓤 H (W .laws) (𝓣 .C)) (known-fresh : Triple 𝓤 (𝓣 .C #link-rows·fresh) (Fresh 𝓤 H A mem run)) (known : Triple 𝓤 (𝓣 .C #link-rows·judge-row) (Judge 𝓤 H A mem run))
+  module _ (𝓣 : Tables 𝓤 H) (g : Room T.the-row (length xs)) (fm : FmC 𝓤 H (W .laws) (𝓣 .C)) (known-fresh : Triple 𝓤 (𝓣 .C #link-judge·fresh) (Fresh 𝓤 H A mem run)) (known : Triple 𝓤 (𝓣 .C #link-judge·judge-row) (Judge 𝓤 H A mem run))
       (l₀ l₁ l₂ l₃ l₄ l₅ l₆ l₇ : ℕ) where
     abbrev C : Calls 𝓤 H
     C = 𝓣 .C
@@ -301,7 +300,7 @@ module _ {M : Type 1} (𝓤 : URA M) (H : Heap 𝓤) (A : Atoms 𝓤) (W : Given
         keep ! (0 ∷ 18 ∷ 12 ∷ 10 ∷ 8 ∷ 6 ∷ 4 ∷ 2 ∷ 14 ∷ 16 ∷ 1 ∷ 17 ∷ 15 ∷ 13 ∷ 11 ∷ 9 ∷ 7 ∷ 5 ∷ 3 ∷ []) $
         by ! (looked n (subst (Is J.the-row n) (LL.tells J.the-type J′.the-laws n (u ∷ []) is) is) new)))))
 
-  walk : (𝓣 : Tables 𝓤 H) → Triple 𝓤 (𝓣 .C #link-rows·fresh) (Fresh 𝓤 H A mem run) → Triple 𝓤 (𝓣 .C #link-rows·judge-row) (Judge 𝓤 H A mem run) → Room T.the-row (length xs)
+  walk : (𝓣 : Tables 𝓤 H) → Triple 𝓤 (𝓣 .C #link-judge·fresh) (Fresh 𝓤 H A mem run) → Triple 𝓤 (𝓣 .C #link-judge·judge-row) (Judge 𝓤 H A mem run) → Room T.the-row (length xs)
       → ent 𝓤 (onEntry 𝓤 H A f.signature (κ, tt) (q, tt) x at) (WpFn 𝓤 H (𝓣 .C) (𝓣 .Λ) code.function (sliceVal (b, o) (length xs) ∷ []) Post)
   walk 𝓣 known-fresh known g =
       qed W ((‵ (flft κ q) ⊛ ‵ ftrue) ∷ ‵ (owns (ShrSlice (named 0) κ T.the-row ∷ []) x at) ∷ []) ∵
@@ -314,7 +313,7 @@ module _ {M : Type 1} (𝓤 : URA M) (H : Heap 𝓤) (A : Atoms 𝓤) (W : Given
       by ! (starts 𝓣 g (fmOf 𝓤 H (W .laws) 𝓣) known-fresh known l₀ l₁ l₂ l₃ l₄ l₅ l₆ l₇)))))))))
 
 module _ {M : Type 1} (𝓤 : URA M) (H : Heap 𝓤) (A : Atoms 𝓤) (W : Given 𝓤 H A) (mem : Memory → SProp 𝓤) (run : Routine → Fun 𝓤) (𝓣 : Tables 𝓤 H)
-    (known-fresh : Triple 𝓤 (𝓣 .C #link-rows·fresh) (Fresh 𝓤 H A mem run)) (known : Triple 𝓤 (𝓣 .C #link-rows·judge-row) (Judge 𝓤 H A mem run)) where
+    (known-fresh : Triple 𝓤 (𝓣 .C #link-judge·fresh) (Fresh 𝓤 H A mem run)) (known : Triple 𝓤 (𝓣 .C #link-judge·judge-row) (Judge 𝓤 H A mem run)) where
   judge-walks : Walks 𝓤 H A f.ended stayed (WpFn 𝓤 H (𝓣 .C) (𝓣 .Λ) code.function) (f.clauses 𝓤 H A mem run)
   judge-walks = walked 𝓤 H A f.ended stayed (f.clauses 𝓤 H A mem run) (WpFn 𝓤 H (𝓣 .C) (𝓣 .Λ) code.function) (λ κs. (slice-vals, tt)) (λ κs. (shr-slice-tells (named 0) (κs .0) T.the-row, tt))
       (λ κs qs bounds a g are. via 𝓤 _ (fst∗ 𝓤 _ (emp 𝓤))
@@ -331,5 +330,5 @@ judge-rows-spec 𝓤 H 𝓜 𝓖 𝓡 =
     entered 𝓤 H (tripleOf 𝓤 H (𝓖 .A) f.signature (f.spec 𝓤 H (𝓖 .A) (𝓜 .mem) (𝓡 .run)))
     (tables 𝓤 H 𝓜 𝓡 code.env .C) (tables 𝓤 H 𝓜 𝓡 code.env .Λ) #link-slices·judge-rows code.function (code.unfolded 𝓤 H 𝓜 𝓡)
     (judge-meets 𝓤 H (𝓖 .A) (givenOf 𝓤 H 𝓜 𝓖) (𝓜 .mem) (𝓡 .run) (tablesOf 𝓤 H 𝓜 (tables 𝓤 H 𝓜 𝓡 code.env))
-    (cited 𝓤 H (Fresh 𝓤 H (𝓖 .A) (𝓜 .mem) (𝓡 .run)) 𝓜 𝓡 code.env #link-rows·fresh fresh-def.routine code.calls-link-rows·fresh (fresh-thm.met 𝓤 H 𝓜 𝓖 𝓡))
-    (cited 𝓤 H (Judge 𝓤 H (𝓖 .A) (𝓜 .mem) (𝓡 .run)) 𝓜 𝓡 code.env #link-rows·judge-row judge-def.routine code.calls-link-rows·judge-row (judge-thm.met 𝓤 H 𝓜 𝓖 𝓡)))
+    (cited 𝓤 H (Fresh 𝓤 H (𝓖 .A) (𝓜 .mem) (𝓡 .run)) 𝓜 𝓡 code.env #link-judge·fresh fresh-def.routine code.calls-link-judge·fresh (fresh-thm.met 𝓤 H 𝓜 𝓖 𝓡))
+    (cited 𝓤 H (Judge 𝓤 H (𝓖 .A) (𝓜 .mem) (𝓡 .run)) 𝓜 𝓡 code.env #link-judge·judge-row judge-def.routine code.calls-link-judge·judge-row (judge-thm.met 𝓤 H 𝓜 𝓖 𝓡)))

@@ -56,7 +56,7 @@ use denote.Triple.Walked.{says, Stays, stay-slice, stay-none-slice, walkOf, Walk
 use Rattle.link_list.specs.declared.Row.{Row}
 use Rattle.link_list.proofs.Row as T
 use Rattle.link_list.proofs.Row.Laws as T′
-use Rattle.link_rows.specs.Told.{noRow}
+use Rattle.link_judge.specs.Judged.{noRow}
 use Rattle.link_slices.specs.Writing.{packedAt, packedBytes, packedFrom}
 use Rattle.link_slices.proofs.Locals.{place-fits, tyAt}
 use Rattle.link_slices.proofs.pack_row as pack

@@ -53,7 +53,8 @@ use Rattle.link_list.proofs.Row.Laws as T′
 use Rattle.link_rows.specs.declared.Step.{Step}
 use Rattle.link_rows.proofs.Step as S
 use Rattle.link_rows.proofs.Step.Laws as S′
-use Rattle.link_rows.specs.Told.{noRow, stepAt}
+use Rattle.link_judge.specs.Judged.{noRow}
+use Rattle.link_rows.specs.Told.{stepAt}
 use Rattle.link_rows.proofs.row_from as step
 use Rattle.link_rows.proofs.row_from.Symbol as step-def
 use Rattle.link_rows.proofs.row_from.Symbol.{name as #link-rows·row-from}

@@ -1,6 +1,6 @@
 -- What a list's judging comes to is its first bad row, and so the writing by that and the bytes is the list's.
-use Rattle.link_rows.specs.Judged.{judgedTold}
-use Rattle.link_rows.proofs.Lists.{judged-bad}
+use Rattle.link_judge.specs.Judged.{judgedTold}
+use Rattle.link_judge.proofs.Lists.{judged-bad}
 use mathlib.Core.Path.{ap, _∙_}
 use borrow.Author.Needs.{needs}
 use Rattle.link_slices.proofs.write_judged.Statement.{statement}

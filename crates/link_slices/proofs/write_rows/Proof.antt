@@ -46,10 +46,10 @@ use Rattle.link_list.specs.declared.Row.{Row}
 use Rattle.link_list.proofs.Row as T
 use Rattle.link_slices.proofs.Locals.{part-room, tyAt, big, zeros-typed, zeros-some, Kept, lends-first, first-back}
 use Rattle.link_list.specs.Links.{writeLinks, linkAnswer, linkAfter}
-use Rattle.link_rows.specs.declared.Judged.{Judged}
-use Rattle.link_rows.specs.Judged.{unjudged, judgedFrom}
-use Rattle.link_rows.proofs.Judged as J
-use Rattle.link_rows.proofs.Judged.Laws as J′
+use Rattle.link_judge.specs.declared.Judged.{Judged}
+use Rattle.link_judge.specs.Judged.{unjudged, judgedFrom}
+use Rattle.link_judge.proofs.Judged as J
+use Rattle.link_judge.proofs.Judged.Laws as J′
 use Rattle.link_answers.specs.declared.DoneAnswer.{DoneAnswer}
 use Rattle.link_answers.specs.Answers.{doneTold}
 use Rattle.link_answers.proofs.DoneAnswer as R

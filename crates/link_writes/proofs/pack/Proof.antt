@@ -1,7 +1,7 @@
 -- The judging says whether there is a file, and the packing whether it has room.
 use native.Mathlib.Omega.{arith}
 use mathlib.Core.Path.{refl, sym, ap, _∙_}
-use Rattle.link_rows.specs.Judged.{listTold, rowsOf}
+use Rattle.link_judge.specs.Judged.{listTold, rowsOf}
 use Rattle.link_writes.proofs.Packing.{packed-size, packed-long, unpacked}
 use borrow.Author.Needs.{needs}
 use Rattle.link_writes.proofs.pack.Statement.{statement}

@@ -1,7 +1,7 @@
 -- What stands before the rows has passed: a bad row is told, and for good rows the calls in turn are the writing.
 use mathlib.Core.Path.{sym, ap, _∙_}
 use Rattle.answers.specs.Answers.{changeAnswer}
-use Rattle.link_rows.specs.Judged.{listTold}
+use Rattle.link_judge.specs.Judged.{listTold}
 use Rattle.link_writes.proofs.Written.{all-passed, rows-refused, all-written}
 use borrow.Author.Needs.{needs}
 use Rattle.link_writes.proofs.put_judged.Statement.{statement}

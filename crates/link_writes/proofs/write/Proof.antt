@@ -2,7 +2,7 @@
 use lib.Seq.{length-take-le}
 use native.Mathlib.Omega.{arith}
 use mathlib.Core.Path.{sym}
-use Rattle.link_rows.specs.Judged.{rowsOf}
+use Rattle.link_judge.specs.Judged.{rowsOf}
 use borrow.Author.Needs.{needs}
 use Rattle.link_writes.proofs.write.Statement.{statement}
 use Rattle.link_writes.proofs.write.Tie as tie

@@ -1,7 +1,7 @@
 -- The listing goes by the verdict, and so does the code; a granted verdict gives what listing a sound image asks.
 use Rattle.fields.proofs.Plain.{ap, _∙_, needs}
 use Rattle.volume.specs.Bytes.{Bytes}
-use Rattle.listing_text.specs.Window.{window, poured}
+use Rattle.listing_lines.specs.Window.{window, poured}
 use Rattle.listing_text.proofs.Images.{granted-sound, granted-pages, granted-free, granted-listing, refused-listing}
 use Rattle.listing_text.proofs.list_image as fn
 

@@ -1,7 +1,7 @@
 -- The word, the number of the refusal and the end of the line are poured in order.
 use Rattle.fields.proofs.Plain.{needs}
 use Rattle.model.specs.Text.{text}
-use Rattle.listing_text.proofs.Pieces.{refused-poured}
+use Rattle.listing_text.proofs.Images.{refused-poured}
 use Rattle.listing_text.proofs.list_refused as fn
 
 pub list-refused-spec : {M : Type 1} → fn.Statement.statement M

@@ -4,9 +4,9 @@ use mathlib.Core.List.{[], _++_}
 use Rattle.volume.specs.Bytes.{Bytes}
 use Rattle.model.specs.Text.{text}
 use Rattle.model.specs.Listing.{decimal, newline}
-use Rattle.listing_text.specs.Window.{Window, window, poured}
-use Rattle.listing_text.specs.Lines.{directoryLines}
-use Rattle.listing_text.proofs.Windows.{poured-next}
+use Rattle.listing_lines.specs.Window.{Window, window, poured}
+use Rattle.listing_rows.specs.Lines.{directoryLines}
+use Rattle.listing_lines.proofs.Windows.{poured-next}
 use Rattle.listing_text.proofs.Images.{root-readable, lines-whole}
 use Rattle.listing_text.proofs.list_sound as fn
 

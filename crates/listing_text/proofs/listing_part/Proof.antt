@@ -1,8 +1,8 @@
 -- The listing was poured into a window of which nothing was filled yet.
 use Rattle.fields.proofs.Plain.{ap, _∙_, needs}
 use Rattle.model.specs.Listing.{listing}
-use Rattle.listing_text.specs.Window.{Window}
-use Rattle.listing_text.proofs.Windows.{first-window}
+use Rattle.listing_lines.specs.Window.{Window}
+use Rattle.listing_lines.proofs.Windows.{first-window}
 use Rattle.listing_text.proofs.listing_part as fn
 
 pub listing-part-spec : {M : Type 1} → fn.Statement.statement M

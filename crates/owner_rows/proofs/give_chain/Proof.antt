@@ -1,6 +1,6 @@
 -- `give_chain` gives one page a turn; what is left is the rest of the chain.
 use Rattle.fields.proofs.Plain.{needs, _≡_, refl, length}
-use Rattle.audit.specs.Visit.{claimChain}
+use Rattle.claims.specs.Claim.{claimChain}
 use Rattle.owner_rows.proofs.Gives.{chain-asks, chain-inside, chain-turn, chain-given}
 use Rattle.owner_rows.proofs.give_chain as fn
 

@@ -1,10 +1,10 @@
 -- `give_entries` gives one entry its pages a turn; what is left is the rest of the directory.
 use Rattle.fields.proofs.Plain.{needs, _≡_, refl, _-_, length}
 use Rattle.model.specs.Entry.{entries}
-use Rattle.audit.specs.Visit.{claimEntries}
-use Rattle.audit.specs.Lent.{rest}
-use Rattle.audit.proofs.Claims.{rest-all, entries-done}
-use Rattle.audit.proofs.Names.{Pushes, pushes-first}
+use Rattle.claims.specs.Claim.{claimEntries}
+use Rattle.claims.specs.Lent.{rest}
+use Rattle.claims.proofs.Claims.{rest-all, entries-done}
+use Rattle.claims.proofs.Names.{Pushes, pushes-first}
 use Rattle.owner_rows.proofs.Gives.{entry-asks, entries-turn}
 use Rattle.owner_rows.proofs.Finds.{entry-room, pushes-next, pushes-done}
 use Rattle.owner_rows.proofs.give_entries as fn

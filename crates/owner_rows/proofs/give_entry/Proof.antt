@@ -1,6 +1,6 @@
 -- `give_entry` goes by the kind of the entry, as the definition does.
 use Rattle.fields.proofs.Plain.{needs}
-use Rattle.audit.proofs.Claims.{vacant-claims}
+use Rattle.claims.proofs.Claims.{vacant-claims}
 use Rattle.owner_rows.proofs.Gives.{file-asks, file-given, directory-asks, directory-given}
 use Rattle.owner_rows.proofs.Finds.{vacant-finds, file-finds, directory-room, directory-finds}
 use Rattle.owner_rows.proofs.give_entry as fn

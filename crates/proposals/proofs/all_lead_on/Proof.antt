@@ -1,7 +1,7 @@
 -- `all_lead_on` looks at one page a turn.
 use Rattle.volume.specs.Lists.{all, countFrom}
 use Rattle.model.specs.Layout.{pageCount}
-use Rattle.audit.proofs.Claims.{told, untold}
+use Rattle.claims.proofs.Claims.{told, untold}
 use Rattle.proposals.specs.Steps.{leadsOn}
 use Rattle.proposals.proofs.Numbers.{all-pages, all-goes, all-stops}
 use mathlib.Core.Path.{_≡_, refl, sym, _∙_}

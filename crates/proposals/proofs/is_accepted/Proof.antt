@@ -1,6 +1,6 @@
 -- The four tests are those of `accepted`: the second is each number once, and the last the neighbours, by the links alone.
 use Rattle.judge.proofs.Image.{marks-length, marks-fresh}
-use Rattle.audit.proofs.Claims.{told, untold}
+use Rattle.claims.proofs.Claims.{told, untold}
 use Rattle.proposals.specs.Steps.{takes}
 use Rattle.proposals.proofs.Owned.{fits, sized}
 use Rattle.proposals.proofs.Check.{true-of, not-many, not-taken, not-staying, accepted-rest}

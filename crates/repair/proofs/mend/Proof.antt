@@ -1,6 +1,6 @@
 -- `mend` is the walk, and on a clean one the bits set by its marks.
 use Rattle.fields.proofs.Plain.{arith, needs}
-use Rattle.judge.proofs.Marks.{clean-of, fault-of}
+use Rattle.faults.proofs.Answers.{clean-of, fault-of}
 use Rattle.laws.proofs.Facts.{valid-sized}
 use Rattle.repair.proofs.Mending.{of-true, refused-walk, granted-walk}
 use Rattle.repair.proofs.Right.{walk-shown}

@@ -1,6 +1,6 @@
 -- `repair` asks for the length, then for the header, and lends a mark of 0 for each page.
 use Rattle.fields.proofs.Plain.{arith, needs}
-use Rattle.judge.proofs.Marks.{told, untold}
+use Rattle.fields.proofs.Plain.{told, untold}
 use Rattle.judge.proofs.Image.{allowed, few, marks-length, marks-fresh}
 use Rattle.repair.proofs.Mending.{refused-length, refused-header}
 use Rattle.repair.proofs.repair as fn

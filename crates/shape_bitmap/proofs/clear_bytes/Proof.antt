@@ -1,7 +1,8 @@
 -- `clear_bytes`: a word or a byte that is 0 holds a 0 for each of its pages.
 use Rattle.fields.proofs.Plain.{refl, arith, needs}
 use Rattle.shape.specs.Geometry.{geometryOf}
-use Rattle.shape_bitmap.proofs.Words.{holds-byte, holds-none}
+use Rattle.words.proofs.Words.{holds-byte}
+use Rattle.shape_bitmap.proofs.Words.{holds-none}
 use Rattle.shape_bitmap.proofs.clear_bytes.{Statement.statement, Tie.close, Tie.spec}
 
 pub clear-bytes-spec : {M : Type 1} → statement M

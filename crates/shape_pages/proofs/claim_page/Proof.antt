@@ -21,7 +21,7 @@ claim-page-spec = close (spec
     (omega (arith, s .pre .0 .count, c .before .before .before .before .before .mark .kept .0), fits-le (geometryOf (s .args .shape) .count) _ _ (omega arith) (c .before .load .ensures .1)))
     (λ c κs.
     let s = c .before .before .before .before .before .before .before .before .before .before .before .before in
-    (omega (arith, s .pre .0 .link, c .before .before .before .before .before .before .before .before .before .mark .kept .0, c .before .before .before .store .kept .0), fits-byte (geometryOf (s .args .shape) .link (s .args .page .0)) 0 (omega arith)))
+    (omega (arith, s .pre .0 .link, c .before .before .before .before .before .before .before .before .before .mark .kept .0, c .before .before .before .store .kept .0), fits-byte (geometryOf (s .args .shape) .link (s .args .page .0)) _ (omega arith)))
     (λ c. search needs)
     (λ c.
     claimed-stored (geometryOf (c .before .before .before .before .before .before .before .before .before .before .before .before .before .before .before .args .shape)) _ _ _ _ _ (counted (c .before .before .before .before .before .before .before .before)) _ (c .before .before .before .before .before .before .before .before .before .before .before .before .mark .ensures)

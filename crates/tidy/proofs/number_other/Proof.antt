@@ -1,5 +1,5 @@
 -- A page that no file owns gets one number, and any other none.
-use Rattle.audit.proofs.Claims.{told, untold}
+use Rattle.claims.proofs.Claims.{told, untold}
 use Rattle.proposals.proofs.Numbers.{other-none, other-here, other-one}
 use native.Mathlib.Omega.{arith}
 use borrow.Author.Needs.{needs}

@@ -1,7 +1,7 @@
 -- `tidy_judged` asks the check, and then writes.
 use Rattle.model.specs.Layout.{pageCount}
 use Rattle.judge.proofs.Image.{marks-length}
-use Rattle.audit.proofs.Claims.{told, untold}
+use Rattle.claims.proofs.Claims.{told, untold}
 use Rattle.moves.proofs.Answers.{tidy-unaccepted, tidy-accepted}
 use Rattle.moves.proofs.Places.{accepted-is}
 use Rattle.proposals.proofs.Owned.{fits, sized}

@@ -1,0 +1,3 @@
+pub mod Lost
+pub mod Owned
+pub mod Decides
