@@ -383,15 +383,21 @@ fn walk_to_file(image: &[u8], path: Path) -> Result<(usize, usize), Refusal> {
 
 // Pages
 
-/// Takes the lowest free page, which is there, and zeroes it.
-fn allocate(image: &mut [u8]) -> u8 {
+/// Takes the lowest free page, which is there and has its bit in byte `from` of
+/// the bitmap or behind it. The page's bytes stay.
+fn take(image: &mut [u8], from: usize) -> usize {
     let bitmap = &mut image[BITMAP_AT..BITMAP_AT + 32];
-    let byte = bitmap.iter().position(|&byte| byte != 0xFF);
-    let byte = byte.expect("a page is free");
+    let byte = bitmap[from..].iter().position(|&byte| byte != 0xFF);
+    let byte = from + byte.expect("a page is free");
     let bit = bitmap[byte].trailing_ones() as usize;
     bitmap[byte] |= 1 << bit;
     image[3] -= 1;
-    let page = byte * 8 + bit;
+    byte * 8 + bit
+}
+
+/// The same, and its bytes are zeroed.
+fn allocate(image: &mut [u8]) -> u8 {
+    let page = take(image, 0);
     image[page * PAGE..(page + 1) * PAGE].fill(0);
     page as u8
 }
@@ -410,13 +416,20 @@ fn page_at(image: &[u8], start: u8, position: usize) -> usize {
     page
 }
 
-/// Adds pages to the end of the chain of the file whose entry is at `at`.
+/// Adds pages to the end of the chain of the file whose entry is at `at`. All of
+/// their bytes are about to be written but some of the last one, so that this
+/// alone is zeroed.
 fn lengthen(image: &mut [u8], at: usize, old_pages: usize, added: usize) {
-    let mut link_at = page_at(image, image[at + START], (old_pages - 1) * CONTENT) * PAGE;
+    let mut last = page_at(image, image[at + START], (old_pages - 1) * CONTENT);
+    let mut from = 0;
     for _ in 0..added {
-        let page = allocate(image);
-        image[link_at] = page;
-        link_at = usize::from(page) * PAGE;
+        let page = take(image, from);
+        from = page / 8;
+        image[last * PAGE] = page as u8;
+        last = page;
+    }
+    if added > 0 {
+        image[last * PAGE..(last + 1) * PAGE].fill(0);
     }
 }
 
