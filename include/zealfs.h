@@ -187,7 +187,7 @@ uint64_t zealfs_tidy(const uint8_t *image, size_t image_len, const uint8_t *plac
  *
  * In the file a number is written in groups of seven bits, the lowest first, the top bit set when more follow, and in as few groups as it needs.
  *
- * These functions hold the file, and in writing a copy of the image, on the stack: 190,000 bytes of stack are enough for any image (README.md has a
+ * These functions have room for the file, and in writing for a copy of the image, on the stack: 190,000 bytes of stack are enough for any image (README.md has a
  * table).
  */
 

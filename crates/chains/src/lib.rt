@@ -1,5 +1,5 @@
-// Chains of pages in an image of version 1: the functions of `shape_chains` at the shape of version 1, with contracts in the model's words.
-// What they ask is that the pages lie in the image; how it gives what the shared functions ask stands in proofs/Asked.antt.
+// Chains of pages in an image of version 1: the functions of `shape_chains` and `shape_growth` at the shape of version 1, with contracts in the
+// model's words. What they ask is that the pages lie in the image; how it gives what the shared functions ask stands in proofs/Asked.antt.
 ghost use mathlib.Core.Path.{_≡_};
 ghost use Prim.Native.Nat.{_-_, _≤_};
 ghost use mathlib.Core.List.{foldl, flatMap};
@@ -52,7 +52,7 @@ pub fn grow(image: &mut [u8], n: usize, joint: usize, count: usize)
     requires { ⌜ Growing n count joint (now image) ⌝ }
     ensures { λ _. ⌜ now (image .exit) ≡ On.grown version1 n count (byte joint) (now (image .entry)) ⌝ }
 {
-    shape_chains::grow(image, VERSION1, n, Cell::Byte(joint), count);
+    shape_growth::grow(image, VERSION1, n, Cell::Byte(joint), count);
 }
 
 // The same for pages whose content is written next: the last one alone is zeroed.
@@ -60,7 +60,7 @@ pub fn grow_unzeroed(image: &mut [u8], n: usize, joint: usize, count: usize)
     requires { ⌜ Growing n count joint (now image) ⌝ }
     ensures { λ _. ⌜ ButFor version1 (take (count - 1) (On.gained version1 n count (now (image .entry)))) (On.grown version1 n count (byte joint) (now (image .entry))) (now (image .exit)) ⌝ }
 {
-    shape_chains::grow_unzeroed(image, VERSION1, n, Cell::Byte(joint), count);
+    shape_growth::grow_unzeroed(image, VERSION1, n, Cell::Byte(joint), count);
 }
 
 // Gives the k pages of a chain back. Their bytes stay, and so do the links.
@@ -68,5 +68,5 @@ pub fn release(image: &mut [u8], start: Page, k: usize)
     requires { ⌜ Returned (now image) k (start .0) ⌝ }
     ensures { λ _. ⌜ now (image .exit) ≡ foldl (On.released version1) (now (image .entry)) (chain (link (now (image .entry))) k (start .0)) ⌝ }
 {
-    shape_chains::release(image, VERSION1, start, k);
+    shape_growth::release(image, VERSION1, start, k);
 }

@@ -24,7 +24,7 @@ use Rattle.laws.proofs.NewEntry.{new-length, new-start}
 use Rattle.laws.proofs.Make.{Place, made-position}
 use Rattle.chains.specs.Asked.{Growing}
 use Rattle.changes.specs.Asked.{Making}
-use Rattle.changes.proofs.Vacancies.{vacancy, first-entry}
+use Rattle.vacancies.proofs.Vacancies.{vacancy, first-entry}
 
 -- ---- as the code goes: n is the page count, and b₁ the image with the new entry's bytes
 

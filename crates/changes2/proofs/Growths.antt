@@ -2,6 +2,7 @@
 use mathlib.Core.Path.{_≡_, sym, ap, ap₂, _∙_, subst}
 use Prim.Native.Nat.{ℕ, suc, _-_, _≤_}
 use native.Mathlib.Omega.{arith}
+use lib.ListN.{take}
 use Rattle.volume.specs.Bytes.{Bytes}
 use Rattle.volume.specs.Chain.{chain, beyond, linked}
 use Rattle.volume.specs.Field.{Field}
@@ -10,6 +11,7 @@ use Rattle.volume.specs.Geometry.{Geometry}
 use Rattle.volume.proofs.Chains.{chain-last}
 use Rattle.volume.proofs.Follow.{Inside}
 use Rattle.volume.proofs.Growing.{Growing}
+use Rattle.volume.proofs.Unzeroed.{ButFor}
 use Rattle.model.specs.EffectOf.{lengthened}
 use Rattle.model2.specs.Entry.{startField}
 use Rattle.model2.specs.Version2.{linkedPages, view2, layout2}
@@ -24,6 +26,14 @@ unfolding On.jointOf chain
 joint-is g b field k p h =
     let e : k ≡ suc (k - 1) = omega arith in
     ap (λ (m : ℕ). On.jointOf g field (chain (On.next g b) m p)) e ∙ ap (g .link) (chain-last (On.next g b) (k - 1) p)
+
+-- what is known of the joint is known of the cell that was found to be it
+pub growing-at : {g : Geometry} {n k : ℕ} {f joint : Field} {b : Bytes} → f ≡ joint → Growing g n k joint b → Growing g n k f b
+growing-at {g} {n} {k} {b = b} e r = subst (λ (x : Field). Growing g n k x b) (sym e) r
+
+pub grown-at : (g : Geometry) (n k : ℕ) (b : Bytes) {f joint : Field} {c : Bytes} → f ≡ joint
+    → ButFor g (take (k - 1) (On.gained g n k b)) (On.grown g n k f b) c → ButFor g (take (k - 1) (On.gained g n k b)) (On.grown g n k joint b) c
+grown-at g n k b {c = c} e r = subst (λ (x : Field). ButFor g (take (k - 1) (On.gained g n k b)) (On.grown g n k x b) c) e r
 
 -- as the code goes: h pages, and f the link of the last
 module _ {s : Shape} {n p : ℕ} {b : Bytes} (l : Lengthening s n p b) {h : ℕ} (eh : h ≡ linked (On.next (geometryOf s) b) n p) where

@@ -4,12 +4,15 @@
 ghost use mathlib.Core.Path.{_≡_};
 ghost use Prim.Native.Nat.{_+_, _-_, _<_, _≤_};
 ghost use mathlib.Core.List.{foldl};
-ghost use lib.ListN.{length, set};
+ghost use lib.ListN.{length, set, take};
 ghost use Rattle.volume.specs.Bytes.{put};
 ghost use Rattle.volume.specs.Lists.{all};
 ghost use Rattle.volume.specs.Chain.{chain, beyond, linked};
 ghost use Rattle.volume.specs.Geometry as On;
 ghost use Rattle.volume.proofs.Follow.{Inside};
+ghost use Rattle.volume.proofs.Growing.{Growing};
+ghost use Rattle.volume.proofs.Unzeroed.{ButFor};
+ghost use Rattle.volume.proofs.Claiming.{LinkThenContent};
 ghost use Rattle.volume.proofs.Releasing.{Returned};
 ghost use Rattle.model.specs.Effect.{isVacant};
 ghost use Rattle.model.specs.EffectOf.{lengthened, rewritten};
@@ -75,7 +78,7 @@ pub fn lengthen(image: &mut [u8], shape: Shape, n: usize, directory: Page)
 {
     let held = directory_length(image, shape, n, directory);
     let joint = last_link(image, shape, directory, held);
-    shape_chains::grow(image, shape, n, joint, 1);
+    shape_growth::grow(image, shape, n, joint, 1);
 }
 
 // ---- remove
@@ -86,7 +89,7 @@ pub fn remove_entry(image: &mut [u8], shape: Shape, entry: usize, start: Page, k
     ensures { λ _. ⌜ now (image .exit)
         ≡ set (foldl (On.released (geometryOf shape)) (now (image .entry)) (chain (On.next (geometryOf shape) (now (image .entry))) k (start .0))) entry 0 ⌝ }
 {
-    shape_chains::release(image, shape, start, k);
+    shape_growth::release(image, shape, start, k);
     image[entry] = 0;
 }
 
@@ -109,10 +112,26 @@ pub fn make_entry(
         ≡ On.grown (geometryOf shape) n pages (startField entry) (put entry (newEntry flags (now (name .entry)) size (now (date .entry))) (now (image .entry))) ⌝ }
 {
     entries2::put_entry(image, entry, flags, name, size, date);
-    shape_chains::grow(image, shape, n, Cell::Pair(entry + 17), pages);
+    shape_growth::grow(image, shape, n, Cell::Pair(entry + 17), pages);
 }
 
 // ---- write
+
+// Adds pages to a chain that has `held`, whose content is written next. With none to add it is not gone through for its last link: each link has to be
+// waited for before the next one can be read.
+fn add_pages(image: &mut [u8], shape: Shape, n: usize, start: Page, held: usize, count: usize)
+    requires { ⌜ (1 ≤ held) × Inside (geometryOf shape) (now image) held (start .0) × LinkThenContent (geometryOf shape)
+        × Growing (geometryOf shape) n count (geometryOf shape .link (beyond (On.next (geometryOf shape) (now image)) (held - 1) (start .0))) (now image) ⌝ }
+    ensures { λ _. ⌜ ButFor (geometryOf shape) (take (count - 1) (On.gained (geometryOf shape) n count (now (image .entry))))
+        (On.grown (geometryOf shape) n count (geometryOf shape .link (beyond (On.next (geometryOf shape) (now (image .entry))) (held - 1) (start .0)))
+        (now (image .entry))) (now (image .exit)) ⌝ }
+{
+    if count == 0 {
+        return;
+    }
+    let joint = last_link(image, shape, start, held);
+    shape_growth::grow_unzeroed(image, shape, n, joint, count);
+}
 
 // Puts bytes over a file's content from the position on, after its chain has the pages for them and its entry the size.
 pub fn write_entry(
@@ -131,8 +150,7 @@ pub fn write_entry(
     let new_size = fields::larger(size, position.0 + bytes.len());
     let held = fields2::pages_for(shape, size);
     let wanted = fields2::pages_for(shape, new_size);
-    let joint = last_link(image, shape, start, held);
-    shape_chains::grow_unzeroed(image, shape, n, joint, wanted - held);
+    add_pages(image, shape, n, start, held, wanted - held);
     let sized = entries2::size_bytes(new_size);
     entry_bytes::put(image, entry + 19, &sized);
     // A file has a page before it is written, so its start page stays.

@@ -14,8 +14,10 @@ ghost use Prim.Native.Nat.{ℕ, suc, _≤_};
 ghost use mathlib.Core.Bool.{false};
 ghost use lib.ListN.{length, replicate};
 ghost use Rattle.model.specs.Judge.{judgeEntry, judgeDirectory, judgeRoot, judgeView};
+ghost use Rattle.model2.specs.Layout.{pageCount, codeIn};
 ghost use Rattle.model2.specs.Entry.{entryAt};
 ghost use Rattle.model2.specs.Version2.{view2};
+ghost use Rattle.laws2.proofs.Bounds.{Allowed};
 ghost use Rattle.view_laws.specs.Marks.{unowned};
 ghost use Rattle.view_laws.proofs.Comes.{Inside};
 ghost use Rattle.faults.specs.Answers.{outcome};
@@ -32,6 +34,15 @@ pub enum Judgement {
     BadVersion,
     BadShape,
     Unsound(Fault),
+}
+
+// The shape of an image whose header is right, from its length and page code.
+fn shape_of_image(image: &[u8]) -> Cartridge
+    requires { ⌜ Allowed (codeIn (now image)) (length (now image)) ⌝ }
+    ensures { λ r. ⌜ Formed (now (image .entry)) (r .shape) (r .pages) ⌝ }
+{
+    let code = fields::wide(image[6]);
+    shape2::shape_of(image.len(), code)
 }
 
 // ---- the walk: a directory judges its entries, and an entry that is a directory is judged as one in turn
@@ -75,26 +86,27 @@ fn judge_entry(
             if let Check::Faulty(fault) = owned {
                 return Check::Faulty(fault);
             }
-            judge_directory(image, shape, pages, marks, start)
+            judge_directory(image, marks, start)
         }
     }
 }
 
 // Judges the entries of a directory in order, on all its pages; vacant ones are clean and are passed over. The root is the directory on page 0.
-fn judge_directory(
-    image: &[u8],
-    shape: Shape,
-    pages: usize,
-    marks: &mut [u8],
-    directory: Page,
-) -> Check
-    requires { ⌜ Formed (now image) shape pages × (length (now marks) ≡ pages) × Inside (view2 (now image)) (directory .0) ⌝ }
+// The shape is made for each entry: handed on, or kept while a directory below is judged, it would lie on the stack once for each directory above.
+fn judge_directory(image: &[u8], marks: &mut [u8], directory: Page) -> Check
+    requires { ⌜ Allowed (codeIn (now image)) (length (now image)) × (length (now marks) ≡ pageCount (codeIn (now image)) (length (now image)))
+        × Inside (view2 (now image)) (directory .0) ⌝ }
     ensures { λ r. ⌜ ((f : ℕ) → unowned (now (marks .entry)) ≤ f →
         outcome r (now (marks .exit)) ≡ judgeDirectory (suc f) (view2 (now (image .entry))) (directory .0) (now (marks .entry))) ⌝ }
 {
-    let mut cursor = cursor2::first_entry(image, shape, pages, directory);
+    let n = marks.len();
+    let whole = shape_of_image(image);
+    let mut cursor = cursor2::first_entry(image, whole.shape, n, directory);
     let mut number = 0;
     loop {
+        let cartridge = shape_of_image(image);
+        let shape = cartridge.shape;
+        let pages = cartridge.pages;
         let Met::Occupied(at, i) = occupied2::next_occupied(image, shape, pages, cursor, number)
         else {
             return Check::Clean;
@@ -125,7 +137,7 @@ fn own_pages(image: &[u8], shape: Shape, pages: usize, marks: &mut [u8]) -> Chec
     if let Check::Faulty(fault) = owned {
         return Check::Faulty(fault);
     }
-    judge_directory(image, shape, pages, marks, Page(0))
+    judge_directory(image, marks, Page(0))
 }
 
 // The walk, and what comes after it.

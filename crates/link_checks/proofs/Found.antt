@@ -3,7 +3,7 @@
 use mathlib.Core.Path.{_≡_, refl, sym, ap, _∙_, subst}
 use Prim.Native.Nat.{ℕ, zero, suc, _+_, _-_, _/_, _%_, _≤_, _<_}
 use native.Mathlib.Omega.{arith}
-use mathlib.Core.Bool.{Bool, true, false, not}
+use mathlib.Core.Bool.{Bool, true, false}
 use mathlib.Core.Option.{Option, none, some}
 use mathlib.Core.List.{List, [], _∷_, _++_}
 use lib.ListN.{length, length-append}
@@ -15,22 +15,19 @@ use Rattle.volume.proofs.Tests.{and-both, both-and}
 use Rattle.model.specs.Name.{legalByte, legalText, padded}
 use Rattle.model.specs.Tree.{Row, end, freeNumber, Node, fileNode, directoryNode, lookup}
 use Rattle.model.specs.Image.{treeOf}
-use Rattle.model.specs.Path.{Name, Path, below, isNoPath, isRoot}
+use Rattle.model.specs.Path.{Name, isNoPath, isRoot}
 use Rattle.model.specs.Walk.{Walked, arrived, missing, blocked, walk, nodeNamed, inWalked, walkTo, arrivedOr}
 use Rattle.model.specs.Call.{Kind, isFile, isDirectory, find, Found, refusalAt, Answer, refused, granted}
-use Rattle.model.specs.Refusal.{isMissing, isBlocked, stoppedAt, isDirectoryNode, settle, Passes}
-use Rattle.model.specs.Meaning.{imageLines, foundAt, treeAnswer, answer}
+use Rattle.model.specs.Refusal.{isMissing, isBlocked, stoppedAt, isDirectoryNode, settle}
+use Rattle.model.specs.Meaning.{foundAt, treeAnswer, answer}
 use Rattle.model.specs.MeaningOf
 use Rattle.model.specs.RefusalOf
-use Rattle.laws.proofs.Lines.{passed}
-use Rattle.laws.proofs.Passed.{image-passed}
 use Rattle.laws.proofs.Steps.{as-tree}
 use Rattle.family.specs.Family.{onward}
 use Rattle.family.proofs.Onward.{one-more}
 use Rattle.link_list.specs.Coding.{accession}
-use Rattle.link_list.specs.Links.{nodeIn, isFileThere, fileLines}
+use Rattle.link_list.specs.Links.{nodeIn, isFileThere}
 use Rattle.link_list.proofs.Rows.{holds}
-use Rattle.link_list.proofs.Writing.{links-named}
 use Rattle.answers.specs.declared.FindAnswer.{FindAnswer}
 use Rattle.answers.specs.declared.FindAnswer.the-variants as variant
 use Rattle.answers.specs.Answers.{findAnswer}
@@ -61,36 +58,13 @@ unfolding accession
 digits-long zero n = refl
 digits-long (suc k) n = let l = digits-long k (n / 10) in omega (arith, l, length-append (accession k (n / 10)) ((48 + n % 10) ∷ []))
 
-accession-legal : (k n : ℕ) → 1 ≤ k → k ≤ 16 → T (legalText (accession k n))
+pub accession-legal : (k n : ℕ) → 1 ≤ k → k ≤ 16 → T (legalText (accession k n))
 unfolding legalText all
 accession-legal k n l h =
     let long = digits-long k n in
     let a = le-leb 1 (length (accession k n)) (omega arith) in
     let b = le-leb (length (accession k n)) 16 (omega arith) in
     rw (a, b, holds (all legalByte (accession k n)) (digits-legal k n)) tt
-
--- ---- the directory is there once its file was loaded
-
-inner : (ns : List Name) (n : Name) (r : Row) → T (not (isMissing (walkTo (below ns n) r))) → T (not (isBlocked (walkTo (below ns n) r))) → (s : Row) × (walk ns r ≡ arrived s)
-unfolding walkTo inWalked isMissing isBlocked
-inner ns n r u v = go (walk ns r) refl u v
-  where
-    go : (w : Walked Row) → walk ns r ≡ w → T (not (isMissing (inWalked w (λ s. nodeNamed n (lookup (n .bytes) s))))) → T (not (isBlocked (inWalked w (λ s. nodeNamed n (lookup (n .bytes) s)))))
-        → (s : Row) × (walk ns r ≡ arrived s)
-    go (arrived s) e u v = (s, e)
-    go (missing i) e u v = absurd u
-    go (blocked i) e u v = absurd v
-
-pub passes-there : (b d : Bytes) → Passes (imageLines b ++ fileLines d (treeOf b)) → There b d
-unfolding fileLines
-passes-there b d e =
-    let i = image-passed b (fileLines d (treeOf b)) e in
-    let p1 = passed _ _ (i .1) in
-    let p2 = passed _ _ (p1 .1) in
-    let p3 = passed _ _ (p2 .1) in
-    let m = links-named d (p1 .0) in
-    let a = inner _ _ (treeOf b .root) (subst (λ (q : Path). T (not (isMissing (walkTo q (treeOf b .root))))) (m .1) (p2 .0)) (subst (λ (q : Path). T (not (isBlocked (walkTo q (treeOf b .root))))) (m .1) (p3 .0)) in
-    record { isSound = i .0; isPath = p1 .0; row = a .0; leads = a .1 }
 
 -- ---- what finding the path of a name says
 
@@ -131,7 +105,6 @@ module _ (b d : Bytes) (h : There b d) (v : Bytes) (legal : T (legalText v)) whe
   found-there a date e =
       said-file a date ∙ ap tellsFile (e ∙ as-tree (find (onward d v)) b (h .isSound) .answered) ∙ tree-tells ∙ sym (ap (λ (w : Walked Row). isFileThere (lookup (padded v) (arrivedOr end w))) (h .leads))
 
-pub file-told : (b d : Bytes) → There b d → (count value : ℕ) → 1 ≤ count → count ≤ 16 → (name path : Bytes) → name ≡ accession count value → path ≡ onward d name
-    → (a : FindAnswer) (date : Bytes) → findAnswer a date ≡ answer (find path) b → isFileFound a ≡ isFileThere (nodeIn d (accession count value) (treeOf b))
-file-told b d h count value l u name path n p a date e =
-    found-there b d h (accession count value) (accession-legal count value l u) a date (e ∙ ap (λ (q : Bytes). answer (find q) b) (p ∙ ap (onward d) n))
+pub file-told : (b d : Bytes) → There b d → (name path : Bytes) → T (legalText name) → path ≡ onward d name
+    → (a : FindAnswer) (date : Bytes) → findAnswer a date ≡ answer (find path) b → isFileFound a ≡ isFileThere (nodeIn d name (treeOf b))
+file-told b d h name path legal p a date e = found-there b d h name legal a date (e ∙ ap (λ (q : Bytes). answer (find q) b) p)

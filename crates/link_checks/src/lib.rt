@@ -5,9 +5,13 @@ use link_list::Row;
 use link_rows::FileJudged;
 use zealfs::FindAnswer;
 ghost use mathlib.Core.Path.{_≡_};
+ghost use Prim.Native.Nat.{_+_, _≤_, min};
 ghost use mathlib.Core.Bool.{true};
 ghost use mathlib.Core.List.{_++_};
+ghost use lib.ListN.{length};
+ghost use lib.Dec.{T};
 ghost use Rattle.volume.specs.Lists.{all};
+ghost use Rattle.model.specs.Name.{legalText};
 ghost use Rattle.model.specs.Image.{treeOf};
 ghost use Rattle.model.specs.Refusal.{Passes};
 ghost use Rattle.model.specs.Meaning.{imageLines};
@@ -17,16 +21,12 @@ ghost use Rattle.link_rows.specs.Told.{stepsFrom};
 ghost use Rattle.link_answers.specs.Answers.{doneTold};
 ghost use Rattle.link_checks.specs.Checks.{checkedRows, checkIn};
 
-// The directory of a LINKS that was loaded has a file named by the row's exact digits.
-fn has_file(image: &[u8], directory: &[u8], row: Row) -> bool
-    requires { ⌜ Passes (imageLines (now image) ++ fileLines (now directory) (treeOf (now image))) × (inRange row ≡ true) ⌝ }
-    ensures { λ r. ⌜ r ≡ isFileThere (nodeIn (now (directory .entry)) (accession (row .count) (row .value)) (treeOf (now (image .entry)))) ⌝ }
+// The directory of a LINKS that was loaded has a file of that name. The path is put together in the bytes lent for it.
+fn is_file(image: &[u8], directory: &[u8], name: &[u8], path: &mut [u8]) -> bool
+    requires { ⌜ Passes (imageLines (now image) ++ fileLines (now directory) (treeOf (now image))) × T (legalText (now name)) × (min (length (now directory)) 4335 + 1 + length (now name) ≤ length (now path)) ⌝ }
+    ensures { λ r. ⌜ r ≡ isFileThere (nodeIn (now (directory .entry)) (now (name .entry)) (treeOf (now (image .entry)))) ⌝ }
 {
-    let mut digits = [0u8; 16];
-    let count = row.count as usize;
-    link_numbers::put_digits(&mut digits, 0, count, row.value);
-    let mut path = [0u8; 4352];
-    let len = link_files::join(directory, &digits[..count], &mut path);
+    let len = link_files::join(directory, name, path);
     let found = zealfs::find(image, &path[..len]);
     let answer = found.answer;
     match answer {
@@ -34,6 +34,22 @@ fn has_file(image: &[u8], directory: &[u8], row: Row) -> bool
         FindAnswer::Directory => false,
         FindAnswer::Refused(_) => false,
     }
+}
+
+// The same for the row's exact digits, with room for the path: all but the longest are short.
+fn has_file(image: &[u8], directory: &[u8], row: Row) -> bool
+    requires { ⌜ Passes (imageLines (now image) ++ fileLines (now directory) (treeOf (now image))) × (inRange row ≡ true) ⌝ }
+    ensures { λ r. ⌜ r ≡ isFileThere (nodeIn (now (directory .entry)) (accession (row .count) (row .value)) (treeOf (now (image .entry)))) ⌝ }
+{
+    let mut digits = [0u8; 16];
+    let count = row.count as usize;
+    link_numbers::put_digits(&mut digits, 0, count, row.value);
+    if directory.len() <= 239 {
+        let mut path = [0u8; 256];
+        return is_file(image, directory, &digits[..count], &mut path);
+    }
+    let mut path = [0u8; 4352];
+    is_file(image, directory, &digits[..count], &mut path)
 }
 
 // Every one of the first rows of a file that was judged names a file of the directory.

@@ -18,7 +18,7 @@ use Rattle.model.specs.Version1.{view}
 use Rattle.model.specs.Sound.{sound}
 use Rattle.model.specs.Tree.{Row, end, width, freeNumber, Node, fileNode, directoryNode, lookup}
 use Rattle.model.specs.Image.{entryRow, rowOf, rowAt, treeOf, treeIn}
-use Rattle.model.specs.Path.{Name, pathOf, isNoPath, isRoot, names}
+use Rattle.model.specs.Path.{Name, Path, below, pathOf, isNoPath, isRoot, names}
 use Rattle.model.specs.Walk.{Walked, arrived, missing, blocked, walk, nodeNamed, inWalked, walkTo, arrivedOr}
 use Rattle.model.specs.Call.{Call, list, read, Listed, Refusal, refusal, refusalAt, Answer, refused, granted}
 use Rattle.model.specs.Refusal.{Line, isMissing, isBlocked, stoppedAt, contentIn, node, refusals, settle, Passes}
@@ -27,7 +27,6 @@ use Rattle.model.specs.MeaningOf
 use Rattle.model.specs.RefusalOf
 use Rattle.laws.proofs.Lines.{passed, granted-passed, not-granted, settle-append, settle-refused}
 use Rattle.laws.proofs.Passed.{image-passed, sound-passed}
-use Rattle.laws.proofs.Steps.{image-skip, settled}
 use Rattle.laws.proofs.Facts.{sound-facts}
 use Rattle.laws.proofs.Walks.{parent}
 use Rattle.family.proofs.Onward.{OneMore}
@@ -95,6 +94,18 @@ directory-wide b h ns s e =
     let row : rowAt (suc (p .e)) (view b) (p .t) ≡ s = cc (sym (p .row) ∙ e) in
     subst (λ (r : Row). leb (width r) 0 ≡ false) row (row-wide b (rowAt (p .e) (view b)) (p .t))
 
+-- ---- a walk to a name goes through its directory
+
+inner : (ns : List Name) (n : Name) (r : Row) → T (not (isMissing (walkTo (below ns n) r))) → T (not (isBlocked (walkTo (below ns n) r))) → (s : Row) × (walk ns r ≡ arrived s)
+unfolding walkTo inWalked isMissing isBlocked
+inner ns n r u v = go (walk ns r) refl u v
+  where
+    go : (w : Walked Row) → walk ns r ≡ w → T (not (isMissing (inWalked w (λ s. nodeNamed n (lookup (n .bytes) s))))) → T (not (isBlocked (inWalked w (λ s. nodeNamed n (lookup (n .bytes) s)))))
+        → (s : Row) × (walk ns r ≡ arrived s)
+    go (arrived s) e u v = (s, e)
+    go (missing i) e u v = absurd u
+    go (blocked i) e u v = absurd v
+
 -- ---- listing the directory
 
 module _ (b d : Bytes) where
@@ -142,6 +153,17 @@ module _ (b d : Bytes) where
   arrives (missing i) u v = absurd u
   arrives (blocked i) u v = absurd v
 
+  pub passes-there : Passes (imageLines b ++ fileLines d (treeOf b)) → There
+  unfolding fileLines
+  passes-there e =
+      let i = image-passed b (fileLines d (treeOf b)) e in
+      let p1 = passed _ _ (i .1) in
+      let p2 = passed _ _ (p1 .1) in
+      let p3 = passed _ _ (p2 .1) in
+      let m = links-named d (p1 .0) in
+      let a = inner _ _ (treeOf b .root) (subst (λ (q : Path). T (not (isMissing (walkTo q (treeOf b .root))))) (m .1) (p2 .0)) (subst (λ (q : Path). T (not (isBlocked (walkTo q (treeOf b .root))))) (m .1) (p3 .0)) in
+      record { isSound = i .0; isPath = p1 .0; row = a .0; leads = a .1 }
+
   pub list-arrives : (x : Listed) → granted x ≡ answer (list d 0) b → There
   unfolding MeaningOf.answer RefusalOf.refusals RefusalOf.earlier isFormat
   list-arrives x e =
@@ -154,14 +176,19 @@ module _ (b d : Bytes) where
 
   -- ---- reading the file
 
-  module _ (h : There) (buffer : Bytes) where
-    same-lines : {A : Type 0} (g : Refusal → A) (x : A) → settle (lines (read (linksPath d) 0 buffer) b) g x ≡ settle (imageLines b ++ fileLines d (treeOf b)) g x
+  module _ (isPath : T (not (isNoPath (pathOf d)))) (buffer : Bytes) where
+    own-lines : {A : Type 0} (g : Refusal → A) (x : A) → settle (refusals (read (linksPath d) 0 buffer) (treeOf b)) g x ≡ settle (fileLines d (treeOf b)) g x
     unfolding RefusalOf.refusals RefusalOf.earlier RefusalOf.later RefusalOf.wanted fileLines settle isNoPath
+    own-lines g x =
+        rw (leb·suc-zero (length (contentIn (node (linksPath d) (treeOf b)))), leb·suc-zero (freeNumber (treeOf b)))
+        (rw (links-named d isPath .1, not-true (isNoPath (pathOf d)) (holds (not (isNoPath (pathOf d))) isPath)) refl)
+
+    same-lines : {A : Type 0} (g : Refusal → A) (x : A) → settle (lines (read (linksPath d) 0 buffer) b) g x ≡ settle (imageLines b ++ fileLines d (treeOf b)) g x
+    unfolding MeaningOf.lines isFormat
     same-lines g x =
-        settled b (h .isSound) g x (read (linksPath d) 0 buffer)
-        ∙ rw (leb·suc-zero (length (contentIn (node (linksPath d) (treeOf b)))), leb·suc-zero (freeNumber (treeOf b)))
-        (rw (links-named d (h .isPath) .1, not-true (isNoPath (pathOf d)) (holds (not (isNoPath (pathOf d))) (h .isPath))) refl)
-        ∙ sym (image-skip b (h .isSound) g x (fileLines d (treeOf b)))
+        settle-append g (imageLines b) (refusals (read (linksPath d) 0 buffer) (treeOf b)) x
+        ∙ ap (settle (imageLines b) g) (own-lines g x)
+        ∙ sym (settle-append g (imageLines b) (fileLines d (treeOf b)) x)
 
     pub read-refused : (f : Refusal) → refused f ≡ answer (read (linksPath d) 0 buffer) b → refused f ≡ fileLoaded d b
     unfolding MeaningOf.answer fileLoaded
@@ -169,6 +196,11 @@ module _ (b d : Bytes) where
         sym (sym (same-lines refused (granted (contentIn (node (linksPath d) (treeOf b)))))
         ∙ settle-refused (lines (read (linksPath d) 0 buffer) b) _ f refused (granted (contentIn (node (linksPath d) (treeOf b)))) (sym e))
 
+    -- a granted reading tells that the directory is there
+    read-there : Passes (lines (read (linksPath d) 0 buffer) b) → There
+    read-there p = passes-there (sym (same-lines some none) ∙ p)
+
+  module _ (h : There) (buffer : Bytes) where
     content-short : length (contentIn (node (linksPath d) (treeOf b))) ≤ 65025
     unfolding walkTo inWalked nodeNamed arrivedOr contentIn
     content-short = rw (links-named d (h .isPath) .1, h .leads) (go (lookup linksKey (h .row)) refl)
@@ -203,7 +235,7 @@ module _ (b d : Bytes) where
             let all : take (length buffer) v ≡ v = take-all (length buffer) v (short enough) in
             let bytes : buffer′ ≡ put 0 v buffer = q ∙ settle-passed (lines c b) (λ f. buffer) (filled c (treeOf b)) p ∙ ap (λ (w : Bytes). put 0 w buffer) all in
             let back : take n buffer′ ≡ v = ap (λ (k : ℕ). take k buffer′) (size ∙ ap length all) ∙ ap (take (length v)) bytes ∙ take-append-seam v (drop (0 + length v) buffer) in
-            ap (λ (w : Bytes). granted w) back ∙ sym (sym (same-lines refused (granted v)) ∙ settle-passed (lines c b) refused (granted v) p)
+            ap (λ (w : Bytes). granted w) back ∙ sym (sym (same-lines (h .isPath) buffer refused (granted v)) ∙ settle-passed (lines c b) refused (granted v) p)
 
 -- ---- what listing's answer says, once it is known to be no refusal
 
@@ -221,10 +253,13 @@ listed-there (variant.Refused r) name date k = absurd (elim k [ inl u ↦ omega 
 pub path-read : (len : ℕ) (path zeros v : Bytes) → len ≡ length v → path ≡ put 0 v zeros → take len path ≡ v
 path-read len path zeros v l e = ap (λ (n : ℕ). take n path) l ∙ ap (take (length v)) e ∙ take-append-seam v (drop (0 + length v) zeros)
 
-module _ (b d : Bytes) (h : There b d) (path buffer : Bytes) (is : path ≡ linksPath d) (r : ReadAnswer) (answers : readAnswer r ≡ answer (read path 0 buffer) b) where
+module _ (b d : Bytes) (isPath : T (not (isNoPath (pathOf d)))) (path buffer : Bytes) (is : path ≡ linksPath d) (r : ReadAnswer) (answers : readAnswer r ≡ answer (read path 0 buffer) b) where
   pub copied-loads : (n : ℕ) → r ≡ variant-read.Copied n → (buffer′ : Bytes) → buffer′ ≡ bufferAfter (read path 0 buffer) b → Loads d b buffer′ (length buffer) (loaded.Size n)
+  unfolding MeaningOf.answer
   copied-loads n e buffer′ q =
-      read-copied b d h buffer n (ap readAnswer (sym e) ∙ answers ∙ ap (λ (p : Bytes). answer (read p 0 buffer) b) is) buffer′ (q ∙ ap (λ (p : Bytes). bufferAfter (read p 0 buffer) b) is)
+      let a : granted n ≡ answer (read (linksPath d) 0 buffer) b = ap readAnswer (sym e) ∙ answers ∙ ap (λ (p : Bytes). answer (read p 0 buffer) b) is in
+      let there = read-there b d isPath buffer (granted-passed (lines (read (linksPath d) 0 buffer) b) _ n (sym a)) in
+      read-copied b d there buffer n a buffer′ (q ∙ ap (λ (p : Bytes). bufferAfter (read p 0 buffer) b) is)
 
   pub refused-loads : (q : Base) → r ≡ variant-read.Refused q → refused (base-told q) ≡ fileLoaded d b
-  refused-loads q e = read-refused b d h buffer (base-told q) (ap readAnswer (sym e) ∙ answers ∙ ap (λ (p : Bytes). answer (read p 0 buffer) b) is)
+  refused-loads q e = read-refused b d isPath buffer (base-told q) (ap readAnswer (sym e) ∙ answers ∙ ap (λ (p : Bytes). answer (read p 0 buffer) b) is)

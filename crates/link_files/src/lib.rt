@@ -64,9 +64,20 @@ pub enum Loaded {
     Refused(Refusal),
 }
 
-// The bytes of the file LINKS of a directory, as many as there is room for. That the directory is there is asked first: then its path is short enough to be
-// copied.
-pub fn load(image: &[u8], directory: &[u8], file: &mut [u8]) -> Loaded
+// The bytes of the file LINKS of a directory, as many as there is room for. Its path is put together in the bytes lent for it.
+fn load_by(image: &[u8], directory: &[u8], path: &mut [u8], file: &mut [u8]) -> Loaded
+    requires { ⌜ T (not (isNoPath (pathOf (now directory)))) × (length (now directory) + 6 ≤ length (now path)) ⌝ }
+    ensures { λ r. ⌜ Loads (now (directory .entry)) (now (image .entry)) (now (file .exit)) (length (now (file .entry))) r ⌝ }
+{
+    let len = links_path(directory, path);
+    match zealfs::read(image, &path[..len], Position(0), file) {
+        zealfs::ReadAnswer::Copied(size) => Loaded::Size(size),
+        zealfs::ReadAnswer::Refused(r) => Loaded::Refused(r),
+    }
+}
+
+// The same with room for any path: that the directory is there is asked first, for then its path is short enough to be copied.
+fn load_asked(image: &[u8], directory: &[u8], file: &mut [u8]) -> Loaded
     ensures { λ r. ⌜ Loads (now (directory .entry)) (now (image .entry)) (now (file .exit)) (length (now (file .entry))) r ⌝ }
 {
     let listed = zealfs::list(image, directory, 0);
@@ -75,9 +86,19 @@ pub fn load(image: &[u8], directory: &[u8], file: &mut [u8]) -> Loaded
         return Loaded::Refused(r);
     }
     let mut path = [0u8; 4352];
-    let len = links_path(directory, &mut path);
-    match zealfs::read(image, &path[..len], Position(0), file) {
-        zealfs::ReadAnswer::Copied(size) => Loaded::Size(size),
-        zealfs::ReadAnswer::Refused(r) => Loaded::Refused(r),
+    load_by(image, directory, &mut path, file)
+}
+
+// A short path is copied at once, and the image judged only once.
+pub fn load(image: &[u8], directory: &[u8], file: &mut [u8]) -> Loaded
+    ensures { λ r. ⌜ Loads (now (directory .entry)) (now (image .entry)) (now (file .exit)) (length (now (file .entry))) r ⌝ }
+{
+    if 250 < directory.len() {
+        return load_asked(image, directory, file);
     }
+    if !names::is_path(directory) {
+        return load_asked(image, directory, file);
+    }
+    let mut path = [0u8; 256];
+    load_by(image, directory, &mut path, file)
 }

@@ -5,6 +5,7 @@ use Prim.Native.Nat.{ℕ, zero, suc, _+_, _-_, _*_, _%_, _^_, _≤_, _<_}
 use native.Mathlib.Nat.{pow-suc, pow-le-pow-right}
 use native.Mathlib.Numerals.{add-one}
 use native.Mathlib.Omega.{arith}
+use native.Mathlib.Decide.{ℕ-discrete}
 use mathlib.Core.List.{[], _∷_}
 use lib.ListN.{length, getD, drop, drop-of-length-le}
 use lib.Seq.{drop-cons}
@@ -13,7 +14,7 @@ use Rattle.volume.specs.Bytes.{Bytes}
 use Rattle.link_list.specs.Coding.{joined, takeNumber}
 use Rattle.link_numbers.specs.declared.NumberAt.{NumberAt}
 use Rattle.link_numbers.specs.declared.NumberAt.the-variants as number
-use Rattle.link_numbers.specs.Told.{numberTold, NumberFits}
+use Rattle.link_numbers.specs.Told.{numberTold, NumberFits, Short, joinedTo}
 
 pub number-none : (most : ℕ) (v : Bytes) → most ≡ 0 → none ≡ takeNumber most v
 unfolding takeNumber
@@ -86,7 +87,7 @@ module _ {most at c : ℕ} {v : Bytes} {a : NumberAt} (m : More most at c v a) w
       ap (λ (k : ℕ). takeNumber k (drop at v)) (some-most most at c v (m .some-most) (m .inside) (m .byte))
       ∙ rw (one-on most at c v (m .some-most) (m .inside) (m .byte), le-ltb c 128 (m .high)) (ap (joined (c % 128)) (sym (m .rest .0)))
 
-  pub number-broken : a ≡ number.Broken → none ≡ takeNumber most (drop at v)
+  number-broken : a ≡ number.Broken → none ≡ takeNumber most (drop at v)
   unfolding joined
   number-broken is = sym (number-more ∙ rw is)
 
@@ -95,7 +96,7 @@ module _ {most at c : ℕ} {v : Bytes} {a : NumberAt} (m : More most at c v a) w
     fits = says-number v (most - 1) (drop (at + 1) v) is (m .rest) .1
 
     -- what is behind is below 128 to the seventh
-    pub seven-bytes : most ≤ 8 → n < 562949953421312
+    seven-bytes : most ≤ 8 → n < 562949953421312
     seven-bytes l =
         let p : 128 ^ (most - 1) ≤ 128 ^ 7 = pow-le-pow-right (omega arith) {i = most - 1} {j = 7} (omega arith) in
         omega (arith, p, fits .0)
@@ -103,8 +104,45 @@ module _ {most at c : ℕ} {v : Bytes} {a : NumberAt} (m : More most at c v a) w
     on : takeNumber most (drop at v) ≡ joined (c % 128) (some (n, drop next v))
     on = number-more ∙ ap (λ (x : NumberAt). joined (c % 128) (numberTold v x)) is
 
-    pub number-zero : n ≡ 0 → none ≡ takeNumber most (drop at v)
+    number-zero : n ≡ 0 → none ≡ takeNumber most (drop at v)
     number-zero e = sym (on ∙ joined-zero (c % 128) n (drop next v) e)
 
-    pub number-on : (n ≡ 0 → ⊥) → Says v most (drop at v) (number.Is (c % 128 + 128 * n) next)
+    number-on : (n ≡ 0 → ⊥) → Says v most (drop at v) (number.Is (c % 128 + 128 * n) next)
     number-on ne = (sym (on ∙ joined-more (c % 128) n (drop next v) ne), (more-fits most (c % 128) n (m .some-most) (omega arith) (fits .0), fits .1))
+
+-- ---- the byte c joined to what was read behind it
+
+pub short-is : {a : NumberAt} {n next : ℕ} → a ≡ number.Is n next → Short a → n < 562949953421312
+short-is is h = subst Short is h
+
+module _ (c : ℕ) {a : NumberAt} where
+  pub joins-broken : a ≡ number.Broken → number.Broken ≡ joinedTo c a
+  unfolding joinedTo
+  joins-broken e = sym (ap (joinedTo c) e)
+
+  module _ {n next : ℕ} (is : a ≡ number.Is n next) where
+    pub joins-zero : n ≡ 0 → number.Broken ≡ joinedTo c a
+    unfolding joinedTo
+    joins-zero e = sym (ap (joinedTo c) is ∙ rw (eq-eqb n 0 e))
+
+    pub joins-more : (n ≡ 0 → ⊥) → number.Is (c % 128 + 128 * n) next ≡ joinedTo c a
+    unfolding joinedTo
+    joins-more ne = sym (ap (joinedTo c) is ∙ rw (ne-eqb n 0 ne))
+
+module _ {most at c : ℕ} {v : Bytes} {a : NumberAt} (m : More most at c v a) where
+  pub rest-short : most ≤ 8 → Short a
+  rest-short l = go a refl
+    where
+      go : (x : NumberAt) → a ≡ x → Short x
+      go (number.Is n next) is = seven-bytes m is l
+      go number.Broken is = tt
+
+  pub number-joined : {r : NumberAt} → r ≡ joinedTo c a → Says v most (drop at v) r
+  number-joined e = subst (Says v most (drop at v)) (sym e) (go a refl)
+    where
+      go : (x : NumberAt) → a ≡ x → Says v most (drop at v) (joinedTo c a)
+      go (number.Is n next) is = elim (ℕ-discrete n 0) [
+        | yes z ↦ subst (Says v most (drop at v)) (joins-zero c is z) (number-zero m is z, tt)
+        | no ne ↦ subst (Says v most (drop at v)) (joins-more c is ne) (number-on m is ne)
+      ]
+      go number.Broken is = subst (Says v most (drop at v)) (joins-broken c is) (number-broken m is, tt)

@@ -5,7 +5,7 @@ ghost use Prim.Native.Nat.{_+_, _≤_, _<_, _^_};
 ghost use lib.ListN.{length, drop};
 ghost use Rattle.volume.specs.Bytes.{put};
 ghost use Rattle.link_list.specs.Coding.{groups, takeNumber, accession};
-ghost use Rattle.link_numbers.specs.Told.{numberTold, NumberFits};
+ghost use Rattle.link_numbers.specs.Told.{numberTold, NumberFits, Short, joinedTo};
 
 fn wide(x: u8) -> u64
     ensures { λ r. ⌜ r ≡ x ⌝ }
@@ -19,7 +19,60 @@ pub enum NumberAt {
     Broken,
 }
 
+// The seven bits of a byte with more behind it, and 128 times the number there. In the shortest form that one is not 0.
+fn joined(byte: u64, rest: NumberAt) -> NumberAt
+    requires { ⌜ Short rest ⌝ }
+    ensures { λ r. ⌜ r ≡ joinedTo byte rest ⌝ }
+{
+    let NumberAt::Is(higher, next) = rest else {
+        return NumberAt::Broken;
+    };
+    if higher == 0 {
+        return NumberAt::Broken;
+    }
+    NumberAt::Is(byte % 128 + 128 * higher, next)
+}
+
 // A number of at most so many bytes, the shortest form only.
+fn number_from(s: &[u8], at: usize, most: usize) -> NumberAt
+    requires { ⌜ most ≤ 8 ⌝ }
+    ensures { λ r. ⌜ (numberTold (now (s .entry)) r ≡ takeNumber most (drop at (now (s .entry)))) × NumberFits (now (s .entry)) most r ⌝ }
+{
+    if most == 0 {
+        return NumberAt::Broken;
+    }
+    if s.len() <= at {
+        return NumberAt::Broken;
+    }
+    let byte = wide(s[at]);
+    if byte < 128 {
+        return NumberAt::Is(byte, at + 1);
+    }
+    let rest = number_from(s, at + 1, most - 1);
+    joined(byte, rest)
+}
+
+// The same, for the second byte of a number.
+fn number_behind(s: &[u8], at: usize, most: usize) -> NumberAt
+    requires { ⌜ most ≤ 8 ⌝ }
+    ensures { λ r. ⌜ (numberTold (now (s .entry)) r ≡ takeNumber most (drop at (now (s .entry)))) × NumberFits (now (s .entry)) most r ⌝ }
+{
+    if most == 0 {
+        return NumberAt::Broken;
+    }
+    if s.len() <= at {
+        return NumberAt::Broken;
+    }
+    let byte = wide(s[at]);
+    if byte < 128 {
+        return NumberAt::Is(byte, at + 1);
+    }
+    let rest = number_from(s, at + 1, most - 1);
+    joined(byte, rest)
+}
+
+// The same. The first two bytes, and nearly no number has more, are read by functions that do not call themselves: the back end puts those in the place of
+// their call, so that where the next number begins is not told through memory, which would have to be waited for.
 pub fn number_at(s: &[u8], at: usize, most: usize) -> NumberAt
     requires { ⌜ most ≤ 8 ⌝ }
     ensures { λ r. ⌜ (numberTold (now (s .entry)) r ≡ takeNumber most (drop at (now (s .entry)))) × NumberFits (now (s .entry)) most r ⌝ }
@@ -34,14 +87,8 @@ pub fn number_at(s: &[u8], at: usize, most: usize) -> NumberAt
     if byte < 128 {
         return NumberAt::Is(byte, at + 1);
     }
-    let rest = number_at(s, at + 1, most - 1);
-    let NumberAt::Is(higher, next) = rest else {
-        return NumberAt::Broken;
-    };
-    if higher == 0 {
-        return NumberAt::Broken;
-    }
-    NumberAt::Is(byte % 128 + 128 * higher, next)
+    let rest = number_behind(s, at + 1, most - 1);
+    joined(byte, rest)
 }
 
 // A number in its shortest form, put at a byte; the byte behind it.

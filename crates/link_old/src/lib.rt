@@ -4,7 +4,9 @@ use zealfs::ChangeAnswer;
 use zealfs::FindAnswer;
 use zealfs::ListAnswer;
 ghost use mathlib.Core.Path.{_≡_};
+ghost use Prim.Native.Nat.{_+_, _≤_, min};
 ghost use mathlib.Core.List.{_++_};
+ghost use lib.ListN.{length};
 ghost use Rattle.model.specs.Image.{treeOf};
 ghost use Rattle.model.specs.Refusal.{Passes};
 ghost use Rattle.model.specs.Meaning.{imageLines};
@@ -45,13 +47,12 @@ pub enum Old {
     Refused(Refusal),
 }
 
-// The old LINKS of a directory that is there: it must be a file, and not locked.
-fn old_file(image: &[u8], directory: &[u8]) -> Old
-    requires { ⌜ Passes (imageLines (now image) ++ directoryLines (now directory) (treeOf (now image))) ⌝ }
+// The old LINKS of a directory that is there: it must be a file, and not locked. Its path is put together in the bytes lent for it.
+fn old_file(image: &[u8], directory: &[u8], path: &mut [u8]) -> Old
+    requires { ⌜ Passes (imageLines (now image) ++ directoryLines (now directory) (treeOf (now image))) × (min (length (now directory)) 4335 + 6 ≤ length (now path)) ⌝ }
     ensures { λ r. ⌜ oldTold r ≡ oldFile (now (directory .entry)) (treeOf (now (image .entry))) ⌝ }
 {
-    let mut path = [0u8; 4352];
-    let len = link_files::links_path(directory, &mut path);
+    let len = link_files::links_path(directory, path);
     let found = zealfs::find(image, &path[..len]);
     let answer = found.answer;
     match answer {
@@ -64,6 +65,19 @@ fn old_file(image: &[u8], directory: &[u8]) -> Old
         FindAnswer::Directory => Old::Refused(Refusal::IsADirectory),
         FindAnswer::Refused(_) => Old::There(false),
     }
+}
+
+// The same with room for the path: all but the longest are short.
+fn old_in(image: &[u8], directory: &[u8]) -> Old
+    requires { ⌜ Passes (imageLines (now image) ++ directoryLines (now directory) (treeOf (now image))) ⌝ }
+    ensures { λ r. ⌜ oldTold r ≡ oldFile (now (directory .entry)) (treeOf (now (image .entry))) ⌝ }
+{
+    if directory.len() <= 250 {
+        let mut path = [0u8; 256];
+        return old_file(image, directory, &mut path);
+    }
+    let mut path = [0u8; 4352];
+    old_file(image, directory, &mut path)
 }
 
 // All that is asked before the rows: the image, the directory's path, the date, the directory and its old LINKS.
@@ -80,5 +94,5 @@ pub fn old_links(image: &mut [u8], directory: &[u8], date: &[u8]) -> Old
     if !good {
         return Old::Refused(Refusal::BadDate);
     }
-    old_file(image, directory)
+    old_in(image, directory)
 }

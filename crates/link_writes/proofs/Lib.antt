@@ -1,3 +1,2 @@
-pub mod InTurn
 pub mod Written
-pub mod Packing
+pub mod First

@@ -4,7 +4,7 @@ use mathlib.Core.Path.{_≡_, refl, sym, ap, _∙_, subst}
 use mathlib.Core.Logic.{inl, inr}
 use Prim.Native.Nat.{_+_, _-_, _≤_, _<_}
 use native.Mathlib.Omega.{arith}
-use mathlib.Core.Bool.{Bool, true, false}
+use mathlib.Core.Bool.{Bool, true, false, not}
 use mathlib.Core.Option.{none, some}
 use mathlib.Core.List.{List, [], _∷_, _++_}
 use lib.ListN.{length}
@@ -34,8 +34,10 @@ use Rattle.link_list.proofs.Writing.{linksKey, Old, old-passed, links-named, cl
 use Rattle.link_list.proofs.Steps.{run-sound}
 use Rattle.link_list.proofs.ReadBack.{removal-granted}
 use Rattle.link_old.specs.Before.{oldSettled}
-use Rattle.link_writes.specs.Writing.{replacing, thenAnswer, runAnswer, ifGranted, runWhole, StandsFor}
-use Rattle.link_files.proofs.Depth.{file-free}
+use Rattle.link_anew.specs.Anew.{replacing, thenAnswer, runAnswer, ifGranted, runWhole}
+use Rattle.link_writes.specs.Writing.{StandsFor}
+use Rattle.link_files.proofs.Depth.{path-short, file-free}
+use Rattle.link_old.proofs.Before.{passed-there}
 
 -- ---- the calls in turn, by their lines
 
@@ -208,3 +210,25 @@ module _ (d date b : Bytes) (rs : List Row) where
           ap (λ (a : Answer (Unit {0})). ifGranted a b (image v)) runs ∙ if-settle lines tt b (image v) ∙ room-alike d date b (h .0) o v (fileOf rs) k (λ f. b) image
               ∙ ap (settle (roomLines d date rs (treeOf b)) (λ f. b)) same-calls ∙ sym (rows-good e (λ f. b) _),
         )
+
+  -- a bad row is told below what stands before the rows
+  pub row-refused : (f : Refusal) → some f ≡ badRow rs
+      → (thenAnswer (oldSettled d date b) (refused f) ≡ linkAnswer (writeLinks d date rs) b) × (b ≡ linkAfter (writeLinks d date rs) b)
+  unfolding thenAnswer
+  row-refused f e = go (oldSettled d date b) refl
+    where
+      go : (a : Answer Bool) → a ≡ oldSettled d date b → (thenAnswer a (refused f) ≡ linkAnswer (writeLinks d date rs) b) × (b ≡ linkAfter (writeLinks d date rs) b)
+      go (refused g) k = old-refused g k
+      go (granted old) k = rows-refused old k f e
+
+  -- what stands before the rows refuses a path that no directory has
+  pub path-refused : (T (not (isNoPath (pathOf d))) → 4335 < length d) → (x : Answer (Unit {0}))
+      → (thenAnswer (oldSettled d date b) x ≡ linkAnswer (writeLinks d date rs) b) × (b ≡ linkAfter (writeLinks d date rs) b)
+  unfolding thenAnswer
+  path-refused long x = go (oldSettled d date b) refl
+    where
+      go : (a : Answer Bool) → a ≡ oldSettled d date b → (thenAnswer a x ≡ linkAnswer (writeLinks d date rs) b) × (b ≡ linkAfter (writeLinks d date rs) b)
+      go (refused g) k = old-refused g k
+      go (granted old) k =
+          let t = passed-there b d date (all-passed d date b old k) in
+          absurd (omega (arith, long (t .isPath), path-short b (t .isSound) d (t .isPath) (t .row) (t .leads)))

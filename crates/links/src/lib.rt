@@ -8,4 +8,4 @@ pub use link_answers::ReadAnswer;
 pub use link_looks::check;
 pub use link_looks::find;
 pub use link_looks::read;
-pub use link_writes::write;
+pub use link_packs::write;

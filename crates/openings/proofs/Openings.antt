@@ -47,7 +47,7 @@ use Rattle.arrivals.specs.Openings.{isNone}
 use Rattle.arrivals.proofs.Vacancies.{directory-full}
 use Rattle.places.proofs.Places.{two, judgedTo, image-lines}
 use Rattle.places.proofs.Entries.{leads}
-use Rattle.changes.proofs.Vacancies.{vacancy, first-entry}
+use Rattle.vacancies.proofs.Vacancies.{vacancy, first-entry}
 use Rattle.refusals.specs.declared.Refusal.{Refusal}
 use Rattle.openings.specs.declared.Opening.{Opening}
 use Rattle.openings.specs.declared.Opening.the-variants.{At, Stopped}

@@ -41,7 +41,7 @@ fn opening_named(image: &[u8], directory: Page, path: &[u8], from: usize) -> Ope
     if let Spot::At(_) = walk::entry_named(image, directory, &name) {
         return Opening::Stopped(Refusal::NameTaken);
     }
-    match changes::vacant_entry(image, directory) {
+    match vacancies::vacant_entry(image, directory) {
         Spot::At(entry) => Opening::At(entry, from),
         Spot::Nowhere => Opening::Stopped(Refusal::DirectoryFull),
     }

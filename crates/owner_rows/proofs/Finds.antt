@@ -1,5 +1,5 @@
 -- The directories among the entries, put on the list one by one.
-use mathlib.Core.Path.{_≡_, refl, sym, ap, _∙_}
+use mathlib.Core.Path.{_≡_, refl, sym, ap, _∙_, subst}
 use Prim.Native.Nat.{ℕ, suc, _+_, _≤_, _<_}
 use native.Mathlib.Omega.{arith}
 use mathlib.Core.List.{List, [], _∷_, _++_, append-nil, append-assoc}
@@ -12,7 +12,7 @@ use Rattle.model.specs.Sound.{inDirectory}
 use Rattle.fields.specs.declared.Entry.{Entry}
 use Rattle.fields.specs.declared.Entry.the-variants.{Vacant, File, Directory}
 use Rattle.fields.specs.declared.Page.{Page}
-use Rattle.fields.specs.Read.{entryOf}
+use Rattle.fields.specs.Read.{entryOf, Small}
 use Rattle.claims.specs.Claim.{directoriesAt}
 use Rattle.claims.specs.Lent.{position, rest}
 use Rattle.claims.proofs.Claims.{read-as}
@@ -49,6 +49,10 @@ module _ (b : Bytes) (at : ℕ) {r : Entry} (read : entryOf r (isLocked b at) (n
               counted = omega (arith, ap length d);
               held = ap (λ (k : ℕ). take k (set list end (start .0))) one ∙ take-suc-set list end (start .0) directory-room ∙ ap (λ (ds : List ℕ). take end list ++ ds) d;
             }
+
+-- the page of a directory fits the byte that the list has for it
+pub small-directory : {r : Entry} {start : Page} {size : ℕ} → r ≡ Directory start size → Small r → start .0 < 256
+small-directory e small = subst Small e small .0
 
 -- ---- the entries of a directory: what is on the list so far, and what is to come
 

@@ -131,12 +131,16 @@ module _ (b : Bytes) (row₀ list row : List ℕ) (found done : ℕ) (at : Stand
       go stops e = refuted yes (stands-unclaimed b row₀ list row found done at l names-differ (sym e))
       go (goes m) e = record { row = m; is = refl }
 
-  pub directory-asked : Row b row × (getD list done 0 < length row) × SaysYes (claimEntries b (entries (getD list done 0)) row)
-      × (found + length (directoriesAt b (entries (getD list done 0))) ≤ length list)
-  directory-asked =
-      let a = entries-asked b row₀ list row found done at l in
-      (a .0, a .1, directory-says, push-fits b row₀ list row found done at l names-differ (directory-says .row) (directory-says .is))
+  -- p is the page on the list that is visited next
+  module _ {p : ℕ} (next : p ≡ getD list done 0) where
+    pub directory-asked : Row b row × (p < length row) × SaysYes (claimEntries b (entries p) row) × (found + length (directoriesAt b (entries p)) ≤ length list)
+    directory-asked =
+        let a = entries-asked b row₀ list row found done at l in
+        subst (λ (q : ℕ). Row b row × (q < length row) × SaysYes (claimEntries b (entries q) row) × (found + length (directoriesAt b (entries q)) ≤ length list)) (sym next)
+        (a .0, a .1, directory-says, push-fits b row₀ list row found done at l names-differ (directory-says .row) (directory-says .is))
 
-  pub stands-turn : {row′ : List ℕ} → goes row′ ≡ claimEntries b (entries (getD list done 0)) row → {list′ : List ℕ} → 256 ≤ length list′ → {found′ : ℕ}
-      → Pushed (directoriesAt b (entries (getD list done 0))) list found list′ found′ → Stands b row₀ list′ row′ found′ (done + 1)
-  stands-turn {row′} c {list′} g {found′} s = stands-next b row₀ list row found done at l names-differ row′ c list′ found′ g (s .counted) (s .held)
+    pub stands-turn : {row′ : List ℕ} → goes row′ ≡ claimEntries b (entries p) row → {list′ : List ℕ} → 256 ≤ length list′ → {found′ : ℕ}
+        → Pushed (directoriesAt b (entries p)) list found list′ found′ → Stands b row₀ list′ row′ found′ (done + 1)
+    stands-turn {row′} c {list′} g {found′} s =
+        let pushed = subst (λ (q : ℕ). Pushed (directoriesAt b (entries q)) list found list′ found′) next s in
+        stands-next b row₀ list row found done at l names-differ row′ (c ∙ ap (λ (q : ℕ). claimEntries b (entries q) row) next) list′ found′ g (pushed .counted) (pushed .held)

@@ -43,7 +43,7 @@ fn give_chain(image: &[u8], row: &mut [usize], at: usize, k: usize, start: Page)
 // ---- entries
 
 // The entry at position `at` gets its pages: a directory one, a file its chain. A directory is put on the list, behind the `end` that are there.
-fn give_entry(image: &[u8], row: &mut [usize], list: &mut [usize], end: usize, at: usize) -> usize
+fn give_entry(image: &[u8], row: &mut [usize], list: &mut [u8], end: usize, at: usize) -> usize
     requires { ⌜ Row (now image) (now row) × (at + 32 ≤ length (now image)) × SaysYes (claimEntry (now image) at (entryAt (now image) at) (now row))
         × (end + length (directoryAt (now image) at) ≤ length (now list)) ⌝ }
     ensures { λ _. ⌜ goes (now (row .exit)) ≡ claimEntry (now (image .entry)) at (entryAt (now (image .entry)) at) (now (row .entry)) ⌝ }
@@ -57,7 +57,7 @@ fn give_entry(image: &[u8], row: &mut [usize], list: &mut [usize], end: usize, a
         }
         Entry::Directory(start, size) => {
             give_page(row, at, start);
-            list[end] = start.0;
+            list[end] = start.0 as u8;
             end + 1
         }
     }
@@ -67,7 +67,7 @@ fn give_entry(image: &[u8], row: &mut [usize], list: &mut [usize], end: usize, a
 fn give_entries(
     image: &[u8],
     row: &mut [usize],
-    list: &mut [usize],
+    list: &mut [u8],
     found: usize,
     directory: Page,
 ) -> usize
@@ -87,7 +87,7 @@ fn give_entries(
 // ---- the image
 
 // The directories are visited in the order in which they are found, as by the second judge.
-fn give_directories(image: &[u8], row: &mut [usize], list: &mut [usize])
+fn give_directories(image: &[u8], row: &mut [usize], list: &mut [u8])
     requires { ⌜ Row (now image) (now row) × (1 + free (now row) ≤ length (now row)) × (256 ≤ length (now list))
         × SaysYes (visit (pageCount (now image)) (now image) (0 ∷ []) (now row)) ⌝ }
     ensures { λ _. ⌜ goes (now (row .exit)) ≡ visit (pageCount (now (image .entry))) (now (image .entry)) (0 ∷ []) (now (row .entry)) ⌝ }
@@ -96,7 +96,7 @@ fn give_directories(image: &[u8], row: &mut [usize], list: &mut [usize])
     let mut found = 1;
     let mut done = 0;
     while done < found {
-        let directory = Page(list[done]);
+        let directory = Page(fields::wide(list[done]));
         found = give_entries(image, row, list, found, directory);
         done += 1;
     }
@@ -108,7 +108,7 @@ fn give_pages(image: &[u8], row: &mut [usize])
         × SaysYes (visit (pageCount (now image)) (now image) (0 ∷ []) (now row)) ⌝ }
     ensures { λ _. ⌜ goes (now (row .exit)) ≡ visit (pageCount (now (image .entry))) (now (image .entry)) (0 ∷ []) (now (row .entry)) ⌝ }
 {
-    let mut list = [0usize; 256];
+    let mut list = [0u8; 256];
     give_directories(image, row, &mut list);
 }
 

@@ -1,2 +1,1 @@
 pub mod Removes
-pub mod Locks

@@ -26,7 +26,7 @@ use Rattle.places.proofs.Arrivals.{Arrived, placed-arrived, reads}
 use Rattle.places.proofs.Entries.{directory-inside}
 use Rattle.chains.specs.Asked.{Returned}
 use Rattle.changes.proofs.Removals.{file-returned, directory-returned}
-use Rattle.changes.proofs.Vacancies.{vacancy}
+use Rattle.vacancies.proofs.Vacancies.{vacancy}
 use Rattle.fields.proofs.Plain.{told as is-told, untold}
 use Rattle.answers.proofs.Files.{FileAt, DirectoryAt, at-file, at-directory, file-entry, directory-entry}
 

@@ -1,4 +1,4 @@
--- What an answer says of the lowest free page, and what is known before a search that begins at a word.
+-- What an answer says of the lowest free page, and what is known before a search that begins at a byte of the bitmap.
 use mathlib.Core.Path.{_≡_}
 use Prim.Native.Nat.{ℕ, _+_, _*_, _≤_}
 use Rattle.volume.specs.Bytes.{Bytes}
@@ -17,7 +17,7 @@ pub record Lowest (n x : ℕ) (r : Free) : Type 0 where
   pub number : numberOf n r ≡ x
   pub none : x ≡ n → r ≡ None
 
--- of n pages none below those of a word of 64 bits is free
-pub record Before (g : Geometry) (n word : ℕ) (b : Bytes) : Type 0 where
-  pub low : 64 * word ≤ n + 63
-  pub same : lowestFrom g b n (64 * word) ≡ lowestFree g n b
+-- of n pages none below those of a byte of the bitmap is free
+pub record Before (g : Geometry) (n byte : ℕ) (b : Bytes) : Type 0 where
+  pub low : 8 * byte ≤ n + 7
+  pub same : lowestFrom g b n (8 * byte) ≡ lowestFree g n b

@@ -1,4 +1,4 @@
-// The bitmap of an image of any shape, by words of 64 bits: how many pages are free, and which free one is the lowest.
+// The bitmap of an image of any shape: how many pages are free, by words of 64 bits, and which free one is the lowest, by bytes.
 // Every function is total where the bitmap lies in the image, and none changes a byte.
 ghost use mathlib.Core.Path.{_≡_};
 ghost use Prim.Native.Nat.{_+_, _≤_};
@@ -50,17 +50,18 @@ pub fn clear_bytes(image: &[u8], shape: Shape, byte: usize) -> usize
     8
 }
 
-// The lowest free page, where none is free before a word: who takes one page after the other need not look at all before them again.
-pub fn lowest_free_from(image: &[u8], shape: Shape, n: usize, word: usize) -> Free
-    requires { ⌜ WordsLie (geometryOf shape) n (now image) × Before (geometryOf shape) n word (now image) ⌝ }
+// The lowest free page, where none is free before a byte of the bitmap: who takes one page after the other need not look at all before them again.
+// By bytes, for the bit of the page taken last was stored as one: a word read right behind that store would have to wait for it.
+pub fn lowest_free_from(image: &[u8], shape: Shape, n: usize, byte: usize) -> Free
+    requires { ⌜ WordsLie (geometryOf shape) n (now image) × Before (geometryOf shape) n byte (now image) ⌝ }
     ensures { λ r. ⌜ Lowest n (On.lowestFree (geometryOf shape) n (now (image .entry))) r ⌝ }
 {
-    let mut searched = word;
-    while 64 * searched < n {
-        let k = words::lowest_zero(words::bits64(image, shape.map + 8 * searched));
-        if k < 64 {
-            if 64 * searched + k < n {
-                return Free::At(Page(64 * searched + k));
+    let mut searched = byte;
+    while 8 * searched < n {
+        let k = words::lowest_zero(fields::wide(image[shape.map + searched]));
+        if k < 8 {
+            if 8 * searched + k < n {
+                return Free::At(Page(8 * searched + k));
             }
             return Free::None;
         }

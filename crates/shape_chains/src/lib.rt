@@ -1,27 +1,18 @@
-// Chains of pages in an image of any shape: found, read, written, grown and given back.
+// Chains of pages in an image of any shape: found, read and written.
 // Each goes from page to page by the links and does the work of one page by a function of its own; what it asks is said by the laws' own records.
 ghost use mathlib.Core.Path.{_≡_};
 ghost use Prim.Native.Nat.{_+_, _-_, _<_, _≤_, _^_, min};
-ghost use mathlib.Core.List.{foldl, flatMap};
+ghost use mathlib.Core.List.{flatMap};
 ghost use lib.ListN.{length, take, drop};
 ghost use Rattle.volume.specs.Bytes.{put};
 ghost use Rattle.volume.specs.Chain.{chain, beyond, spread};
-ghost use Rattle.volume.specs.Field.{store};
 ghost use Rattle.volume.specs.Geometry as On;
 ghost use Rattle.volume.proofs.Follow.{PageLies, Inside};
 ghost use Rattle.volume.proofs.Writing.{Writable};
-ghost use Rattle.volume.proofs.Stores.{claimed};
-ghost use Rattle.volume.proofs.Growing.{Growing};
-ghost use Rattle.volume.proofs.Unzeroed.{ButFor};
-ghost use Rattle.volume.proofs.Claiming.{LinkThenContent};
-ghost use Rattle.volume.proofs.Releasing.{Returned};
-ghost use Rattle.shape.specs.Geometry.{fieldOf, geometryOf};
-ghost use Rattle.shape_bitmap.specs.Lowest.{Before};
+ghost use Rattle.shape.specs.Geometry.{geometryOf};
 use fields::Page;
 use fields::Position;
-use shape::Cell;
 use shape::Shape;
-use shape_bitmap::Free;
 
 // The page with an index in the chain, counted from 0.
 pub fn page_at(image: &[u8], shape: Shape, start: Page, index: usize) -> Page
@@ -147,79 +138,5 @@ pub fn write_chain(
         let next = shape::link(image, shape, page);
         done = write_page(image, shape, page, 0, bytes, done);
         page = next;
-    }
-}
-
-// Takes the lowest free page of n, and puts its number at the joint. No page before those of the word is free.
-fn append(image: &mut [u8], shape: Shape, n: usize, joint: Cell, word: usize) -> Page
-    requires { ⌜ Growing (geometryOf shape) n 1 (fieldOf joint) (now image) × Before (geometryOf shape) n word (now image) ⌝ }
-    ensures { λ r. ⌜ (r .0 ≡ On.lowestFree (geometryOf shape) n (now (image .entry))) × (now (image .exit) ≡ On.grown (geometryOf shape) n 1 (fieldOf joint) (now (image .entry))) ⌝ }
-{
-    let Free::At(page) = shape_bitmap::lowest_free_from(image, shape, n, word) else {
-        // Never: a page is free, says the contract.
-        return Page(0);
-    };
-    shape_pages::take_page(image, shape, page);
-    shape::store(image, joint, page.0);
-    page
-}
-
-// Adds pages to a chain. The joint of the next one is the link of the last one added, and before that one's word no page is free any more.
-pub fn grow(image: &mut [u8], shape: Shape, n: usize, joint: Cell, count: usize)
-    requires { ⌜ Growing (geometryOf shape) n count (fieldOf joint) (now image) ⌝ }
-    ensures { λ _. ⌜ now (image .exit) ≡ On.grown (geometryOf shape) n count (fieldOf joint) (now (image .entry)) ⌝ }
-{
-    let mut at = joint;
-    let mut word = 0;
-    for _ in 0..count {
-        let page = append(image, shape, n, at, word);
-        at = shape::link_cell(shape, page);
-        word = page.0 / 64;
-    }
-}
-
-// The same, but the page's bytes stay.
-fn append_claimed(image: &mut [u8], shape: Shape, n: usize, joint: Cell, word: usize) -> Page
-    requires { ⌜ Growing (geometryOf shape) n 1 (fieldOf joint) (now image) × Before (geometryOf shape) n word (now image) ⌝ }
-    ensures { λ r. ⌜ (r .0 ≡ On.lowestFree (geometryOf shape) n (now (image .entry))) × (now (image .exit) ≡ store (fieldOf joint) (r .0) (claimed (geometryOf shape) (r .0) (now (image .entry)))) ⌝ }
-{
-    let Free::At(page) = shape_bitmap::lowest_free_from(image, shape, n, word) else {
-        // Never, as above.
-        return Page(0);
-    };
-    shape_pages::claim_page(image, shape, page);
-    shape::store(image, joint, page.0);
-    page
-}
-
-// Adds pages whose content is written next, all of it but for some of the last page's: that one alone is zeroed. In the others' place the content may be
-// anything, and all else is as `grow` makes it.
-pub fn grow_unzeroed(image: &mut [u8], shape: Shape, n: usize, joint: Cell, count: usize)
-    requires { ⌜ Growing (geometryOf shape) n count (fieldOf joint) (now image) × LinkThenContent (geometryOf shape) ⌝ }
-    ensures { λ _. ⌜ ButFor (geometryOf shape) (take (count - 1) (On.gained (geometryOf shape) n count (now (image .entry))))
-        (On.grown (geometryOf shape) n count (fieldOf joint) (now (image .entry))) (now (image .exit)) ⌝ }
-{
-    if count == 0 {
-        return;
-    }
-    let mut at = joint;
-    let mut searched = 0;
-    for _ in 1..count {
-        let page = append_claimed(image, shape, n, at, searched);
-        at = shape::link_cell(shape, page);
-        searched = page.0 / 64;
-    }
-    append(image, shape, n, at, searched);
-}
-
-// Gives the k pages of a chain back. Their bytes stay, and so do the links.
-pub fn release(image: &mut [u8], shape: Shape, start: Page, k: usize)
-    requires { ⌜ Returned (geometryOf shape) (now image) k (start .0) ⌝ }
-    ensures { λ _. ⌜ now (image .exit) ≡ foldl (On.released (geometryOf shape)) (now (image .entry)) (chain (On.next (geometryOf shape) (now (image .entry))) k (start .0)) ⌝ }
-{
-    let mut page = start;
-    for _ in 0..k {
-        shape_pages::release_page(image, shape, page);
-        page = shape::link(image, shape, page);
     }
 }

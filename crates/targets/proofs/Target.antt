@@ -25,7 +25,7 @@ use Rattle.moves.proofs.Places.{Accepted, accepted-is}
 use Rattle.moves.proofs.Order.{length-numbered, numbered-at}
 use Rattle.moves.proofs.Moved.{length-header, from-page, length-at}
 use Rattle.proposals.specs.Steps.{Pages, bitsAt}
-use Rattle.targets.proofs.Laid.{laid-turn}
+use Rattle.moved_pages.proofs.Laid.{laid-turn}
 
 -- ---- the bits
 

@@ -41,7 +41,7 @@ fn tidy_judged(image: &[u8], owners: &[usize], places: &[u8], target: &mut [u8])
         return TidyAnswer::NotAccepted;
     }
     let n = places.len();
-    let mut pages = [0usize; 256];
+    let mut pages = [0u8; 256];
     targets::write_moved(image, owners, places, &mut pages[..n], target);
     TidyAnswer::Done
 }

@@ -35,9 +35,9 @@ use Rattle.places.specs.declared.Place.the-variants as place
 use Rattle.places.proofs.Place.{the-type}
 use Rattle.places.proofs.Arrivals.{Arrived, placed-arrived, reads}
 use Rattle.places.proofs.Entries.{file-owned}
-use Rattle.changes.specs.Asked.{Writing}
+use Rattle.rewrites.specs.Asked.{Writing}
 use Rattle.changes.proofs.Entries.{own-few}
-use Rattle.changes.proofs.Writable.{writing}
+use Rattle.rewrites.proofs.Writable.{writing}
 use Rattle.answers.proofs.Files.{FileAt, at-file, at-no-file}
 
 -- ---- the pages that a write wants

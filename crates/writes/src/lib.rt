@@ -55,7 +55,7 @@ pub fn write(image: &mut [u8], path: &[u8], position: Position, bytes: &[u8]) ->
     if bytes.len() == 0 {
         return ChangeAnswer::Done;
     }
-    changes::write_entry(
+    rewrites::write_entry(
         image,
         target.entry,
         target.start,

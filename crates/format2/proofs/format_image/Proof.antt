@@ -22,4 +22,7 @@ format-image-spec = fn.Tie.close (fn.Tie.spec
     (λ c. search needs)
     (λ c κs. let k = known (c .before .before .before .before .before .before .before) in (omega (arith, k .first, c .before .before .before .before .zero-aside .kept .0), omega arith, omega arith))
     (λ c. search needs)
-    (λ c. format-done _ (c .before .before .before .before .before .before .before .before .before .before .before .before .before .before .shape-of .result .shape) (c .before .before .before .before .before .before .before .before .before .before .before .before .before .before .before .before .pre) (c .before .before .before .before .before .before .before .before .before .before .before .before .before .before .shape-of .ensures) refl refl (c .before .before .before .before .before .before .before .before .before .marks-below .ensures) (c .before .before .before .before .before .before .before .zero-aside .ensures) (c .before .before .fill-page .ensures)))
+    (λ c.
+    let marked = c .before .before .before .before .before .before .before .before .before in
+    let shape = marked .before .before .before .before .before in
+    format-done _ (shape .shape-of .result .shape) (shape .before .before .pre) (shape .shape-of .ensures) refl refl (marked .marks-below .ensures) (c .before .before .before .before .before .before .before .zero-aside .ensures) (c .before .before .fill-page .ensures)))

@@ -15,8 +15,8 @@ own-pages-spec = close (spec
     (λ c. search needs)
     (λ c κs. let own = c .before .before .before .before .before in
     let pre = own .before .before .before .before .pre in (
-      pre .0,
-      own .own-root .kept .1 .1 .0 ∙ marks-each _ (pre .1),
+      pre .0 .allowed,
+      own .own-root .kept .1 .1 .0 ∙ marks-each _ (pre .1) ∙ pre .0 .count,
       root-inside (pre .0) (pre .1) _ _ (own .own-root .ensures) (c .before .enum-told .given .1),
     ))
     (λ c. search needs)

@@ -15,26 +15,31 @@ use Rattle.link_old.proofs.old_file.Tie as tie
 
 links-path-requires : tie.Need-links-path-requires
 links-path-requires c κs =
-    let start = c .before .before .before in
-    let there = directory-there (start .args .image .now) (start .args .directory .now) (start .pre) in
+    let start = c .before .before .before .before in
+    let there = directory-there (start .args .image .now) (start .args .directory .now) (start .pre .0) in
     let short = path-short (start .args .image .now) (there .isSound) (start .args .directory .now) (there .isPath) (there .row) (there .leads) in
-    (there .isPath, omega (arith, short))
+    (there .isPath, omega (arith, short, start .pre .1))
+
+slice-reshare-prefix-find : tie.Need-slice-reshare-prefix-find
+slice-reshare-prefix-find c = let at-path = c .before .before in omega (arith, at-path .links-path .ensures .0 .1, at-path .links-path .kept .1 .0)
 
 slice-aggregate-find : tie.Need-slice-aggregate-find
-slice-aggregate-find c = sym (length-take-le (c .before .before .links-path .result) _ (omega (arith, c .before .before .links-path .ensures .0 .1, c .before .before .links-path .kept .1 .0)))
+slice-aggregate-find c =
+    let at-path = c .before .before .before in
+    sym (length-take-le (at-path .links-path .result) _ (omega (arith, at-path .links-path .ensures .0 .1, at-path .links-path .kept .1 .0)))
 
 -- what was found says what the old file is
 abbrev Says : tie.After-find → Type 0
 Says c =
-    let args = c .before .before .before .before .before .before .before .args in
+    let args = c .before .before .before .before .before .before .before .before .before .args in
     oldFound (c .find .result .answer) ≡ oldFile (args .directory .now) (treeOf (args .image .now))
 
 says : (c : tie.After-find) → Says c
 says c =
-    let at-path = c .before .before .before in
-    let start = at-path .before .before .before .before in
+    let at-path = c .before .before .before .before in
+    let start = at-path .before .before .before .before .before in
     let args = start .args in
-    let there = directory-there (args .image .now) (args .directory .now) (start .pre) in
+    let there = directory-there (args .image .now) (args .directory .now) (start .pre .0) in
     let path = path-read (at-path .links-path .result) (at-path .links-path .last .1 .0) _ (onward (args .directory .now) linksName) (at-path .links-path .ensures .0 .0) (at-path .links-path .ensures .1) in
     old-found (args .image .now) (args .directory .now) there _ path (c .find .result .answer) (c .find .result .date) (c .find .ensures .0)
 
@@ -54,15 +59,18 @@ pub old-file-spec : {M : Type 1} → statement M
 old-file-spec =
     tie.close
     (tie.spec
-    (λ c. search needs)
     links-path-requires
-    (λ c. search needs)
+    slice-reshare-prefix-find
     slice-aggregate-find
     (λ c κs. search needs)
+    (λ c. search needs)
     (λ c. search needs)
     returns
     (λ c. search needs)
     (λ c. search needs)
+    (λ c. search needs)
     returns-2
+    (λ c. search needs)
     returns-3
+    (λ c. search needs)
     returns-4)

@@ -35,8 +35,8 @@ returns-2 c =
     let there = list-arrives (args .image .now) (args .directory .now) (x .0) (sym (x .1) ∙ at-list .list .ensures .0 ∙ ap (answer (list (args .directory .now) 0)) kept) in
     (old-undated (args .image .now) (args .directory .now) (args .date .now) (at-good .date-is-good .result) (at-good .date-is-good .ensures .0) there (not-true _ (c .if1 .taken)), kept)
 
-old-file-requires : tie.Need-old-file-requires
-old-file-requires c κs =
+old-in-requires : tie.Need-old-in-requires
+old-in-requires c κs =
     let at-list = c .before .before .before in
     let at-good = at-list .before .before .before .before in
     let start = at-good .before .before .before .before .before in
@@ -52,7 +52,7 @@ returns-3 c =
     let kept = at-good .date-is-good .ensures .1 in
     let x = listed-there (at-list .list .result .answer) (at-list .list .result .name) (at-list .list .result .date) (c .before .before .before .match .keys2) in
     let there = list-arrives (args .image .now) (args .directory .now) (x .0) (sym (x .1) ∙ at-list .list .ensures .0 ∙ ap (answer (list (args .directory .now) 0)) kept) in (
-      c .old-file .ensures ∙ ap (λ (b : Bytes). oldFile (args .directory .now) (treeOf b)) kept
+      c .old-in .ensures ∙ ap (λ (b : Bytes). oldFile (args .directory .now) (treeOf b)) kept
           ∙ old-dated (args .image .now) (args .directory .now) (args .date .now) (at-good .date-is-good .result) (at-good .date-is-good .ensures .0) there (not-false _ (c .before .before .if1 .left)),
       kept,
     )
@@ -69,6 +69,6 @@ old-links-spec =
     returns
     (λ c. search needs)
     returns-2
-    old-file-requires
+    old-in-requires
     (λ c. search needs)
     returns-3)

@@ -10,15 +10,16 @@ give-directories-spec = fn.Tie.close (fn.Tie.spec
     (λ image row₀ list₀ found₀ done₀ row list found done. length row₀ - done)
     (λ c. search needs)
     (λ c. search stands-first)
-    (λ c. search needs) (λ c. search needs)
-    (λ c κs. directory-asked _ _ _ _ _ _ (c .before .before .before .before .loop .inv .2) (search needs) (c .before .before .before .loop-test .taken))
+    (λ c. search needs) (λ c κs. search needs)
+    (λ c κs. directory-asked _ _ _ _ _ _ (c .before .before .before .before .before .loop .inv .2) (search needs) (c .before .before .before .before .loop-test .taken) (c .before .before .wide .ensures .0))
     (λ c. search needs) (λ c. search needs)
     (λ c.
     let given = c .before .before .before .before in
-    let turn = given .before .before .before .before in (
+    let page = given .before .before .before in
+    let turn = page .before .before in (
       search needs,
       search needs,
-      stands-turn _ _ _ _ _ _ (turn .before .loop .inv .2) (search needs) (turn .loop-test .taken) (given .give-entries .ensures .0) (search needs) (given .give-entries .ensures .1),
+      stands-turn _ _ _ _ _ _ (turn .before .loop .inv .2) (search needs) (turn .loop-test .taken) (page .wide .ensures .0) (given .give-entries .ensures .0) (search needs) (given .give-entries .ensures .1),
     ))
     (λ c. search needs)
     (λ c. search as-long)

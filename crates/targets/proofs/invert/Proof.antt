@@ -15,26 +15,21 @@ abbrev μ-loop : tie.MeasureT-loop
 loop-holds : tie.Need-loop-holds Inv-loop μ-loop
 loop-holds c = turned-first _ _
 
+cast-pages : tie.Need-cast-pages Inv-loop μ-loop
+cast-pages c = omega (arith, c .loop-test .taken, c .before .before .before .before .pre .1)
+
 shared-slice-read-wide : tie.Need-shared-slice-read-wide Inv-loop μ-loop
 shared-slice-read-wide c = omega arith
 
 wide-requires : tie.Need-wide-requires Inv-loop μ-loop
 wide-requires c κs = tt
 
-mul-pages : tie.Need-mul-pages Inv-loop μ-loop
-mul-pages c =
-    let test = c .before .before in
-    let turn = test .before in
-    let start = turn .before .before .before in
-    let l = place-under (start .args .places .now) (length (start .args .pages .now)) _ (start .pre) (test .loop-test .taken) in
-    omega (arith, l, c .wide .ensures .0, turn .loop .inv .long)
-
 slice-write-pages : tie.Need-slice-write-pages Inv-loop μ-loop
 slice-write-pages c =
     let test = c .before .before in
     let turn = test .before in
     let start = turn .before .before .before in
-    let l = place-under (start .args .places .now) (length (start .args .pages .now)) _ (start .pre) (test .loop-test .taken) in
+    let l = place-under (start .args .places .now) (length (start .args .pages .now)) _ (start .pre .0) (test .loop-test .taken) in
     omega (arith, l, c .wide .ensures .0, turn .loop .inv .long)
 
 add-p : tie.Need-add-p Inv-loop μ-loop
@@ -63,9 +58,9 @@ invert-spec =
     Inv-loop
     μ-loop
     loop-holds
+    cast-pages
     shared-slice-read-wide
     wide-requires
-    mul-pages
     slice-write-pages
     add-p
     loop-less

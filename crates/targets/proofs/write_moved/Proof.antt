@@ -2,6 +2,7 @@
 use Rattle.model.specs.Layout.{pageCount}
 use Rattle.volume.proofs.Puts.{part-length}
 use Rattle.moves.specs.Tidy.{movedPage}
+use Rattle.moves.proofs.Places.{accepted-is}
 use Rattle.proposals.proofs.Owned.{fits, sized}
 use Rattle.proposals.proofs.Check.{accepted-under}
 use Rattle.targets.proofs.Target.{Laid, pages-are, page-of, page-low, header-laid, laid-header, laid-lent, laid-last}
@@ -20,7 +21,8 @@ abbrev μ-loop : tie.MeasureT-loop
 invert-requires : tie.Need-invert-requires Inv-loop μ-loop
 invert-requires c κs =
     let start = c .before .before .before .before .before .before in
-    λ p l. accepted-under _ _ (start .pre .1) p (omega (arith, l, start .pre .2))
+    let s = sized (start .pre .0) in
+    (λ p l. accepted-under _ _ (start .pre .1) p (omega (arith, l, start .pre .2)), omega (arith, s .high, accepted-is _ _ (start .pre .1) .many))
 
 sub-move-header : tie.Need-sub-move-header Inv-loop μ-loop
 sub-move-header c = omega arith
@@ -71,19 +73,15 @@ add-end c =
     let s = sized (start .pre .0) in
     omega (arith, s .high, turn .loop .inv .1, c .first-byte .ensures)
 
-mul-t22 : tie.Need-mul-t22 Inv-loop μ-loop
-mul-t22 c =
-    let turn = c .before .before in
-    let start = turn .before .before .before .before .before .before .before .before .before .before .before .before .before .before .before in
-    let s = sized (start .pre .0) in
-    omega (arith, s .high, turn .loop .inv .1)
-
-slice-read-t24 : tie.Need-slice-read-t24 Inv-loop μ-loop
-slice-read-t24 c =
+slice-read-wide : tie.Need-slice-read-wide Inv-loop μ-loop
+slice-read-wide c =
     let turn = c .before .before .before in
     let invert = turn .before .before .before .before .before .before .before .before in
     let start = invert .before .before .before .before .before .before .before in
     omega (arith, turn .loop .inv .1, invert .invert .kept .1 .0, start .pre .2)
+
+wide-requires : tie.Need-wide-requires Inv-loop μ-loop
+wide-requires c κs = tt
 
 sub-move-page : tie.Need-sub-move-page Inv-loop μ-loop
 sub-move-page c = omega arith
@@ -93,7 +91,7 @@ part-move-page-start c = omega arith
 
 part-move-page-end : tie.Need-part-move-page-end Inv-loop μ-loop
 part-move-page-end c =
-    let first-byte = c .before in
+    let first-byte = c .before .before in
     let test = first-byte .before in
     let turn = test .before in
     let start = turn .before .before .before .before .before .before .before .before .before .before .before .before .before .before .before in
@@ -102,7 +100,8 @@ part-move-page-end c =
 
 move-page-requires : tie.Need-move-page-requires Inv-loop μ-loop
 move-page-requires c κs =
-    let first-byte = c .before .before in
+    let page = c .before .wide .ensures .0 in
+    let first-byte = c .before .before .before in
     let test = first-byte .before in
     let turn = test .before in
     let invert = turn .before .before .before .before .before .before .before .before in
@@ -112,14 +111,14 @@ move-page-requires c κs =
     let e = page-of _ _ (start .pre .0 .isSound) (start .pre .1) _ _ (start .pre .2) (invert .invert .ensures) (turn .loop .q) l in
     let n : first-byte .first-byte .result + 256 - first-byte .first-byte .result ≡ 256 = omega arith in (
       start .pre .0,
-      omega (arith, e, page-low _ _ (start .pre .0 .isSound) (start .pre .1) (turn .loop .q) (turn .loop .inv .0) l),
-      pages-are _ _ (start .pre .0 .isSound) (start .pre .1) _ _ (start .pre .2) (invert .invert .ensures) .low (turn .loop .q),
+      omega (arith, page, e, page-low _ _ (start .pre .0 .isSound) (start .pre .1) (turn .loop .q) (turn .loop .inv .0) l),
+      omega (arith, page, pages-are _ _ (start .pre .0 .isSound) (start .pre .1) _ _ (start .pre .2) (invert .invert .ensures) .low (turn .loop .q)),
       part-length (first-byte .first-byte .result) _ (turn .loop .target) (omega (arith, first-byte .first-byte .ensures, s .whole, turn .loop .inv .2 .long, l)) ∙ n,
     )
 
 add-q : tie.Need-add-q Inv-loop μ-loop
 add-q c =
-    let turn = c .before .before .before .before .before .before .before in
+    let turn = c .before .before .before .before .before .before .before .before in
     let start = turn .before .before .before .before .before .before .before .before .before .before .before .before .before .before .before in
     let s = sized (start .pre .0) in
     omega (arith, s .high, turn .loop .inv .1)
@@ -130,7 +129,8 @@ loop-less c = omega arith
 loop-again : tie.Need-loop-again Inv-loop μ-loop
 loop-again c =
     let move-page = c .before .before in
-    let first-byte = move-page .before .before .before in
+    let page = move-page .before .before .wide .ensures .0 in
+    let first-byte = move-page .before .before .before .before in
     let test = first-byte .before in
     let turn = test .before in
     let invert = turn .before .before .before .before .before .before .before .before in
@@ -140,7 +140,7 @@ loop-again c =
       turn .loop .inv .1,
       laid-lent _ _ (start .pre .0 .isSound) (start .pre .1) _ _ _ _ _ (turn .loop .inv .0) l (first-byte .first-byte .ensures) refl
           (move-page .move-page .ensures ∙ ap (movedPage (start .args .places .now) (start .args .image .now))
-          (page-of _ _ (start .pre .0 .isSound) (start .pre .1) _ _ (start .pre .2) (invert .invert .ensures) (turn .loop .q) l)) (turn .loop .inv .2),
+          (page ∙ page-of _ _ (start .pre .0 .isSound) (start .pre .1) _ _ (start .pre .2) (invert .invert .ensures) (turn .loop .q) l)) (turn .loop .inv .2),
     )
 
 same-length : tie.Need-same-length Inv-loop μ-loop
@@ -174,8 +174,8 @@ write-moved-spec =
     loop-holds
     first-byte-requires
     add-end
-    mul-t22
-    slice-read-t24
+    slice-read-wide
+    wide-requires
     sub-move-page
     part-move-page-start
     part-move-page-end

@@ -1,0 +1,4 @@
+pub mod Joints
+pub mod Adding
+pub mod Writes
+pub mod Writable
