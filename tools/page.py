@@ -27,7 +27,7 @@ PARTS = ["library.mjs", "blame.mjs", "survey.mjs", "page.mjs"]
 # the modules of the library, one for each version of cartridges
 MODULES = ["zealfs_c", "zealfs2_c"]
 
-# The deepest image of version 1 wants 32 KiB of stack, that of version 2 more, as machine code 545 KiB; more is a trap and no silent overwriting, for the stack lies below all else.
+# The deepest image of version 1 wants 32 KiB of stack, that of version 2 more, as machine code 337 KiB; more is a trap and no silent overwriting, for the stack lies below all else.
 STACK = 1 << 20
 
 
