@@ -1,4 +1,4 @@
-// The shape of an image of version 2 (paper 02 §12), made once from its length and page code, when both were judged (26).
+// The shape of an image of version 2 (paper 02 §12), made from its length and page code, when both were judged (26).
 // It is the definitions' geometry at run time, so what `shape_bitmap`, `shape_pages` and `shape_chains` do by it is what `volume` says at that geometry.
 ghost use mathlib.Core.Path.{_≡_};
 ghost use Prim.Native.Nat.{_≤_};
