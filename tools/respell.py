@@ -37,7 +37,8 @@ def read(path):
 
 
 def is_walk(path):
-    return os.path.basename(path) in ("Proof.antt", "Answers.antt", "Invariants.antt")
+    name = os.path.basename(path)
+    return name == "Proof.antt" or (name in ("Answers.antt", "Invariants.antt") and os.path.basename(os.path.dirname(path)) not in ("proofs", "specs"))
 
 
 def snake(name):

@@ -5,7 +5,7 @@ use Rattle.volume.specs.Bytes.{Bytes}
 use Rattle.model.specs.Call.{Verdict, Found as Finding, Listed as Listing, empty, holds, Answer, refused, granted}
 use Rattle.arrivals.specs.Beside.{kind_of}
 use Rattle.refusals.proofs.Injective.{case, case_told}
-use Rattle.answers.specs.Answers.{changeAnswer, verdictAnswer, findAnswer, FindSays, listAnswer, ListSays, readAnswer}
+use Rattle.answers.specs.Answers.{change_answer, verdict_answer, find_answer, FindSays, list_answer, ListSays, read_answer}
 use Rattle.answers.specs.declared.ChangeAnswer.{ChangeAnswer}
 use Rattle.answers.specs.declared.ChangeAnswer.TheVariants as change
 use Rattle.answers.specs.declared.VerdictAnswer.{VerdictAnswer}
@@ -23,24 +23,24 @@ unfoldable change_case : Answer (Unit {0}) → ChangeAnswer
 change_case (refused m) = change.Refused (case m)
 change_case (granted x) = change.Done
 
-change_case_lem : (r : ChangeAnswer) → change_case (changeAnswer r) ≡ r
+change_case_lem : (r : ChangeAnswer) → change_case (change_answer r) ≡ r
 unfolding change_case
 change_case_lem change.Done = refl
 change_case_lem (change.Refused r) = ap change.Refused (case_told r)
 
-pub change_injective : (r s : ChangeAnswer) → changeAnswer r ≡ changeAnswer s → r ≡ s
+pub change_injective : (r s : ChangeAnswer) → change_answer r ≡ change_answer s → r ≡ s
 change_injective r s e = sym (change_case_lem r) ∙ ap change_case e ∙ change_case_lem s
 
 unfoldable verdict_case : Answer Verdict → VerdictAnswer
 verdict_case (refused m) = verdict.Refused (case m)
 verdict_case (granted v) = verdict.Sound v.pages v.free
 
-verdict_case_lem : (r : VerdictAnswer) → verdict_case (verdictAnswer r) ≡ r
+verdict_case_lem : (r : VerdictAnswer) → verdict_case (verdict_answer r) ≡ r
 unfolding verdict_case
 verdict_case_lem (verdict.Sound pages free) = refl
 verdict_case_lem (verdict.Refused r) = ap verdict.Refused (case_told r)
 
-pub verdict_injective : (r s : VerdictAnswer) → verdictAnswer r ≡ verdictAnswer s → r ≡ s
+pub verdict_injective : (r s : VerdictAnswer) → verdict_answer r ≡ verdict_answer s → r ≡ s
 verdict_injective r s e = sym (verdict_case_lem r) ∙ ap verdict_case e ∙ verdict_case_lem s
 
 -- ---- with what stands beside the answer: at most one result says what the model says
@@ -49,7 +49,7 @@ unfoldable find_case : Answer Finding → FindAnswer
 find_case (refused m) = find.Refused (case m)
 find_case (granted f) = kind_of (λ locked. find.File f.size locked) find.Directory f.kind
 
-find_case_lem : (x : FindAnswer) (date : Bytes) → find_case (findAnswer x date) ≡ x
+find_case_lem : (x : FindAnswer) (date : Bytes) → find_case (find_answer x date) ≡ x
 unfolding find_case kind_of
 find_case_lem (find.File size locked) date = refl
 find_case_lem find.Directory date = refl
@@ -65,7 +65,7 @@ list_case (refused m) = list.Refused (case m)
 list_case (granted empty) = list.Empty
 list_case (granted (holds kind name size date)) = kind_of (λ locked. list.File size locked) list.Directory kind
 
-list_case_lem : (x : ListAnswer) (name date : Bytes) → list_case (listAnswer x name date) ≡ x
+list_case_lem : (x : ListAnswer) (name date : Bytes) → list_case (list_answer x name date) ≡ x
 unfolding list_case kind_of
 list_case_lem list.Empty name date = refl
 list_case_lem (list.File size locked) name date = refl
@@ -82,10 +82,10 @@ unfoldable read_case : Answer ℕ → ReadAnswer
 read_case (refused m) = read.Refused (case m)
 read_case (granted n) = read.Copied n
 
-read_case_lem : (r : ReadAnswer) → read_case (readAnswer r) ≡ r
+read_case_lem : (r : ReadAnswer) → read_case (read_answer r) ≡ r
 unfolding read_case
 read_case_lem (read.Copied n) = refl
 read_case_lem (read.Refused r) = ap read.Refused (case_told r)
 
-pub read_injective : (r s : ReadAnswer) → readAnswer r ≡ readAnswer s → r ≡ s
+pub read_injective : (r s : ReadAnswer) → read_answer r ≡ read_answer s → r ≡ s
 read_injective r s e = sym (read_case_lem r) ∙ ap read_case e ∙ read_case_lem s

@@ -20,36 +20,36 @@ use Rattle.answers.specs.declared.Listed.{Listed}
 use Rattle.answers.specs.declared.ReadAnswer.{ReadAnswer}
 use Rattle.answers.specs.declared.ReadAnswer.TheVariants as read
 
-abbrev pub changeAnswer : ChangeAnswer → Answer (Unit {0})
-changeAnswer change.Done = granted tt
-changeAnswer (change.Refused r) = refused (told r)
+abbrev pub change_answer : ChangeAnswer → Answer (Unit {0})
+change_answer change.Done = granted tt
+change_answer (change.Refused r) = refused (told r)
 
-abbrev pub verdictAnswer : VerdictAnswer → Answer Verdict
-verdictAnswer (verdict.Sound pages free) = granted (record { pages = pages; free = free })
-verdictAnswer (verdict.Refused r) = refused (told r)
+abbrev pub verdict_answer : VerdictAnswer → Answer Verdict
+verdict_answer (verdict.Sound pages free) = granted (record { pages = pages; free = free })
+verdict_answer (verdict.Refused r) = refused (told r)
 
 -- find: with the date that stands beside the answer
-abbrev pub findAnswer : FindAnswer → (date : Bytes) → Answer Finding
-findAnswer (find.File size locked) date = granted (record { kind = is_file locked; size = size; date = date })
-findAnswer find.Directory date = granted (record { kind = is_directory; size = page_size; date = date })
-findAnswer (find.Refused r) date = refused (told r)
+abbrev pub find_answer : FindAnswer → (date : Bytes) → Answer Finding
+find_answer (find.File size locked) date = granted (record { kind = is_file locked; size = size; date = date })
+find_answer find.Directory date = granted (record { kind = is_directory; size = page_size; date = date })
+find_answer (find.Refused r) date = refused (told r)
 
 abbrev pub FindSays : Found → Answer Finding → Type 0
-FindSays r a = (findAnswer r.answer r.date ≡ a) × (r.date ≡ find_date a)
+FindSays r a = (find_answer r.answer r.date ≡ a) × (r.date ≡ find_date a)
 
 -- list: with the name and the date that stand beside the answer
-abbrev pub listAnswer : ListAnswer → (name date : Bytes) → Answer Listing
-listAnswer list.Empty name date = granted empty
-listAnswer (list.File size locked) name date = granted (holds (is_file locked) name size date)
-listAnswer list.Directory name date = granted (holds is_directory name page_size date)
-listAnswer (list.Refused r) name date = refused (told r)
+abbrev pub list_answer : ListAnswer → (name date : Bytes) → Answer Listing
+list_answer list.Empty name date = granted empty
+list_answer (list.File size locked) name date = granted (holds (is_file locked) name size date)
+list_answer list.Directory name date = granted (holds is_directory name page_size date)
+list_answer (list.Refused r) name date = refused (told r)
 
 abbrev pub ListSays : Listed → Answer Listing → Type 0
-ListSays r a = (listAnswer r.answer r.name r.date ≡ a) × (r.name ≡ list_name a) × (r.date ≡ list_date a)
+ListSays r a = (list_answer r.answer r.name r.date ≡ a) × (r.name ≡ list_name a) × (r.date ≡ list_date a)
 
-abbrev pub readAnswer : ReadAnswer → Answer ℕ
-readAnswer (read.Copied count) = granted count
-readAnswer (read.Refused r) = refused (told r)
+abbrev pub read_answer : ReadAnswer → Answer ℕ
+read_answer (read.Copied count) = granted count
+read_answer (read.Refused r) = refused (told r)
 
 -- ---- what a function of the crate asks the bytes
 

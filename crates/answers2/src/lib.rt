@@ -1,22 +1,24 @@
 // What the calls on a cartridge of version 2 answer, as values (paper 02 §12); specs/Answers.antt says what each stands for, and proofs/Injective.antt that two that differ stand for two answers.
+#![tactic(auto)]
+
 use refusals2::Refusal;
 
 // A call that changes an image tells only that it was done.
-#[derive(Drop)]
+#[derive(Clone, Copy)]
 pub enum ChangeAnswer {
     Done,
     Refused(Refusal),
 }
 
 // A sound image has so many pages, of which so many are free.
-#[derive(Drop)]
+#[derive(Clone, Copy)]
 pub enum VerdictAnswer {
     Sound(usize, usize),
     Refused(Refusal),
 }
 
 // What a path leads to: a file with its size and whether it is locked, or a directory, whose size is that of a page.
-#[derive(Drop)]
+#[derive(Clone, Copy)]
 pub enum FindAnswer {
     File(usize, bool),
     Directory(usize),
@@ -24,14 +26,14 @@ pub enum FindAnswer {
 }
 
 // The date stands beside the answer; beside a refusal it is zeros.
-#[derive(Drop)]
+#[derive(Clone, Copy)]
 pub struct Found {
     pub answer: FindAnswer,
     pub date: [u8; 8],
 }
 
 // Entry i of a directory: empty, a file with its size and whether it is locked, or a directory, whose size is that of a page.
-#[derive(Drop)]
+#[derive(Clone, Copy)]
 pub enum ListAnswer {
     Empty,
     File(usize, bool),
@@ -40,7 +42,7 @@ pub enum ListAnswer {
 }
 
 // The name, with its padding, and the date stand beside the answer; beside an empty entry and a refusal they are zeros.
-#[derive(Drop)]
+#[derive(Clone, Copy)]
 pub struct Listed {
     pub answer: ListAnswer,
     pub name: [u8; 16],
@@ -48,7 +50,7 @@ pub struct Listed {
 }
 
 // The number of bytes that were copied.
-#[derive(Drop)]
+#[derive(Clone, Copy)]
 pub enum ReadAnswer {
     Copied(usize),
     Refused(Refusal),

@@ -1,6 +1,7 @@
 // A second judge of an image (02 §8). It keeps the directories still to be visited and a row of owners, one a page, and shares no walk with
 // `judge`: only the readers of fields, names and bits are the same. What entries claim is in `claims`, and the marks are asked in `agreement`.
 // No function changes the image. The one public function has no `requires`: it says of any bytes whether they are a sound image.
+#![tactic(auto)]
 ghost use Rattle.std.specs.Prelude.{◌≡◌, ◌+◌, ◌≤◌, [], ◌∷◌, length};
 ghost use Rattle.model.specs.Layout.{page_count};
 ghost use Rattle.model.specs.Sound.{sound};
@@ -43,7 +44,7 @@ fn audit_row(image: &[u8], row: &mut [usize]) -> bool
 }
 
 // Whether any bytes are a sound image, and who owns each page: 0 nobody, 1 the header, else the position of the owner's entry.
-#[derive(Drop)]
+#[derive(Clone, Copy)]
 pub struct Findings {
     pub sound: bool,
     pub owners: [usize; 256],

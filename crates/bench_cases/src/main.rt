@@ -1,6 +1,7 @@
 // The cases 1 to 13 of document 01, "At the bench", with the values of document 02 §1 and §2, run by the compiled calls: what was
 // asked, what was answered, and the bytes that the case names. The stored output was written by hand, from the papers' numbers and the
 // layout of an image, and not copied from a run.
+#![tactic(auto)]
 ghost use Rattle.std.specs.Prelude.{◌+◌, ◌<◌, ◌≤◌, length};
 
 use fields::Position;

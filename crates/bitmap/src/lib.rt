@@ -1,5 +1,7 @@
 // The bitmap of an image of version 1: the functions of `shape_bitmap` at the shape of version 1, with contracts in the model's words.
 // Every function is total where the bitmap lies in the image, and none but `mark` and `unmark` changes a byte, each of them one.
+#![tactic(auto)]
+
 ghost use Rattle.std.specs.Prelude.{◌≡◌, ◌+◌, ◌<◌, ◌≤◌, length};
 ghost use Rattle.model.specs.Layout.{version1};
 ghost use Rattle.volume.specs.Geometry as On;

@@ -1,9 +1,10 @@
 // The calls of `zealfs` that change an image, as C gets them (`zealfs_c` names them for C). None has a `requires`: whatever the bytes, a function returns the
 // code of the model's `answer` and leaves the image as `after` says.
+#![tactic(auto)]
 ghost use Rattle.std.specs.Prelude.{◌≡◌, true, false};
 ghost use Rattle.model.specs.Call.{format, make_file, make_directory, write, remove_file, remove_directory, set_lock};
 ghost use Rattle.model.specs.Meaning.{answer, after};
-ghost use Rattle.answers.specs.Answers.{changeAnswer};
+ghost use Rattle.answers.specs.Answers.{change_answer};
 ghost use Rattle.codes.specs.Codes.{code_of, Fits, place_of};
 
 use fields::Position;
@@ -11,8 +12,8 @@ use zealfs::ChangeAnswer;
 
 // The code of a call that tells nothing else.
 pub fn change_code(a: ChangeAnswer) -> u64
-    requires { Fits (place_of (changeAnswer a)) }
-    ensures { result ≡ code_of (changeAnswer a) }
+    requires { Fits (place_of (change_answer a)) }
+    ensures { result ≡ code_of (change_answer a) }
 {
     match a {
         ChangeAnswer::Done => 0,

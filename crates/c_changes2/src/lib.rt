@@ -1,10 +1,11 @@
 // The calls of version 2 that change an image, as C gets them (`zealfs2_c` names them for C; paper 02 §12). None has a `requires`: whatever the bytes, a function
 // returns the code of the model's `answer` and leaves the image as `after` says.
+#![tactic(auto)]
 ghost use Rattle.std.specs.Prelude.{◌≡◌, true, false};
 ghost use Rattle.model.specs.Call.{format_as, make_file, make_directory, write, remove_file, remove_directory, set_lock};
 ghost use Rattle.model.specs.MeaningOf.{answer, after};
 ghost use Rattle.model2.specs.Calls.{v2};
-ghost use Rattle.answers2.specs.Answers.{changeAnswer};
+ghost use Rattle.answers2.specs.Answers.{change_answer};
 ghost use Rattle.codes.specs.Codes.{code_of, Fits, place_of};
 
 use answers2::ChangeAnswer;
@@ -12,8 +13,8 @@ use fields::Position;
 
 // The code of a call that tells nothing else.
 fn change_code(a: ChangeAnswer) -> u64
-    requires { Fits (place_of (changeAnswer a)) }
-    ensures { result ≡ code_of (changeAnswer a) }
+    requires { Fits (place_of (change_answer a)) }
+    ensures { result ≡ code_of (change_answer a) }
 {
     match a {
         ChangeAnswer::Done => 0,

@@ -1,6 +1,7 @@
 // One list of calls on one image of 2,048 bytes, granted and refused ones mixed, each printed as one line with its answer.
 // The stored output is no output of this program: `tools/replay.py` has the same list, replays it on a plain tree that knows no byte of
 // an image (document 01, "Lists of calls, and the replay"), and prints the lines that the tree gives.
+#![tactic(auto)]
 type Image = [u8; 2048];
 
 const NOON: [u8; 8] = [0x20, 0x26, 0x07, 0x25, 0x06, 0x12, 0x00, 0x00];

@@ -1,6 +1,8 @@
 // What make, write and remove do to the bytes of a version 2 image once they are granted (paper 02 §12): an entry is put, changed or cleared, its chain
 // grows or goes, and a directory gains a page.
 // Nothing is judged here. What a function asks of the image holds on every sound one, and its contract is the model's effect, byte for byte.
+#![tactic(auto)]
+
 ghost use Rattle.std.specs.Prelude.{◌≡◌, ◌+◌, ◌-◌, ◌<◌, ◌≤◌, length, set, take};
 ghost use mathlib.Core.List.{foldl};
 ghost use Rattle.volume.specs.Bytes.{put};

@@ -1,5 +1,7 @@
 // What the entries of a directory claim in the row of owners of the second judge (02 §8), whether no two of them have one name, and which of them are
 // directories. No function changes the image.
+#![tactic(auto)]
+
 ghost use Rattle.std.specs.Prelude.{◌≡◌, ◌+◌, ◌≤◌, ◌<◌, ◌++◌, length, take, ◌&&◌, eqb};
 ghost use Rattle.volume.specs.Bytes.{if◌then◌else◌};
 ghost use Rattle.model.specs.Layout.{page_count};

@@ -1,9 +1,10 @@
 // A refusal as one number, for callers that are not Rattle: the paper's number in the low byte, and its place above it. The code says the case, and
 // `refusalCode` in specs/ what it stands for; that every refusal that a call can give has this room is law `place-fits`.
+#![tactic(auto)]
 ghost use Rattle.std.specs.Prelude.{◌≡◌};
 ghost use Rattle.model.specs.Call.{is_file};
 ghost use Rattle.model.specs.Meaning.{fault_told};
-ghost use Rattle.faults.specs.Answers.{faultOf};
+ghost use Rattle.faults.specs.Answers.{fault_of};
 ghost use Rattle.refusals.specs.Told.{told};
 ghost use Rattle.codes.specs.Codes.{packed, refusal_code, Fits};
 ghost use Rattle.codes.specs.Outs.{lock_number};
@@ -21,8 +22,8 @@ pub fn pack(a: usize, b: usize, c: usize) -> u64
 
 // Where the image is unsound. A fault is told the same in version 2.
 pub fn fault_place(fault: Fault) -> u64
-    requires { Fits (fault_told (faultOf fault)).place }
-    ensures { result ≡ packed (fault_told (faultOf fault)).place }
+    requires { Fits (fault_told (fault_of fault)).place }
+    ensures { result ≡ packed (fault_told (fault_of fault)).place }
 {
     match fault {
         Fault::BadEntry(directory, entry) => pack(directory.0, entry, 0),

@@ -1,5 +1,7 @@
 // The entries of a directory of version 2, which is a chain of pages (paper 02 §12), one after the other by a cursor: so a walk over them is one loop.
 // A cursor goes over as many pages as the image has, at most, so it ends on any image; that its pages lie in the image is asked.
+#![tactic(auto)]
+
 ghost use Rattle.std.specs.Prelude.{◌≡◌, ◌+◌, ◌<◌, ◌≤◌, ◌∷◌, length};
 ghost use Rattle.volume.specs.Lists.{first};
 ghost use Rattle.volume.specs.Geometry as On;
@@ -15,20 +17,20 @@ use fields::Page;
 use shape::Shape;
 
 // An entry by its number on a page of the directory. `left` is how many pages may follow: as many as the image has, less those before.
-#[derive(Drop)]
+#[derive(Clone, Copy)]
 pub struct Cursor {
     pub page: Page,
     pub number: usize,
     pub left: usize,
 }
 
-#[derive(Drop)]
+#[derive(Clone, Copy)]
 pub enum Step {
     At(Cursor),
     End,
 }
 
-#[derive(Drop)]
+#[derive(Clone, Copy)]
 pub enum Found {
     There(usize),
     Nowhere,

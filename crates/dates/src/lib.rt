@@ -1,5 +1,7 @@
 // Dates of entries: century, year in century, month, day, weekday, hour, minute and second, each a byte of two BCD digits.
 // Every function answers what the model says of the bytes and changes none; the public one answers for any bytes.
+#![tactic(auto)]
+
 ghost use Rattle.std.specs.Prelude.{◌≡◌, ◌<◌, length};
 ghost use Rattle.volume.specs.Lists.{all};
 ghost use Rattle.model.specs.Date.{is_bcd, bcd, between, is_leap, days_in, year_of, good_date};

@@ -1,5 +1,7 @@
 // The 32 bytes of a new entry of version 2 (paper 02 §12), filled where it stands through a lent part of the image, and the four bytes of a size.
 // Each contract is one equation to `model2`'s bytes, and asks only that the bytes lie in the image and that the size fits.
+#![tactic(auto)]
+
 ghost use Rattle.std.specs.Prelude.{◌≡◌, ◌+◌, ◌<◌, ◌≤◌, length};
 ghost use Rattle.volume.specs.Bytes.{put};
 ghost use Rattle.model2.specs.Entry.{size_bytes, new_entry};

@@ -1,5 +1,7 @@
 // What both versions do alike to the bytes of an entry: bytes put at its place, and the mark of a locked file.
 // Each function changes the bytes that it names and no other, and asks only that they lie in the image.
+#![tactic(auto)]
+
 ghost use Rattle.std.specs.Prelude.{◌≡◌, ◌+◌, ◌<◌, ◌≤◌, length, set};
 ghost use Rattle.volume.specs.Bytes.{byte_at, put};
 ghost use Rattle.model.specs.Effect.{with_lock};

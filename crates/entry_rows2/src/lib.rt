@@ -1,5 +1,7 @@
 // One entry of a directory of version 2 as a row of 32 bytes, which hold what `list` tells of it (paper 02 §12). The image is lent for reading, and the row is a
 // part of the bytes that a call was lent.
+#![tactic(auto)]
+
 ghost use Rattle.std.specs.Prelude.{◌≡◌, ◌+◌, ◌≤◌, ◌<◌, length};
 ghost use Rattle.model2.specs.Entry.{entry_at};
 ghost use Rattle.arrivals.specs.Listed.{entry_told};

@@ -7,15 +7,15 @@ use Rattle.faults.specs.declared.Fault.TheVariants.{BadEntry, BadChain, OwnedTwi
 use Rattle.faults.specs.declared.Check.{Check}
 use Rattle.faults.specs.declared.Check.TheVariants.{Clean, Faulty}
 
-abbrev pub faultOf : Fault → Model.Fault
-faultOf (BadEntry directory i) = Model.bad_entry directory.0 i
-faultOf (BadChain directory i passed) = Model.bad_chain directory.0 i passed
-faultOf (OwnedTwice page) = Model.owned_twice page.0
-faultOf (MarkedFree page) = Model.marked_free page.0
-faultOf (LostPage page) = Model.lost_page page.0
-faultOf BadCount = Model.bad_count
+abbrev pub fault_of : Fault → Model.Fault
+fault_of (BadEntry directory i) = Model.bad_entry directory.0 i
+fault_of (BadChain directory i passed) = Model.bad_chain directory.0 i passed
+fault_of (OwnedTwice page) = Model.owned_twice page.0
+fault_of (MarkedFree page) = Model.marked_free page.0
+fault_of (LostPage page) = Model.lost_page page.0
+fault_of BadCount = Model.bad_count
 
 -- An answer with the owner marks as it left them. What a faulty walk leaves in them is nobody's concern.
 abbrev pub outcome : Check → List ℕ → Judged
 outcome Clean marks = clean marks
-outcome (Faulty f) marks = fault (faultOf f)
+outcome (Faulty f) marks = fault (fault_of f)

@@ -1,9 +1,11 @@
 // What a judge of an image comes to (01, "A sound image"; the places of faults: 02 §2): clean, or the first fault with its place. Both versions
 // have these, and a refusal tells a fault. Types and their values in the model, no code.
+#![tactic(auto)]
+
 use fields::Page;
 
 // The first fault of an image, with its place; in brackets the number of paper 02 §2, which `refusals` tells.
-#[derive(Drop)]
+#[derive(Clone, Copy)]
 pub enum Fault {
     // An occupied entry whose name is not legal or is that of an earlier one, or a directory whose size is not 0x0100: the
     // directory's page and the entry's number (16).
@@ -21,7 +23,7 @@ pub enum Fault {
     BadCount,
 }
 
-#[derive(Drop)]
+#[derive(Clone, Copy)]
 pub enum Check {
     Clean,
     Faulty(Fault),

@@ -1,20 +1,22 @@
 // What stands in an image as numbers and as values: the header's fields, the links of pages, and the entries of directories.
 // Every function answers what the model reads there and changes no byte; it asks only that what it reads lies in the image, or that a position fits.
+#![tactic(auto)]
+
 ghost use Rattle.std.specs.Prelude.{◌≡◌, ◌+◌, ◌*◌, ◌/◌, ◌^◌, ◌≤◌, ◌<◌, min, max, length};
 ghost use Rattle.model.specs.Layout.{page_size, pages_for, valid_length, valid_header, free_count, link};
 ghost use Rattle.model.specs.Entry.{is_locked, entry_count, entries_start, name_at, start_at, date_at, entry_at};
 ghost use Rattle.fields.specs.Read.{entry_of, Small};
 
 // The number of a page. It becomes a position in `first_byte`.
-#[derive(Drop)]
+#[derive(Clone, Copy)]
 pub struct Page(pub usize);
 
 // A byte of a file's content, counted from 0. It is no position of the image: the chain says on which page it lies.
-#[derive(Drop)]
+#[derive(Clone, Copy)]
 pub struct Position(pub usize);
 
 // An entry of a directory: its start page and its size. Name and date are arrays, and stand beside it.
-#[derive(Drop)]
+#[derive(Clone, Copy)]
 pub enum Entry {
     Vacant,
     File(Page, usize),
@@ -183,7 +185,7 @@ pub fn name_of(image: &[u8], at: usize) -> [u8; 16]
     let from = at + 1;
     let to = at + 17;
     let mut name = [0u8; 16];
-    bytes::copy(&image[from..to], &mut name);
+    name.copy_from_slice(&image[from..to]);
     name
 }
 
@@ -194,6 +196,6 @@ pub fn date_of(image: &[u8], at: usize) -> [u8; 8]
     let from = at + 20;
     let to = at + 28;
     let mut date = [0u8; 8];
-    bytes::copy(&image[from..to], &mut date);
+    date.copy_from_slice(&image[from..to]);
     date
 }

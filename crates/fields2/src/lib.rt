@@ -1,5 +1,7 @@
 // The entry at position `at` of an image of version 2, read (paper 02 §12), and the pages of a file of a size; the header is read by `header2`.
 // Flags and names stand where version 1 has them, so `fields` and `names` read those.
+#![tactic(auto)]
+
 ghost use Rattle.std.specs.Prelude.{◌≡◌, ◌+◌, ◌^◌, ◌≤◌, ◌<◌, length};
 ghost use Rattle.model2.specs.Layout.{pages_for};
 ghost use Rattle.model2.specs.Entry.{is_locked, name_at, start_at, size_at, date_at, entry_at};
@@ -47,7 +49,7 @@ pub fn date_of(image: &[u8], at: usize) -> [u8; 8]
     let from = at + 23;
     let to = at + 31;
     let mut date = [0u8; 8];
-    bytes::copy(&image[from..to], &mut date);
+    date.copy_from_slice(&image[from..to]);
     date
 }
 

@@ -1,5 +1,7 @@
 // The bytes that format writes on a cartridge of version 2 (paper 02 §12), once its length and the page code that it was handed are judged (1, 26).
 // Nothing is judged here: the pages set aside are written whole, each lent as its own part of the image, and every byte behind them stays.
+#![tactic(auto)]
+
 ghost use Rattle.std.specs.Prelude.{◌≡◌, ◌-◌, ◌*◌, ◌^◌, ◌≤◌, length};
 ghost use Rattle.volume.specs.Bytes.{put, zeros};
 ghost use Rattle.model2.specs.Format.{formatted};

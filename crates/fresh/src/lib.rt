@@ -1,5 +1,7 @@
 // The names of a directory's entries differ (01, "A sound image"): a name is legal, and no earlier entry's.
 // No function changes the image.
+#![tactic(auto)]
+
 ghost use Rattle.std.specs.Prelude.{◌≡◌, ◌+◌, ◌≤◌, ◌<◌, length};
 ghost use Rattle.volume.specs.Bytes.{byte_at};
 ghost use Rattle.model.specs.Layout.{page_count};

@@ -1,5 +1,7 @@
 // The header of an image of version 2, judged by the lines 1, 2 and 26 (paper 02 §12). No function but one asks for anything: whatever the bytes, the header is
 // right, with the shape of the image, or told is the first line that holds.
+#![tactic(auto)]
+
 ghost use Rattle.std.specs.Prelude.{◌≡◌, ◌||◌, ◌≤◌, length, leb};
 ghost use Rattle.std.proofs.Math.Option.{none, some};
 ghost use Rattle.model.specs.RefusalOf.{settle};
@@ -10,7 +12,7 @@ use shape::Cell;
 use shape2::Cartridge;
 
 // What the header of any bytes is: the first of the lines 1, 2 and 26 that holds, or the image's shape and its number of pages.
-#[derive(Drop)]
+#[derive(Clone, Copy)]
 pub enum Header {
     BadLength,
     BadVersion,

@@ -16,11 +16,11 @@ use Rattle.view_laws.proofs.Comes.{unowned_all}
 use Rattle.faults.specs.declared.Check.{Check}
 use Rattle.faults.specs.declared.Check.TheVariants.{Clean, Faulty}
 use Rattle.faults.specs.declared.Fault.{Fault}
-use Rattle.faults.specs.Answers.{faultOf, outcome}
-use Rattle.judge.specs.Answers.{badLength, badHeader, unsound, is_sound, concluded, judgedAs}
+use Rattle.faults.specs.Answers.{fault_of, outcome}
+use Rattle.judge.specs.Answers.{bad_length, bad_header, unsound, is_sound, concluded, judged_as}
 use Rattle.owning.specs.Marked.{Marked}
 use Rattle.fields.proofs.Plain.{told, untold}
-use Rattle.faults.proofs.Answers.{clean_of, fault-of}
+use Rattle.faults.proofs.Answers.{clean_of, fault_of_lem}
 
 -- ---- the length
 
@@ -69,9 +69,9 @@ judge_root b m j low start post = go (page_count b) low start
 
 -- a walk that ended clean is followed by the rest, and one that did not is all; its answer is q
 module _ (b : Bytes) (q : Check) (m : List ℕ) (walked : outcome q m ≡ judge_walk b) where
-  pub walk_faulty : (x : Fault) → q ≡ Faulty x → fault (faultOf x) ≡ judge b
+  pub walk_faulty : (x : Fault) → q ≡ Faulty x → fault (fault_of x) ≡ judge b
   unfolding judge_view then_judge
-  walk_faulty x e = rw (← fault-of m walked e)
+  walk_faulty x e = rw (← fault_of_lem m walked e)
 
   pub walk_clean : q ≡ Clean → (j : Judged) → j ≡ judge_rest (view b) m → j ≡ judge b
   unfolding judge_view then_judge
@@ -80,20 +80,20 @@ module _ (b : Bytes) (q : Check) (m : List ℕ) (walked : outcome q m ≡ judge_
 -- ---- what any bytes are found to be
 
 module _ (b : Bytes) (valid : Bool) (long : valid ≡ valid_length (length b)) where
-  pub found_length : not valid ≡ true → badLength ≡ judgedAs b
-  unfolding judgedAs
+  pub found_length : not valid ≡ true → bad_length ≡ judged_as b
+  unfolding judged_as
   found_length t = rw (untold long t)
 
   module _ (t : not valid ≡ false) (right : Bool) (header : right ≡ valid_header b) where
-    pub found_header : not right ≡ true → badHeader ≡ judgedAs b
-    unfolding judgedAs
+    pub found_header : not right ≡ true → bad_header ≡ judged_as b
+    unfolding judged_as
     found_header h = rw (told long t, untold header h)
 
     module _ (h : not right ≡ false) (q : Check) (m : List ℕ) (judged : outcome q m ≡ judge b) where
-      pub found_fault : (x : Fault) → q ≡ Faulty x → unsound (faultOf x) ≡ judgedAs b
-      unfolding judgedAs concluded
-      found_fault x e = rw (told long t, told header h, ← fault-of m judged e)
+      pub found_fault : (x : Fault) → q ≡ Faulty x → unsound (fault_of x) ≡ judged_as b
+      unfolding judged_as concluded
+      found_fault x e = rw (told long t, told header h, ← fault_of_lem m judged e)
 
-      pub found_sound : q ≡ Clean → (n free : ℕ) → n ≡ page_count b → free ≡ free_count b → is_sound n free ≡ judgedAs b
-      unfolding judgedAs concluded
+      pub found_sound : q ≡ Clean → (n free : ℕ) → n ≡ page_count b → free ≡ free_count b → is_sound n free ≡ judged_as b
+      unfolding judged_as concluded
       found_sound e n free pages count = rw (told long t, told header h, ← clean_of judged e, pages, count)

@@ -28,11 +28,11 @@ use Rattle.names.proofs.Steps.{and_false}
 use Rattle.faults.specs.declared.Check.{Check}
 use Rattle.faults.specs.declared.Check.TheVariants.{Clean, Faulty}
 use Rattle.faults.specs.declared.Fault.{Fault}
-use Rattle.faults.specs.Answers.{faultOf, outcome}
+use Rattle.faults.specs.Answers.{fault_of, outcome}
 use Rattle.owning.specs.Marked.{Marked}
 use Rattle.fresh.specs.Earlier.{position, earlier}
 use Rattle.fields.proofs.Plain.{told, untold}
-use Rattle.faults.proofs.Answers.{clean_of, fault-of}
+use Rattle.faults.proofs.Answers.{clean_of, fault_of_lem}
 use Rattle.owning.proofs.Marks.{page_made}
 use Rattle.judge.proofs.Placed.{paged}
 
@@ -82,10 +82,10 @@ module _ {b : Bytes} {p : ℕ} {m₀ : List ℕ} where
             comes = λ f h. at.comes f h ∙ turn b p (judge_directory f (view b)) i m (omega arith) ∙ rw (← clean_of (post f (le_trans at.few h)) e);
           }
 
-      pub stands_faulty : {x : Fault} → r ≡ Faulty x → (f : ℕ) → unowned m₀ ≤ f → fault (faultOf x) ≡ judge_directory (suc f) (view b) p m₀
+      pub stands_faulty : {x : Fault} → r ≡ Faulty x → (f : ℕ) → unowned m₀ ≤ f → fault (fault_of x) ≡ judge_directory (suc f) (view b) p m₀
       unfolding then_judge
       stands_faulty e f h =
-          sym (at.comes f h ∙ turn b p (judge_directory f (view b)) i m (omega arith) ∙ rw (← fault-of m' (post f (le_trans at.few h)) e))
+          sym (at.comes f h ∙ turn b p (judge_directory f (view b)) i m (omega arith) ∙ rw (← fault_of_lem m' (post f (le_trans at.few h)) e))
 
 -- ---- an entry, by what was read at its position
 
@@ -140,9 +140,9 @@ module _ (b : Bytes) (d i at : ℕ) (r : Entry) (m : List ℕ) (here : at ≡ po
       -- its page: the answer for it is q, and it leaves the marks l
       module _ (t : not fresh ≡ false) (s : size ≡ 0x0100) (q : Check) (l : List ℕ) (page : outcome q l ≡ judge_page (view b) (bad_chain d i 0) start.0 m) where
         pub faulty_page : (below : ℕ → List ℕ → Judged) (x : Fault) → q ≡ Faulty x
-            → fault (faultOf x) ≡ judge_entry below (view b) d i (earlier d i) (entry_at b (position d i)) m
+            → fault (fault_of x) ≡ judge_entry below (view b) d i (earlier d i) (entry_at b (position d i)) m
         unfolding judge_entry then_judge
-        faulty_page below x e = rw (← seen directory, told name t, eq-eqb _ _ s, ← fault-of l page e)
+        faulty_page below x e = rw (← seen directory, told name t, eq-eqb _ _ s, ← fault_of_lem l page e)
 
         -- the directory on a page that got its owner is judged with one unit of fuel less
         pub directory_below : q ≡ Clean → length m ≡ page_count b → (j : Judged) → ((f : ℕ) → unowned l ≤ f → j ≡ judge_directory (suc f) (view b) start.0 l)

@@ -1,6 +1,8 @@
 // The judge of an image (01, "A sound image"; the order and the places of faults: 02 §2): a walk down the tree of directories that
 // gives each page its owner and stops at the first fault.
 // No function changes the image. The one public function has no `requires`: it says of any bytes what they are.
+#![tactic(auto)]
+
 ghost use Rattle.std.specs.Prelude.{◌≡◌, ℕ, suc, ◌≤◌, ◌<◌, length, replicate};
 ghost use Rattle.model.specs.Layout.{page_count};
 ghost use Rattle.model.specs.Entry.{entry_count, entry_at};
@@ -10,13 +12,13 @@ ghost use Rattle.view_laws.specs.Marks.{unowned};
 ghost use Rattle.faults.specs.Answers.{outcome};
 ghost use Rattle.owning.specs.Marked.{Marked};
 ghost use Rattle.fresh.specs.Earlier.{position, earlier};
-ghost use Rattle.judge.specs.Answers.{findingOf, judgedAs};
+ghost use Rattle.judge.specs.Answers.{finding_of, judged_as};
 
 use faults::{Check, Fault};
 use fields::{Entry, Page};
 
 // What any bytes are. A sound image has so many pages, and so many of them are free.
-#[derive(Drop)]
+#[derive(Clone, Copy)]
 pub enum Judgement {
     Sound(usize, usize),
     BadLength,
@@ -106,7 +108,7 @@ fn judge_all(image: &[u8], marks: &mut [u8]) -> Check
 // The length is judged first, then the header, then the rest: 1 and 2 stand above the faults. The free number of a sound image is byte 3,
 // for `judge_rest` has counted it.
 pub fn judge_image(image: &[u8]) -> Judgement
-    ensures { findingOf result ≡ judgedAs image.now }
+    ensures { finding_of result ≡ judged_as image.now }
 {
     if !fields::length_is_allowed(image.len()) {
         return Judgement::BadLength;

@@ -1,5 +1,6 @@
 // The judge of a version 2 image (paper 02 §2 and §12): a walk down the tree of directories that gives each page its owner, to the first fault.
 // No function changes the image. The one public function has no `requires`: it says of any bytes what they are.
+#![tactic(auto)]
 ghost use Rattle.std.specs.Prelude.{◌≡◌, ℕ, suc, ◌≤◌, false, length, replicate};
 ghost use Rattle.model.specs.Judge.{judge_entry, judge_directory, judge_root, judge_view};
 ghost use Rattle.model2.specs.Layout.{page_count, code_in};
@@ -13,7 +14,7 @@ ghost use Rattle.cursor2.specs.Row.{position_at};
 ghost use Rattle.occupied2.specs.Passing.{is_free};
 ghost use Rattle.known2.specs.Known.{Formed};
 ghost use Rattle.names2.specs.Reached.{earlier, Reached};
-ghost use Rattle.judge2.specs.Answers.{findingOf, concluded, judgedAs, Shaped};
+ghost use Rattle.judge2.specs.Answers.{finding_of, concluded, judged_as, Shaped};
 
 use cursor2::Cursor;
 use faults::{Check, Fault};
@@ -24,7 +25,7 @@ use shape::Shape;
 use shape2::Cartridge;
 
 // What any bytes are: refused by 1, 2 or 26, unsound by their first fault, or sound, with their shape, N and the number of free pages.
-#[derive(Drop)]
+#[derive(Clone, Copy)]
 pub enum Judgement {
     Sound(Cartridge, usize),
     BadLength,
@@ -154,7 +155,7 @@ fn judge_all(image: &[u8], shape: Shape, pages: usize, marks: &mut [u8]) -> Chec
 // An image whose header is right. The free number of a sound one is the header's, for `judge_rest` has counted it.
 fn judge_formed(image: &[u8], cartridge: Cartridge) -> Judgement
     requires { Formed image.now cartridge.shape cartridge.pages }
-    ensures { (findingOf result ≡ concluded (view2 image.now) (judge_view (view2 image.now))) × Shaped image.now result }
+    ensures { (finding_of result ≡ concluded (view2 image.now) (judge_view (view2 image.now))) × Shaped image.now result }
 {
     let shape = cartridge.shape;
     let n = cartridge.pages;
@@ -169,7 +170,7 @@ fn judge_formed(image: &[u8], cartridge: Cartridge) -> Judgement
 
 // The length is judged first, then the version, then the page code with the bitmap's bytes, then the rest: 1, 2 and 26 stand above the faults.
 pub fn judge_image(image: &[u8]) -> Judgement
-    ensures { (findingOf result ≡ judgedAs image.now) × Shaped image.now result }
+    ensures { (finding_of result ≡ judged_as image.now) × Shaped image.now result }
 {
     match header2::read_header(image) {
         Header::BadLength => Judgement::BadLength,

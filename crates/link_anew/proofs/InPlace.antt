@@ -31,7 +31,7 @@ use Rattle.answers.specs.declared.VerdictAnswer.{VerdictAnswer}
 use Rattle.answers.specs.declared.VerdictAnswer.TheVariants as judged
 use Rattle.answers.specs.declared.ChangeAnswer.{ChangeAnswer}
 use Rattle.answers.specs.declared.ChangeAnswer.TheVariants as change
-use Rattle.answers.specs.Answers.{verdictAnswer, changeAnswer}
+use Rattle.answers.specs.Answers.{verdict_answer, change_answer}
 use Rattle.link_list.specs.Links.{run_after}
 use Rattle.link_list.proofs.Writing.{settle_passed}
 use Rattle.link_anew.specs.Anew.{replacing, taken, anew, first_of, run_answer, if_granted, run_whole, RunsTo, KeptBy, HasRoom}
@@ -113,14 +113,14 @@ module _ (path date v b : Bytes) (room : HasRoom (length v) b) where
         go (granted y) e = absurd (not_granted (made_all y e ∙ sym p))
 
   pub in_place : (r : ChangeAnswer) (b' : Bytes) → RunsTo r (anew path date v b) b b' → KeptBy (first_of path date b) b b'
-      → (changeAnswer r ≡ run_answer (anew path date v b) b) × (b' ≡ run_whole (anew path date v b) b)
+      → (change_answer r ≡ run_answer (anew path date v b) b) × (b' ≡ run_whole (anew path date v b) b)
   unfolding run_whole if_granted
   in_place change.Done b' p k = (p.0, p.1 ∙ ap (λ (a : Answer (Unit {0})). if_granted a b (run_after (anew path date v b) b)) p.0)
   in_place (change.Refused q) b' p k = (p, kept b' (taken path date b) refl q p k ∙ ap (λ (a : Answer (Unit {0})). if_granted a b (run_after (anew path date v b) b)) p)
 
 -- ---- the free pages, by the verdict
 
-module _ (b : Bytes) (r : VerdictAnswer) (said : verdictAnswer r ≡ answer verdict b) where
+module _ (b : Bytes) (r : VerdictAnswer) (said : verdict_answer r ≡ answer verdict b) where
   sound_told : T (sound b) → answer verdict b ≡ granted (record { pages = (tree_of b).pages; free = free_number (tree_of b) })
   unfolding MeaningOf.tree_answer MeaningOf.told RefusalOf.refusals RefusalOf.earlier RefusalOf.later RefusalOf.wanted settle
   sound_told h = (as_tree_lem verdict b h).answered ∙ rw (leb-suc-zero (free_number (tree_of b))) refl
@@ -132,7 +132,7 @@ module _ (b : Bytes) (r : VerdictAnswer) (said : verdictAnswer r ≡ answer verd
   verdict_sound : (pages free : ℕ) → r ≡ judged.Sound pages free → T (sound b) × (free ≡ free_count b)
   unfolding free_or MeaningOf.answer is_format
   verdict_sound pages free e =
-      let said-so : granted (record { pages = pages; free = free }) ≡ answer verdict b = ap verdictAnswer (sym e) ∙ said in
+      let said-so : granted (record { pages = pages; free = free }) ≡ answer verdict b = ap verdict_answer (sym e) ∙ said in
       let h = (sound_passed verdict b tt (granted_passed (lines verdict b) _ _ (sym said-so))).0 in
       (h, ap free_or (said-so ∙ sound_told h) ∙ free_number_lem (sound_facts_lem h))
 
@@ -143,7 +143,7 @@ module _ (b : Bytes) (r : VerdictAnswer) (said : verdictAnswer r ≡ answer verd
       (λ t h. omega (arith, leb→le wanted free (subst T (sym t) tt), w, x.1), λ t. x.0)
 
   pub verdict_refused : (q : Base) → r ≡ judged.Refused q → T (sound b) → ⊥
-  verdict_refused q e h = not_granted (sym (ap verdictAnswer (sym e) ∙ said ∙ sound_told h))
+  verdict_refused q e h = not_granted (sym (ap verdict_answer (sym e) ∙ said ∙ sound_told h))
 
 -- one page
 pub small_room : (n : ℕ) (b : Bytes) → n ≤ 255 → pages_for n ≤ max 1 (free_count b)

@@ -18,7 +18,7 @@ use Rattle.refusals.specs.declared.Refusal.{Refusal as Base}
 use Rattle.refusals.specs.Told.{told}
 use Rattle.answers.specs.declared.ChangeAnswer.{ChangeAnswer}
 use Rattle.answers.specs.declared.ChangeAnswer.TheVariants as change
-use Rattle.answers.specs.Answers.{changeAnswer}
+use Rattle.answers.specs.Answers.{change_answer}
 use Rattle.link_list.specs.Links.{run_after}
 use Rattle.link_anew.specs.Anew.{replacing, is_taken, taken, anew, first_of, then_answer, run_answer, if_granted, run_whole, RunsTo, KeptBy}
 
@@ -42,7 +42,7 @@ unfolding run_after
 goes_on c cs b b₁ b₂ y e k change.Done p = (p.0 ∙ ap (run_answer cs) k ∙ turn_granted c cs b y e, p.1 ∙ ap (run_after cs) k)
 goes_on c cs b b₁ b₂ y e k (change.Refused q) p = p ∙ ap (run_answer cs) k ∙ turn_granted c cs b y e
 
-written_last : (path v b b' : Bytes) (r : ChangeAnswer) → changeAnswer r ≡ answer (write path 0 v) b → b' ≡ after (write path 0 v) b → RunsTo r (write path 0 v ∷ []) b b'
+written_last : (path v b b' : Bytes) (r : ChangeAnswer) → change_answer r ≡ answer (write path 0 v) b → b' ≡ after (write path 0 v) b → RunsTo r (write path 0 v ∷ []) b b'
 unfolding run_answer run_after
 written_last path v b b' change.Done e k = (turn_granted (write path 0 v) [] b tt e, k)
 written_last path v b b' (change.Refused q) e k = turn_refused (write path 0 v) [] b (told q) e
@@ -50,23 +50,23 @@ written_last path v b b' (change.Refused q) e k = turn_refused (write path 0 v) 
 -- ---- a file in place of an old one
 
 module _ (path date v b : Bytes) where
-  pub make_stops : (b' : Bytes) (a : ChangeAnswer) (q : Base) → a ≡ change.Refused q → changeAnswer a ≡ answer (make_file path date) b → RunsTo a (replacing path date false v) b b'
+  pub make_stops : (b' : Bytes) (a : ChangeAnswer) (q : Base) → a ≡ change.Refused q → change_answer a ≡ answer (make_file path date) b → RunsTo a (replacing path date false v) b b'
   unfolding replacing
-  make_stops b' a q e k = stops (make_file path date) (write path 0 v ∷ []) b b' a q e (ap changeAnswer (sym e) ∙ k)
+  make_stops b' a q e k = stops (make_file path date) (write path 0 v ∷ []) b b' a q e (ap change_answer (sym e) ∙ k)
 
-  pub made_written : (b₁ b₂ : Bytes) (a : ChangeAnswer) → a ≡ change.Done → changeAnswer a ≡ answer (make_file path date) b → b₁ ≡ after (make_file path date) b
-      → (r : ChangeAnswer) → changeAnswer r ≡ answer (write path 0 v) b₁ → b₂ ≡ after (write path 0 v) b₁ → RunsTo r (replacing path date false v) b b₂
+  pub made_written : (b₁ b₂ : Bytes) (a : ChangeAnswer) → a ≡ change.Done → change_answer a ≡ answer (make_file path date) b → b₁ ≡ after (make_file path date) b
+      → (r : ChangeAnswer) → change_answer r ≡ answer (write path 0 v) b₁ → b₂ ≡ after (write path 0 v) b₁ → RunsTo r (replacing path date false v) b b₂
   unfolding replacing
-  made_written b₁ b₂ a e k s r w t = goes_on (make_file path date) (write path 0 v ∷ []) b b₁ b₂ tt (ap changeAnswer (sym e) ∙ k) s r (written_last path v b₁ b₂ r w t)
+  made_written b₁ b₂ a e k s r w t = goes_on (make_file path date) (write path 0 v ∷ []) b b₁ b₂ tt (ap change_answer (sym e) ∙ k) s r (written_last path v b₁ b₂ r w t)
 
-  pub removal_stops : (b' : Bytes) (a : ChangeAnswer) (q : Base) → a ≡ change.Refused q → changeAnswer a ≡ answer (remove_file path) b → RunsTo a (replacing path date true v) b b'
+  pub removal_stops : (b' : Bytes) (a : ChangeAnswer) (q : Base) → a ≡ change.Refused q → change_answer a ≡ answer (remove_file path) b → RunsTo a (replacing path date true v) b b'
   unfolding replacing
-  removal_stops b' a q e k = stops (remove_file path) (make_file path date ∷ write path 0 v ∷ []) b b' a q e (ap changeAnswer (sym e) ∙ k)
+  removal_stops b' a q e k = stops (remove_file path) (make_file path date ∷ write path 0 v ∷ []) b b' a q e (ap change_answer (sym e) ∙ k)
 
-  pub removed_made : (b₁ b₂ : Bytes) (a : ChangeAnswer) → a ≡ change.Done → changeAnswer a ≡ answer (remove_file path) b → b₁ ≡ after (remove_file path) b
+  pub removed_made : (b₁ b₂ : Bytes) (a : ChangeAnswer) → a ≡ change.Done → change_answer a ≡ answer (remove_file path) b → b₁ ≡ after (remove_file path) b
       → (r : ChangeAnswer) → RunsTo r (replacing path date false v) b₁ b₂ → RunsTo r (replacing path date true v) b b₂
   unfolding replacing
-  removed_made b₁ b₂ a e k s r w = goes_on (remove_file path) (make_file path date ∷ write path 0 v ∷ []) b b₁ b₂ tt (ap changeAnswer (sym e) ∙ k) s r w
+  removed_made b₁ b₂ a e k s r w = goes_on (remove_file path) (make_file path date ∷ write path 0 v ∷ []) b b₁ b₂ tt (ap change_answer (sym e) ∙ k) s r w
 
 -- a call that was granted, or left what it leaves
 pub done_keeps : (c : Call) (b b' : Bytes) (y : Told c) → granted y ≡ answer c b → KeptBy c b b'
@@ -84,17 +84,17 @@ module _ (path date v b : Bytes) where
   none_old : (r : ChangeAnswer) (b' : Bytes) → taken path date b ≡ false → RunsTo r (replacing path date false v) b b' → KeptBy (make_file path date) b b' → Puts (taken path date b) r b'
   none_old r b' e p k = subst (λ (old : Bool). Puts old r b') (sym e) (p, k)
 
-  pub put_made : (b₁ b₂ : Bytes) (a : ChangeAnswer) → a ≡ change.Done → changeAnswer a ≡ answer (make_file path date) b → b₁ ≡ after (make_file path date) b
-      → (r : ChangeAnswer) → changeAnswer r ≡ answer (write path 0 v) b₁ → b₂ ≡ after (write path 0 v) b₁
+  pub put_made : (b₁ b₂ : Bytes) (a : ChangeAnswer) → a ≡ change.Done → change_answer a ≡ answer (make_file path date) b → b₁ ≡ after (make_file path date) b
+      → (r : ChangeAnswer) → change_answer r ≡ answer (write path 0 v) b₁ → b₂ ≡ after (write path 0 v) b₁
       → RunsTo r (anew path date v b) b b₂ × KeptBy (first_of path date b) b b₂
   unfolding is_taken
   put_made b₁ b₂ a e k s r w t =
-      let made : granted tt ≡ answer (make_file path date) b = ap changeAnswer (sym e) ∙ k in
+      let made : granted tt ≡ answer (make_file path date) b = ap change_answer (sym e) ∙ k in
       none_old r b₂ (ap is_taken (sym made)) (made_written path date v b b₁ b₂ a e k s r w t) (done_keeps (make_file path date) b b₂ tt made)
 
-  module _ (b₁ : Bytes) (a : ChangeAnswer) (q : Base) (e : a ≡ change.Refused q) (k : changeAnswer a ≡ answer (make_file path date) b) (s : b₁ ≡ after (make_file path date) b) where
+  module _ (b₁ : Bytes) (a : ChangeAnswer) (q : Base) (e : a ≡ change.Refused q) (k : change_answer a ≡ answer (make_file path date) b) (s : b₁ ≡ after (make_file path date) b) where
     said : refused (told q) ≡ answer (make_file path date) b
-    said = ap changeAnswer (sym e) ∙ k
+    said = ap change_answer (sym e) ∙ k
 
     taken_by : taken path date b ≡ eqb (told q).number 8
     unfolding is_taken
@@ -132,14 +132,14 @@ module _ (path date v b c c₁ c₂ : Bytes) (long : length c ≡ length b) (cop
   from_image : RunsTo r calls b c₂
   from_image = subst (λ (x : Bytes). RunsTo r (anew path date v x) x c₂) same_bytes runs
 
-  pub copy_refused : (q : Base) → r ≡ change.Refused q → (changeAnswer r ≡ run_answer calls b) × (b ≡ run_whole calls b)
+  pub copy_refused : (q : Base) → r ≡ change.Refused q → (change_answer r ≡ run_answer calls b) × (b ≡ run_whole calls b)
   unfolding run_whole if_granted
   copy_refused q e =
       let k : refused (told q) ≡ run_answer calls b = subst (λ (x : ChangeAnswer). RunsTo x calls b c₂) e from_image in
-      (ap changeAnswer e ∙ k, ap (λ (a : Answer (Unit {0})). if_granted a b (run_after calls b)) k)
+      (ap change_answer e ∙ k, ap (λ (a : Answer (Unit {0})). if_granted a b (run_after calls b)) k)
 
-  pub copy_done : r ≡ change.Done → (b' : Bytes) → length c₂ ≡ length b → b' ≡ put 0 c₂ b → (changeAnswer r ≡ run_answer calls b) × (b' ≡ run_whole calls b)
+  pub copy_done : r ≡ change.Done → (b' : Bytes) → length c₂ ≡ length b → b' ≡ put 0 c₂ b → (change_answer r ≡ run_answer calls b) × (b' ≡ run_whole calls b)
   unfolding run_whole if_granted
   copy_done e b' l k =
       let p : (granted tt ≡ run_answer calls b) × (c₂ ≡ run_after calls b) = subst (λ (x : ChangeAnswer). RunsTo x calls b c₂) e from_image in
-      (ap changeAnswer e ∙ p.0, k ∙ put_over c₂ b (omega arith) ∙ p.1 ∙ ap (λ (a : Answer (Unit {0})). if_granted a b (run_after calls b)) p.0)
+      (ap change_answer e ∙ p.0, k ∙ put_over c₂ b (omega arith) ∙ p.1 ∙ ap (λ (a : Answer (Unit {0})). if_granted a b (run_after calls b)) p.0)

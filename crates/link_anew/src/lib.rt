@@ -1,9 +1,10 @@
 // A file made anew with its content, by the base's calls in turn (02 §4): an old file of its path is removed first. All of it is done or nothing, in place
 // where nothing but the first call can be refused, and else on a copy of the image. No public function asks anything of its caller.
+#![tactic(auto)]
 ghost use Rattle.std.specs.Prelude.{◌≡◌, ◌≤◌, true, false, length, T};
 ghost use Rattle.model.specs.Sound.{sound};
 ghost use Rattle.model.specs.Call.{remove_file};
-ghost use Rattle.answers.specs.Answers.{changeAnswer};
+ghost use Rattle.answers.specs.Answers.{change_answer};
 ghost use Rattle.link_anew.specs.Anew.{replacing, anew, run_answer, run_whole, RunsTo, KeptBy, first_of, HasRoom};
 
 use fields::Position;
@@ -59,7 +60,7 @@ fn put_by_copy(
     bytes: &[u8],
 ) -> ChangeAnswer
     requires { length copy.old ≡ length image.old }
-    ensures result_value { changeAnswer result ≡ run_answer (anew path.now date.now bytes.now image.old) image.old }
+    ensures result_value { change_answer result ≡ run_answer (anew path.now date.now bytes.now image.old) image.old }
     ensures image_after { image.new ≡ run_whole (anew path.now date.now bytes.now image.old) image.old }
 {
     pages::copy_in(copy, 0, image);
@@ -74,7 +75,7 @@ fn put_by_copy(
 // The same with room for the copy: no image has more bytes.
 fn put_with_room(image: &mut [u8], path: &[u8], date: &[u8], bytes: &[u8]) -> ChangeAnswer
     requires { length image.old ≤ 65536 }
-    ensures result_value { changeAnswer result ≡ run_answer (anew path.now date.now bytes.now image.old) image.old }
+    ensures result_value { change_answer result ≡ run_answer (anew path.now date.now bytes.now image.old) image.old }
     ensures image_after { image.new ≡ run_whole (anew path.now date.now bytes.now image.old) image.old }
 {
     let mut copy = [0u8; 65536];
@@ -99,7 +100,7 @@ fn has_room(image: &[u8], size: usize) -> bool
 // Where the free pages suffice the first call alone can be refused, which changes nothing then. An old file's pages are not counted, for a copy is needed
 // only where they would matter.
 pub fn put(image: &mut [u8], path: &[u8], date: &[u8], bytes: &[u8]) -> ChangeAnswer
-    ensures result_value { changeAnswer result ≡ run_answer (anew path.now date.now bytes.now image.old) image.old }
+    ensures result_value { change_answer result ≡ run_answer (anew path.now date.now bytes.now image.old) image.old }
     ensures image_after { image.new ≡ run_whole (anew path.now date.now bytes.now image.old) image.old }
 {
     if has_room(image, bytes.len()) {

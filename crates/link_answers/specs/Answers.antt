@@ -13,22 +13,22 @@ use Rattle.link_answers.specs.declared.DoneAnswer.{DoneAnswer}
 use Rattle.link_answers.specs.declared.DoneAnswer.TheVariants as done
 
 -- the paper's number and place
-abbrev pub linkRefusal : LinkRefusal → Refusal
-linkRefusal (link.Base r) = told r
-linkRefusal (link.BrokenRow i) = refusal_at 21 i
-linkRefusal (link.NotAbove i) = refusal_at 22 i
-linkRefusal link.ListTooShort = refusal 24
-linkRefusal (link.NoFile i) = refusal_at 23 i
+abbrev pub link_refusal : LinkRefusal → Refusal
+link_refusal (link.Base r) = told r
+link_refusal (link.BrokenRow i) = refusal_at 21 i
+link_refusal (link.NotAbove i) = refusal_at 22 i
+link_refusal link.ListTooShort = refusal 24
+link_refusal (link.NoFile i) = refusal_at 23 i
 
-abbrev pub readTold : ReadAnswer → Answer ℕ
-readTold (read.Rows n) = granted n
-readTold (read.Refused r) = refused (linkRefusal r)
+abbrev pub read_told : ReadAnswer → Answer ℕ
+read_told (read.Rows n) = granted n
+read_told (read.Refused r) = refused (link_refusal r)
 
-abbrev pub findTold : FindLinkAnswer → Answer (Option ℕ)
-findTold (find.Figure n) = granted (some n)
-findTold find.Absent = granted none
-findTold (find.Refused r) = refused (linkRefusal r)
+abbrev pub find_told : FindLinkAnswer → Answer (Option ℕ)
+find_told (find.Figure n) = granted (some n)
+find_told find.Absent = granted none
+find_told (find.Refused r) = refused (link_refusal r)
 
-abbrev pub doneTold : DoneAnswer → Answer (Unit {0})
-doneTold done.Done = granted tt
-doneTold (done.Refused r) = refused (linkRefusal r)
+abbrev pub done_told : DoneAnswer → Answer (Unit {0})
+done_told done.Done = granted tt
+done_told (done.Refused r) = refused (link_refusal r)

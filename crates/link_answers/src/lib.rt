@@ -1,8 +1,10 @@
 // What the calls of the link list answer (02 §4), an enum each; `Answers` has the model's answer that a case stands for.
+#![tactic(auto)]
+
 use refusals::Refusal;
 
 // Why a call says no: the base's own refusal, or one of the link list's.
-#[derive(Drop)]
+#[derive(Clone, Copy)]
 pub enum LinkRefusal {
     Base(Refusal),
     // 21: a broken row. In reading the byte of the file at which it begins, in writing its number.
@@ -16,14 +18,14 @@ pub enum LinkRefusal {
 }
 
 // The number of rows.
-#[derive(Drop)]
+#[derive(Clone, Copy)]
 pub enum ReadAnswer {
     Rows(usize),
     Refused(LinkRefusal),
 }
 
 // The figure of an accession, or none.
-#[derive(Drop)]
+#[derive(Clone, Copy)]
 pub enum FindLinkAnswer {
     Figure(u64),
     Absent,
@@ -31,7 +33,7 @@ pub enum FindLinkAnswer {
 }
 
 // A call that tells only that it was done.
-#[derive(Drop)]
+#[derive(Clone, Copy)]
 pub enum DoneAnswer {
     Done,
     Refused(LinkRefusal),

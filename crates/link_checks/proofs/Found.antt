@@ -30,7 +30,7 @@ use Rattle.link_list.specs.Links.{node_in, is_file_there}
 use Rattle.link_list.proofs.Rows.{holds}
 use Rattle.answers.specs.declared.FindAnswer.{FindAnswer}
 use Rattle.answers.specs.declared.FindAnswer.TheVariants as variant
-use Rattle.answers.specs.Answers.{findAnswer}
+use Rattle.answers.specs.Answers.{find_answer}
 use Rattle.link_files.proofs.Loading.{There}
 
 -- ---- digits are a legal name
@@ -81,7 +81,7 @@ tells_file : Answer Found → Bool
 tells_file (refused f) = false
 tells_file (granted x) = is_file_kind x.kind
 
-said_file : (a : FindAnswer) (date : Bytes) → is_file_found a ≡ tells_file (findAnswer a date)
+said_file : (a : FindAnswer) (date : Bytes) → is_file_found a ≡ tells_file (find_answer a date)
 unfolding tells_file is_file_kind
 said_file (variant.File size locked) date = refl
 said_file variant.Directory date = refl
@@ -100,11 +100,11 @@ module _ (b d : Bytes) (h : There b d) (v : Bytes) (legal : T (legal_text v)) wh
       go (some (file_node l k w)) = refl
       go (some (directory_node k r)) = refl
 
-  pub found_there : (a : FindAnswer) (date : Bytes) → findAnswer a date ≡ answer (find (onward d v)) b → is_file_found a ≡ is_file_there (node_in d v (tree_of b))
+  pub found_there : (a : FindAnswer) (date : Bytes) → find_answer a date ≡ answer (find (onward d v)) b → is_file_found a ≡ is_file_there (node_in d v (tree_of b))
   unfolding arrived_or
   found_there a date e =
       said_file a date ∙ ap tells_file (e ∙ (as_tree_lem (find (onward d v)) b h.is_sound).answered) ∙ tree_tells ∙ sym (ap (λ (w : Walked Row). is_file_there (lookup (padded v) (arrived_or end w))) h.leads)
 
 pub file_told : (b d : Bytes) → There b d → (name path : Bytes) → T (legal_text name) → path ≡ onward d name
-    → (a : FindAnswer) (date : Bytes) → findAnswer a date ≡ answer (find path) b → is_file_found a ≡ is_file_there (node_in d name (tree_of b))
+    → (a : FindAnswer) (date : Bytes) → find_answer a date ≡ answer (find path) b → is_file_found a ≡ is_file_there (node_in d name (tree_of b))
 file_told b d h name path legal p a date e = found_there b d h name legal a date (e ∙ ap (λ (q : Bytes). answer (find q) b) p)

@@ -1,4 +1,5 @@
 // A file LINKS checked once its bytes are there (02 §4): the file is judged whole, then every row must name a file of the directory by its exact digits.
+#![tactic(auto)]
 ghost use Rattle.std.specs.Prelude.{◌≡◌, ◌+◌, ◌≤◌, min, true, ◌++◌, length, T};
 ghost use Rattle.volume.specs.Lists.{all};
 ghost use Rattle.model.specs.Name.{legal_text};
@@ -8,7 +9,7 @@ ghost use Rattle.model.specs.Meaning.{image_lines};
 ghost use Rattle.link_list.specs.Coding.{in_range, accession};
 ghost use Rattle.link_list.specs.Links.{node_in, is_file_there, file_lines};
 ghost use Rattle.link_rows.specs.Told.{steps_from};
-ghost use Rattle.link_answers.specs.Answers.{doneTold};
+ghost use Rattle.link_answers.specs.Answers.{done_told};
 ghost use Rattle.link_checks.specs.Checks.{checked_rows, check_in};
 
 use link_answers::{DoneAnswer, LinkRefusal};
@@ -50,7 +51,7 @@ fn has_file(image: &[u8], directory: &[u8], row: Row) -> bool
 // Every one of the first rows of a file that was judged names a file of the directory.
 fn check_rows(image: &[u8], directory: &[u8], file: &[u8], rows: usize) -> DoneAnswer
     requires { Passes (image_lines image.now ++ file_lines directory.now (tree_of image.now)) × (all in_range (steps_from file.now rows 0) ≡ true) }
-    ensures { doneTold result ≡ checked_rows 0 directory.now image.now (steps_from file.now rows 0) }
+    ensures { done_told result ≡ checked_rows 0 directory.now image.now (steps_from file.now rows 0) }
 {
     let mut at = 0;
     let mut i = 0;
@@ -68,7 +69,7 @@ fn check_rows(image: &[u8], directory: &[u8], file: &[u8], rows: usize) -> DoneA
 // Every row of a file names a file of the directory.
 pub fn check_file(image: &[u8], directory: &[u8], file: &[u8]) -> DoneAnswer
     requires { Passes (image_lines image.now ++ file_lines directory.now (tree_of image.now)) }
-    ensures { doneTold result ≡ check_in file.now directory.now image.now }
+    ensures { done_told result ≡ check_in file.now directory.now image.now }
 {
     match link_rows::judge_file(file) {
         FileJudged::Rows(rows) => check_rows(image, directory, file, rows),

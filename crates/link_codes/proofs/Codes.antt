@@ -10,7 +10,7 @@ use Rattle.refusals.specs.declared.Refusal.{Refusal}
 use Rattle.refusals.specs.declared.Refusal.TheVariants.{BadLength, BadHeader, Unsound, NoPath, BadDate, IsRoot, NoSuchName, NotADirectory, NameTaken, IsADirectory, Locked, PastEnd, DirectoryFull, NoFreePages, NotEmpty, NotAPage}
 use Rattle.link_answers.specs.declared.LinkRefusal.{LinkRefusal}
 use Rattle.link_answers.specs.declared.LinkRefusal.TheVariants.{Base}
-use Rattle.link_answers.specs.Answers.{linkRefusal}
+use Rattle.link_answers.specs.Answers.{link_refusal}
 use Rattle.codes.specs.Codes.{refusal_code, Fits}
 use Rattle.link_codes.specs.Codes.{points_to_row, link_code, LinkFits}
 
@@ -39,10 +39,10 @@ no_row NotEmpty = tt
 no_row NotAPage = tt
 
 -- by the case of the code
-pub base_fits : {l : LinkRefusal} {r : Refusal} → l ≡ Base r → LinkFits (linkRefusal l) → Fits (told r).place
+pub base_fits : {l : LinkRefusal} {r : Refusal} → l ≡ Base r → LinkFits (link_refusal l) → Fits (told r).place
 unfolding LinkFits
 base_fits {l} {r} e h = (rw e at h) (no_row r)
 
-pub base_code : {l : LinkRefusal} {r : Refusal} {n : ℕ} → l ≡ Base r → n ≡ refusal_code (told r) → n ≡ link_code (linkRefusal l)
+pub base_code : {l : LinkRefusal} {r : Refusal} {n : ℕ} → l ≡ Base r → n ≡ refusal_code (told r) → n ≡ link_code (link_refusal l)
 unfolding link_code
 base_code {l} {r} e is = rw e (is ∙ sym (if_no (points_to_row (told r)) _ _ (no_row r)))

@@ -1,7 +1,8 @@
 // A refusal of the link list (02 §4) as one number, as `codes` has it for the base's. 21, 22 and 23 have one number for a place, a byte of the file
 // or a row's number, and all that is above the low byte for it: it is told up to 2^56 - 1, which no list in memory reaches.
+#![tactic(auto)]
 ghost use Rattle.std.specs.Prelude.{◌≡◌, min};
-ghost use Rattle.link_answers.specs.Answers.{linkRefusal, doneTold};
+ghost use Rattle.link_answers.specs.Answers.{link_refusal, done_told};
 ghost use Rattle.link_codes.specs.Codes.{most_row, link_code, link_code_of, LinkFits, AnswerFits};
 
 use link_answers::{DoneAnswer, LinkRefusal};
@@ -19,8 +20,8 @@ fn row_place(at: usize) -> u64
 
 // A refusal's code.
 pub fn code(r: LinkRefusal) -> u64
-    requires { LinkFits (linkRefusal r) }
-    ensures { result ≡ link_code (linkRefusal r) }
+    requires { LinkFits (link_refusal r) }
+    ensures { result ≡ link_code (link_refusal r) }
 {
     match r {
         LinkRefusal::Base(refusal) => codes::code(refusal),
@@ -33,8 +34,8 @@ pub fn code(r: LinkRefusal) -> u64
 
 // The code of a call that tells nothing else.
 pub fn done_code(a: DoneAnswer) -> u64
-    requires { AnswerFits (doneTold a) }
-    ensures { result ≡ link_code_of (doneTold a) }
+    requires { AnswerFits (done_told a) }
+    ensures { result ≡ link_code_of (done_told a) }
 {
     match a {
         DoneAnswer::Done => 0,

@@ -39,7 +39,7 @@ use Rattle.answers.specs.declared.ListAnswer.TheVariants as variant
 use Rattle.answers.specs.contracts.ListAnswer.{the_type}
 use Rattle.answers.specs.declared.ReadAnswer.{ReadAnswer}
 use Rattle.answers.specs.declared.ReadAnswer.TheVariants as variant-read
-use Rattle.answers.specs.Answers.{listAnswer, readAnswer}
+use Rattle.answers.specs.Answers.{list_answer, read_answer}
 use Rattle.refusals.specs.declared.Refusal.{Refusal as Base}
 use Rattle.refusals.specs.Told.{told as base-told}
 use Rattle.link_files.specs.declared.Loaded.TheVariants as loaded
@@ -239,10 +239,10 @@ module _ (b d : Bytes) where
 
 -- ---- what listing's answer says, once it is known to be no refusal
 
-pub said : {a c : ListAnswer} (name date : Bytes) {x : Answer Listed} → a ≡ c → listAnswer a name date ≡ x → listAnswer c name date ≡ x
-said name date e h = ap (λ (k : ListAnswer). listAnswer k name date) (sym e) ∙ h
+pub said : {a c : ListAnswer} (name date : Bytes) {x : Answer Listed} → a ≡ c → list_answer a name date ≡ x → list_answer c name date ≡ x
+said name date e h = ap (λ (k : ListAnswer). list_answer k name date) (sym e) ∙ h
 
-pub listed_there : (a : ListAnswer) (name date : Bytes) → (tag_of the_type a ≡ 0) ⊎ ((tag_of the_type a ≡ 1) ⊎ (tag_of the_type a ≡ 2)) → (x : Listed) × (listAnswer a name date ≡ granted x)
+pub listed_there : (a : ListAnswer) (name date : Bytes) → (tag_of the_type a ≡ 0) ⊎ ((tag_of the_type a ≡ 1) ⊎ (tag_of the_type a ≡ 2)) → (x : Listed) × (list_answer a name date ≡ granted x)
 listed_there variant.Empty name date k = (_, refl)
 listed_there (variant.File size locked) name date k = (_, refl)
 listed_there variant.Directory name date k = (_, refl)
@@ -253,13 +253,13 @@ listed_there (variant.Refused r) name date k = absurd (elim k [ inl u ↦ omega 
 pub path_read : (len : ℕ) (path zeros v : Bytes) → len ≡ length v → path ≡ put 0 v zeros → take len path ≡ v
 path_read len path zeros v l e = ap (λ (n : ℕ). take n path) l ∙ ap (take (length v)) e ∙ take-append_seam v (drop (0 + length v) zeros)
 
-module _ (b d : Bytes) (is_path : T (not (is_no_path (path_of d)))) (path buffer : Bytes) (is : path ≡ links_path d) (r : ReadAnswer) (answers : readAnswer r ≡ answer (read path 0 buffer) b) where
+module _ (b d : Bytes) (is_path : T (not (is_no_path (path_of d)))) (path buffer : Bytes) (is : path ≡ links_path d) (r : ReadAnswer) (answers : read_answer r ≡ answer (read path 0 buffer) b) where
   pub copied_loads : (n : ℕ) → r ≡ variant-read.Copied n → (buffer' : Bytes) → buffer' ≡ buffer_after (read path 0 buffer) b → Loads d b buffer' (length buffer) (loaded.Size n)
   unfolding MeaningOf.answer
   copied_loads n e buffer' q =
-      let a : granted n ≡ answer (read (links_path d) 0 buffer) b = ap readAnswer (sym e) ∙ answers ∙ ap (λ (p : Bytes). answer (read p 0 buffer) b) is in
+      let a : granted n ≡ answer (read (links_path d) 0 buffer) b = ap read_answer (sym e) ∙ answers ∙ ap (λ (p : Bytes). answer (read p 0 buffer) b) is in
       let there = read_there b d is_path buffer (granted_passed (lines (read (links_path d) 0 buffer) b) _ n (sym a)) in
       read_copied b d there buffer n a buffer' (q ∙ ap (λ (p : Bytes). buffer_after (read p 0 buffer) b) is)
 
   pub refused_loads : (q : Base) → r ≡ variant-read.Refused q → refused (base-told q) ≡ file_loaded d b
-  refused_loads q e = read_refused b d is_path buffer (base-told q) (ap readAnswer (sym e) ∙ answers ∙ ap (λ (p : Bytes). answer (read p 0 buffer) b) is)
+  refused_loads q e = read_refused b d is_path buffer (base-told q) (ap read_answer (sym e) ∙ answers ∙ ap (λ (p : Bytes). answer (read p 0 buffer) b) is)

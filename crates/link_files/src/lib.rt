@@ -1,4 +1,5 @@
 // The file LINKS of a directory (02 §4), by the base's calls alone: its path, and its bytes.
+#![tactic(auto)]
 ghost use Rattle.std.specs.Prelude.{◌≡◌, ◌+◌, ◌≤◌, not, ◌∷◌, length, T};
 ghost use Rattle.volume.specs.Bytes.{put};
 ghost use Rattle.model.specs.Path.{path_of, is_no_path};
@@ -55,7 +56,7 @@ pub fn links_path(directory: &[u8], path: &mut [u8]) -> usize
 }
 
 // So many bytes of the file were put at the front of those lent.
-#[derive(Drop)]
+#[derive(Clone, Copy)]
 pub enum Loaded {
     Size(usize),
     Refused(Refusal),

@@ -1,5 +1,7 @@
 // The rows of the link list judged (02 §4): the range of a row, the order of two, and a list that is to be written, over a slice of numbers, three a
 // row. What each function answers is said by the definitions of `link_list`.
+#![tactic(auto)]
+
 ghost use Rattle.std.specs.Prelude.{◌≡◌, ◌+◌, ◌*◌, ◌≤◌, ◌^◌, length};
 ghost use Rattle.link_list.specs.Coding.{in_range, above};
 ghost use Rattle.link_list.specs.Judging.{bad_row};
@@ -67,7 +69,7 @@ pub fn follows(any: bool, last: Row, row: Row) -> bool
 }
 
 // How far a list is judged that is to be written: the number and the row of its first fault, 0 and 0 for none, and the row before the next.
-#[derive(Drop)]
+#[derive(Clone, Copy)]
 pub struct Judged {
     pub fault: u8,
     pub at: usize,
@@ -151,7 +153,7 @@ fn judge_numbers(numbers: &[u64]) -> Judged
 }
 
 // The first bad row of a list that is to be written: a number out of range, or not above the one before.
-#[derive(Drop)]
+#[derive(Clone, Copy)]
 pub enum ListJudged {
     Good,
     Broken(usize),

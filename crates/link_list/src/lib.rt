@@ -1,6 +1,8 @@
 // A row of the link list (02 §4). The definitions of its bytes and of the four calls are in specs/, what is promised in specs/Demand.antt. The fields
 // are wide enough to hold a number that is out of range, which a writing refuses.
-#[derive(Drop)]
+#![tactic(auto)]
+
+#[derive(Clone, Copy)]
 pub struct Row {
     // The accession's count of digits, 1 to 16.
     pub count: u64,

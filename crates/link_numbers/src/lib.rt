@@ -1,5 +1,7 @@
 // The numbers of the link list as bytes (02 §4): one read, one put, and the digits of an accession put. What each function answers is said by the
 // definitions of `link_list`.
+#![tactic(auto)]
+
 ghost use Rattle.std.specs.Prelude.{◌≡◌, ◌+◌, ◌≤◌, ◌<◌, ◌^◌, length, drop};
 ghost use Rattle.volume.specs.Bytes.{put};
 ghost use Rattle.link_list.specs.Coding.{groups, take_number, accession};
@@ -12,7 +14,7 @@ fn wide(x: u8) -> u64
 }
 
 // A number and the byte behind it.
-#[derive(Drop)]
+#[derive(Clone, Copy)]
 pub enum NumberAt {
     Is(u64, usize),
     Broken,

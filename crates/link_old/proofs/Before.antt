@@ -25,7 +25,7 @@ use Rattle.laws.proofs.Passed.{image_passed, sound_passed}
 use Rattle.laws.proofs.Steps.{image_skip, as_tree_lem, untouched}
 use Rattle.answers.specs.declared.FindAnswer.{FindAnswer}
 use Rattle.answers.specs.declared.FindAnswer.TheVariants as variant
-use Rattle.answers.specs.Answers.{findAnswer}
+use Rattle.answers.specs.Answers.{find_answer}
 use Rattle.link_list.specs.Links.{links_name, links_path, node_in, is_directory_there, is_locked_there, old_lines}
 use Rattle.link_list.proofs.Rows.{holds}
 use Rattle.link_list.proofs.Writing.{links_key, old_passed, links_named}
@@ -135,7 +135,7 @@ seen_old : Answer Found → Answer Bool
 seen_old (refused f) = granted false
 seen_old (granted x) = kind_old x.kind
 
-said_old : (a : FindAnswer) (date : Bytes) → old_found a ≡ seen_old (findAnswer a date)
+said_old : (a : FindAnswer) (date : Bytes) → old_found a ≡ seen_old (find_answer a date)
 unfolding seen_old kind_old
 said_old (variant.File size locked) date = refl
 said_old variant.Directory date = refl
@@ -155,7 +155,7 @@ module _ (b d : Bytes) (h : There b d) where
       go (some (file_node l k w)) = refl
       go (some (directory_node k r)) = refl
 
-  pub old_found_lem : (path : Bytes) → path ≡ links_path d → (a : FindAnswer) (date : Bytes) → findAnswer a date ≡ answer (find path) b → old_found a ≡ old_file d (tree_of b)
+  pub old_found_lem : (path : Bytes) → path ≡ links_path d → (a : FindAnswer) (date : Bytes) → find_answer a date ≡ answer (find path) b → old_found a ≡ old_file d (tree_of b)
   old_found_lem path is a date e =
       said_old a date ∙ ap seen_old (e ∙ ap (λ (p : Bytes). answer (find p) b) is ∙ (as_tree_lem (find (links_path d)) b h.is_sound).answered) ∙ tree_old
 

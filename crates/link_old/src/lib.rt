@@ -1,4 +1,5 @@
 // All that a writing of the link list asks before the rows (02 §4): the image, the directory's path, the date, the directory and its old LINKS.
+#![tactic(auto)]
 ghost use Rattle.std.specs.Prelude.{◌≡◌, ◌+◌, ◌≤◌, min, ◌++◌, length};
 ghost use Rattle.model.specs.Image.{tree_of};
 ghost use Rattle.model.specs.Refusal.{Passes};
@@ -38,7 +39,7 @@ fn date_first(good: bool, r: Refusal) -> Refusal
 }
 
 // Whether there is an old LINKS, which may be removed.
-#[derive(Drop)]
+#[derive(Clone, Copy)]
 pub enum Old {
     There(bool),
     Refused(Refusal),

@@ -1,10 +1,11 @@
 // A list of rows (02 §4), judged, packed into the bytes of its file and written. One whose file is no longer than a page is packed into an array of that
 // size, so that little is cleared. The public function asks nothing of its caller.
+#![tactic(auto)]
 ghost use Rattle.std.specs.Prelude.{◌≡◌, ◌≤◌, length, take};
 ghost use Rattle.link_list.specs.Judging.{bad_row};
 ghost use Rattle.link_list.specs.Links.{write_links, link_answer, link_after};
 ghost use Rattle.link_judge.specs.Judged.{list_told, rows_of};
-ghost use Rattle.link_answers.specs.Answers.{doneTold};
+ghost use Rattle.link_answers.specs.Answers.{done_told};
 ghost use Rattle.link_writes.specs.Writing.{PackedAs};
 ghost use Rattle.link_packs.specs.Packing.{PacksTo};
 
@@ -43,7 +44,7 @@ fn write_long(
     numbers: &[u64],
 ) -> DoneAnswer
     requires { list_told judged ≡ bad_row (rows_of numbers.now) }
-    ensures result_value { doneTold result ≡ link_answer (write_links directory.now date.now (rows_of numbers.now)) image.old }
+    ensures result_value { done_told result ≡ link_answer (write_links directory.now date.now (rows_of numbers.now)) image.old }
     ensures image_after { image.new ≡ link_after (write_links directory.now date.now (rows_of numbers.now)) image.old }
 {
     let mut bytes = [0u8; 65536];
@@ -53,7 +54,7 @@ fn write_long(
 
 // Writes the rows as a directory's LINKS: any old one is removed, and it is made anew with the date.
 pub fn write(image: &mut [u8], directory: &[u8], date: &[u8], numbers: &[u64]) -> DoneAnswer
-    ensures result_value { doneTold result ≡ link_answer (write_links directory.now date.now (rows_of numbers.now)) image.old }
+    ensures result_value { done_told result ≡ link_answer (write_links directory.now date.now (rows_of numbers.now)) image.old }
     ensures image_after { image.new ≡ link_after (write_links directory.now date.now (rows_of numbers.now)) image.old }
 {
     let judged = link_judge::judge_list(numbers);

@@ -1,7 +1,8 @@
 // A file LINKS read and searched once its bytes are there (02 §4), over a slice of numbers, three a row: the file is judged whole, then its rows are put
 // at the front of the numbers, or one accession is looked for.
+#![tactic(auto)]
 ghost use Rattle.std.specs.Prelude.{◌≡◌};
-ghost use Rattle.link_answers.specs.Answers.{readTold, findTold};
+ghost use Rattle.link_answers.specs.Answers.{read_told, find_told};
 ghost use Rattle.link_reads.specs.Reads.{read_in, numbers_in, find_in};
 
 use link_answers::{FindLinkAnswer, LinkRefusal, ReadAnswer};
@@ -9,7 +10,7 @@ use link_rows::{Figure, FileJudged};
 
 // The rows of a file put at the front of the numbers.
 pub fn read_file(file: &[u8], numbers: &mut [u64]) -> ReadAnswer
-    ensures result_value { readTold result ≡ read_in file.now numbers.old }
+    ensures result_value { read_told result ≡ read_in file.now numbers.old }
     ensures numbers_after { numbers.new ≡ numbers_in file.now numbers.old }
 {
     match link_rows::judge_file(file) {
@@ -27,7 +28,7 @@ pub fn read_file(file: &[u8], numbers: &mut [u64]) -> ReadAnswer
 
 // The figure of an accession in a file.
 pub fn find_in_file(file: &[u8], count: u64, value: u64) -> FindLinkAnswer
-    ensures { findTold result ≡ find_in file.now count value }
+    ensures { find_told result ≡ find_in file.now count value }
 {
     match link_rows::judge_file(file) {
         FileJudged::Rows(rows) => match link_rows::figure_in(file, rows, count, value) {

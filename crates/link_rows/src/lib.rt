@@ -1,5 +1,6 @@
 // The rows of the link list as bytes (02 §4): rows read from a file and written to one, and a file judged, over slices of bytes and of numbers, three
 // a row. What each function answers is said by the definitions of `link_list`.
+#![tactic(auto)]
 ghost use Rattle.std.specs.Prelude.{◌≡◌, ◌+◌, ◌*◌, ◌≤◌, true, length, drop};
 ghost use Rattle.std.proofs.Math.Option.{none};
 ghost use Rattle.volume.specs.Bytes.{put};
@@ -13,7 +14,7 @@ use link_list::Row;
 use link_numbers::NumberAt;
 
 // A row and the byte behind it.
-#[derive(Drop)]
+#[derive(Clone, Copy)]
 pub enum RowAt {
     Is(Row, usize),
     Broken,
@@ -47,7 +48,7 @@ pub fn row_at(s: &[u8], at: usize) -> RowAt
 }
 
 // A row and where the next one begins.
-#[derive(Drop)]
+#[derive(Clone, Copy)]
 pub struct Step {
     pub row: Row,
     pub next: usize,
@@ -67,7 +68,7 @@ pub fn row_from(s: &[u8], at: usize) -> Step
 }
 
 // A file is judged whole: so many rows, or the byte at which the first bad one begins, or its number if it is not above the one before.
-#[derive(Drop)]
+#[derive(Clone, Copy)]
 pub enum FileJudged {
     Rows(usize),
     Broken(usize),
@@ -124,7 +125,7 @@ fn is_accession(row: Row, count: u64, value: u64) -> bool
 }
 
 // The figure of an accession, if a row has it.
-#[derive(Drop)]
+#[derive(Clone, Copy)]
 pub enum Figure {
     Is(u64),
     Absent,
@@ -159,7 +160,7 @@ pub fn put_row(bytes: &mut [u8], at: usize, row: Row) -> usize
 }
 
 // A list's file has so many bytes, or is within 24 of being too long for those that it is put into.
-#[derive(Drop)]
+#[derive(Clone, Copy)]
 pub enum Packed {
     Size(usize),
     TooLong,

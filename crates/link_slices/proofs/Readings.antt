@@ -25,7 +25,7 @@ use Rattle.refusals.specs.Told.{told}
 use Rattle.link_answers.specs.declared.LinkRefusal.{LinkRefusal}
 use Rattle.link_answers.specs.declared.LinkRefusal.TheVariants as link
 use Rattle.link_answers.specs.declared.ReadAnswer.TheVariants as read
-use Rattle.link_answers.specs.Answers.{linkRefusal}
+use Rattle.link_answers.specs.Answers.{link_refusal}
 use Rattle.link_files.specs.Loaded.{file_loaded}
 use Rattle.link_files.proofs.Whole.{above, passes}
 use Rattle.link_slices.specs.declared.Found.{Found}
@@ -100,11 +100,11 @@ module _ (v : Bytes) (room : ℕ) (j : FileJudged) (tells : file_told j ≡ coun
     right = λ list k. short_found v list n (ap file_told (sym e) ∙ tells) (omega (arith, k));
   }
 
-  found_bad : (q : LinkRefusal) → file_told j ≡ refused (linkRefusal q) → FoundIn v room (record { answer = read.Refused q; size = length v; count = 0 })
+  found_bad : (q : LinkRefusal) → file_told j ≡ refused (link_refusal q) → FoundIn v room (record { answer = read.Refused q; size = length v; count = 0 })
   found_bad q e = record {
     size = refl;
     few = omega arith;
-    right = λ list k. bad_found v list (linkRefusal q) (sym e ∙ tells);
+    right = λ list k. bad_found v list (link_refusal q) (sym e ∙ tells);
   }
 
   pub found_broken : (at : ℕ) → j ≡ file.Broken at → FoundIn v room (record { answer = read.Refused (link.BrokenRow at); size = length v; count = 0 })

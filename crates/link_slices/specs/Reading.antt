@@ -7,7 +7,7 @@ use Rattle.link_list.specs.declared.Row.{Row}
 use Rattle.link_list.specs.Judging.{read_list}
 use Rattle.link_list.specs.Links.{read_links, rows_in, bad_line, short_line, link_answer, link_list}
 use Rattle.link_rows.specs.Told.{steps_from}
-use Rattle.link_answers.specs.Answers.{readTold}
+use Rattle.link_answers.specs.Answers.{read_told}
 use Rattle.link_slices.specs.declared.Found.{Found}
 
 -- so many rows of v at the front of a list, and past them the list itself
@@ -26,11 +26,11 @@ list_read v list =
 pub record FoundIn (v : Bytes) (room : ℕ) (r : Found) : Type 0 where
   pub size : r.size ≡ length v
   pub few : r.count ≤ room
-  pub right : (list : List Row) → length list ≡ room → (readTold r.answer ≡ rows_read v list) × (placed v r.count list ≡ list_read v list)
+  pub right : (list : List Row) → length list ≡ room → (read_told r.answer ≡ rows_read v list) × (placed v r.count list ≡ list_read v list)
 
 -- and what is found in a directory, with the bytes that were loaded
 pub record FoundFor (d b : Bytes) (room : ℕ) (file : Bytes) (r : Found) : Type 0 where
   pub inside : r.size ≤ length file
   pub few : r.count ≤ room
   pub right : (list : List Row) → length list ≡ room
-      → (readTold r.answer ≡ link_answer (read_links d list) b) × (placed (take r.size file) r.count list ≡ link_list (read_links d list) b)
+      → (read_told r.answer ≡ link_answer (read_links d list) b) × (placed (take r.size file) r.count list ≡ link_list (read_links d list) b)

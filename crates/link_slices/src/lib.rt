@@ -1,9 +1,10 @@
 // The link list over lent slices of rows (01, "Which places take which form"): LINKS of a directory (02 §4) is read into a list of `Row`, and written
 // from one. No public call has a `requires`: whatever it is handed, it answers what `linkAnswer` says, leaves the list as `linkList` says and the image
 // as `linkAfter` says. The functions over a slice of rows are thin, since their proofs are walks of their code by hand; what they call is not.
+#![tactic(auto)]
 ghost use Rattle.std.specs.Prelude.{◌≡◌, ◌≤◌, length};
 ghost use Rattle.link_list.specs.Links.{read_links, write_links, link_answer, link_list, link_after};
-ghost use Rattle.link_answers.specs.Answers.{readTold, doneTold};
+ghost use Rattle.link_answers.specs.Answers.{read_told, done_told};
 ghost use Rattle.link_judge.specs.Judged.{unjudged, judged_from};
 ghost use Rattle.link_slices.specs.Writing.{packed_at, packed_bytes, packed_from, WrittenFor};
 ghost use Rattle.link_slices.specs.Reading.{placed, FoundIn, FoundFor};
@@ -17,7 +18,7 @@ use link_rows::FileJudged;
 // ---- reading
 
 // The size of a file, how many of its rows go to the list, none where it is refused, and what the reading answers.
-#[derive(Drop)]
+#[derive(Clone, Copy)]
 struct Found {
     size: usize,
     count: usize,
@@ -89,7 +90,7 @@ fn place_rows(file: &[u8], count: usize, rows: &mut [Row])
 
 // Reads the rows of a directory's LINKS, in the file's order; past them the list stays. No file has more bytes than the array.
 pub fn read_rows(image: &[u8], directory: &[u8], rows: &mut [Row]) -> ReadAnswer
-    ensures { (readTold result ≡ link_answer (read_links directory.now rows.old) image.now) × (rows.new ≡ link_list (read_links directory.now rows.old) image.now) }
+    ensures { (read_told result ≡ link_answer (read_links directory.now rows.old) image.now) × (rows.new ≡ link_list (read_links directory.now rows.old) image.now) }
 {
     let mut file = [0u8; 65025];
     let found = find_rows(image, directory, rows.len(), &mut file);
@@ -150,7 +151,7 @@ fn write_judged(
     judged: Judged,
     bytes: &[u8],
 ) -> DoneAnswer
-    ensures { WrittenFor judged bytes.now directory.now date.now image.old (doneTold result) image.new }
+    ensures { WrittenFor judged bytes.now directory.now date.now image.old (done_told result) image.new }
 {
     link_writes::write_packed(image, directory, date, link_judge::judgement(judged), bytes)
 }
@@ -158,7 +159,7 @@ fn write_judged(
 // Writes the rows as a directory's LINKS: any old one is removed, and it is made anew with the date. No image has room for a file that the array has no
 // room for.
 pub fn write_rows(image: &mut [u8], directory: &[u8], date: &[u8], rows: &[Row]) -> DoneAnswer
-    ensures { (doneTold result ≡ link_answer (write_links directory.now date.now rows.now) image.old) × (image.new ≡ link_after (write_links directory.now date.now rows.now) image.old) }
+    ensures { (done_told result ≡ link_answer (write_links directory.now date.now rows.now) image.old) × (image.new ≡ link_after (write_links directory.now date.now rows.now) image.old) }
 {
     let mut bytes = [0u8; 65536];
     let judged = judge_rows(rows);

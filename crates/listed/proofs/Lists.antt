@@ -24,7 +24,7 @@ use Rattle.refusals.specs.Told.{told}
 use Rattle.answers.specs.declared.ListAnswer.{ListAnswer}
 use Rattle.answers.specs.declared.ListAnswer.TheVariants.{Empty, Refused}
 use Rattle.answers.specs.declared.Listed.{Listed as Result}
-use Rattle.answers.specs.Answers.{listAnswer, list_name, list_date, ListSays, entry_told, entry_listed}
+use Rattle.answers.specs.Answers.{list_answer, list_name, list_date, ListSays, entry_told, entry_listed}
 
 -- ---- entry i of a row
 
@@ -72,11 +72,11 @@ Blank r x = (r.answer ≡ x) × (r.name ≡ replicate 16 0) × (r.date ≡ repli
 
 pub blank_refused : (r : Result) {x : Why} {a : Answer Listed} → Blank r (Refused x) → refused (told x) ≡ a → ListSays r a
 unfolding list_name list_date
-blank_refused r h e = (ap (λ (y : ListAnswer). listAnswer y r.name r.date) h.0 ∙ e, h.1 ∙ ap list_name e, h.2 ∙ ap list_date e)
+blank_refused r h e = (ap (λ (y : ListAnswer). list_answer y r.name r.date) h.0 ∙ e, h.1 ∙ ap list_name e, h.2 ∙ ap list_date e)
 
 pub blank_empty : (r : Result) {a : Answer Listed} → Blank r Empty → granted empty ≡ a → ListSays r a
 unfolding list_name list_date
-blank_empty r h e = (ap (λ (y : ListAnswer). listAnswer y r.name r.date) h.0 ∙ e, h.1 ∙ ap list_name e, h.2 ∙ ap list_date e)
+blank_empty r h e = (ap (λ (y : ListAnswer). list_answer y r.name r.date) h.0 ∙ e, h.1 ∙ ap list_name e, h.2 ∙ ap list_date e)
 
 -- ---- one entry
 

@@ -32,7 +32,7 @@ use Rattle.refusals2.specs.Told.{told}
 use Rattle.answers2.specs.declared.ListAnswer.{ListAnswer}
 use Rattle.answers2.specs.declared.ListAnswer.TheVariants.{Empty, Refused}
 use Rattle.answers2.specs.declared.Listed.{Listed as Result}
-use Rattle.answers2.specs.Answers.{listAnswer, ListSays}
+use Rattle.answers2.specs.Answers.{list_answer, ListSays}
 
 -- ---- the values beside the answer
 
@@ -42,7 +42,7 @@ Blank r x = (r.answer ≡ x) × (r.name ≡ replicate 16 0) × (r.date ≡ repli
 
 pub blank_refused : (r : Result) {x : Why} {a : Answer Listed} → Blank r (Refused x) → refused (told x) ≡ a → ListSays r a
 unfolding list_name list_date
-blank_refused r h e = (ap (λ (y : ListAnswer). listAnswer y r.name r.date) h.0 ∙ e, h.1 ∙ ap list_name e, h.2 ∙ ap list_date e)
+blank_refused r h e = (ap (λ (y : ListAnswer). list_answer y r.name r.date) h.0 ∙ e, h.1 ∙ ap list_name e, h.2 ∙ ap list_date e)
 
 -- ---- one entry
 
@@ -54,7 +54,7 @@ module _ (z : ℕ) (b : Bytes) (at : ℕ) where
   unfolding entry_told list_name list_date
   told_vacant r h e =
       let a : granted empty ≡ this = ap (λ (x : Entry). granted (entry_told z x)) e in
-      (ap (λ (y : ListAnswer). listAnswer y r.name r.date) h.0 ∙ a, h.1 ∙ ap list_name a, h.2 ∙ ap list_date a)
+      (ap (λ (y : ListAnswer). list_answer y r.name r.date) h.0 ∙ a, h.1 ∙ ap list_name a, h.2 ∙ ap list_date a)
 
   module _ {name date : Bytes} (is_name : name ≡ name_at b at) (is_date : date ≡ date_at b at) where
     -- with name and date beside the answer

@@ -1,4 +1,5 @@
 // Lists one image: reads it from standard input and writes its listing to standard output, a window at a time.
+#![tactic(auto)]
 use libc::{STDIN_FILENO, STDOUT_FILENO};
 
 // Writes the window of the listing from byte `from` on, and answers whether more may follow: the window was full, and is written.

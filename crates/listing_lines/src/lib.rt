@@ -1,12 +1,14 @@
 // The lines of a listing (01, "At the bench") poured into a window piece by piece: bytes, numbers in decimal, and whole lines.
 // A function says which text it pours, by the definitions of the model's `Listing`; what the window then holds says `poured` of specs/.
+#![tactic(auto)]
+
 ghost use Rattle.std.specs.Prelude.{◌≡◌, [], ◌∷◌, ◌++◌};
 ghost use Rattle.model.specs.Text.{text};
 ghost use Rattle.model.specs.Listing.{digits, decimal, newline, line};
 ghost use Rattle.listing_lines.specs.Window.{window, poured};
 
 // How far a window is: so many bytes of the text are still to be skipped, and so many stand in the buffer.
-#[derive(Drop)]
+#[derive(Clone, Copy)]
 pub struct Sink {
     pub skip: usize,
     pub done: usize,

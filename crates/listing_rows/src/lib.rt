@@ -1,5 +1,6 @@
 // The lines of a directory and of all that is below it, in the listing of an image (01, "At the bench"): an entry that is a directory is listed as
 // one in turn. Its path is written behind that of its directory.
+#![tactic(auto)]
 ghost use Rattle.std.specs.Prelude.{◌≡◌, ◌+◌, ◌*◌, ◌≤◌, ◌<◌, length, take};
 ghost use Rattle.model.specs.Layout.{page_count};
 ghost use Rattle.model.specs.Entry.{entry_at};

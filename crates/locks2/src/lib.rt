@@ -1,10 +1,11 @@
 // The calls that lock and unlock on a cartridge of version 2 (paper 02 §12). Neither has a `requires`: whatever the bytes, a call answers what the model's
 // `answer v2` says, and leaves the image as `after v2` says. A refused call changes no byte.
+#![tactic(auto)]
 ghost use Rattle.std.specs.Prelude.{◌≡◌, true, false};
 ghost use Rattle.model.specs.Call.{set_lock};
 ghost use Rattle.model.specs.MeaningOf.{answer, after};
 ghost use Rattle.model2.specs.Calls.{v2};
-ghost use Rattle.answers2.specs.Answers.{changeAnswer};
+ghost use Rattle.answers2.specs.Answers.{change_answer};
 
 use answers2::ChangeAnswer;
 use places2::{Arrival, Place};
@@ -12,7 +13,7 @@ use refusals2::Refusal;
 
 // Sets or clears a file's lock, bit 6 of its flags ("Locking applies as in version 1"). Where it is so already no byte changes.
 fn set_lock(image: &mut [u8], path: &[u8], locked: bool) -> ChangeAnswer
-    ensures result_value { changeAnswer result ≡ answer v2 (set_lock locked path.now) image.old }
+    ensures result_value { change_answer result ≡ answer v2 (set_lock locked path.now) image.old }
     ensures image_after { image.new ≡ after v2 (set_lock locked path.now) image.old }
 {
     let arrival = places2::arrive(image, path);
@@ -28,7 +29,7 @@ fn set_lock(image: &mut [u8], path: &[u8], locked: bool) -> ChangeAnswer
 
 // Locks a file: it can be read, but neither written nor removed.
 pub fn lock(image: &mut [u8], path: &[u8]) -> ChangeAnswer
-    ensures result_value { changeAnswer result ≡ answer v2 (set_lock true path.now) image.old }
+    ensures result_value { change_answer result ≡ answer v2 (set_lock true path.now) image.old }
     ensures image_after { image.new ≡ after v2 (set_lock true path.now) image.old }
 {
     set_lock(image, path, true)
@@ -36,7 +37,7 @@ pub fn lock(image: &mut [u8], path: &[u8]) -> ChangeAnswer
 
 // Unlocks a file.
 pub fn unlock(image: &mut [u8], path: &[u8]) -> ChangeAnswer
-    ensures result_value { changeAnswer result ≡ answer v2 (set_lock false path.now) image.old }
+    ensures result_value { change_answer result ≡ answer v2 (set_lock false path.now) image.old }
     ensures image_after { image.new ≡ after v2 (set_lock false path.now) image.old }
 {
     set_lock(image, path, false)

@@ -21,7 +21,7 @@ use Rattle.refusals.specs.Told.{told}
 use Rattle.answers.specs.declared.FindAnswer.{FindAnswer}
 use Rattle.answers.specs.declared.FindAnswer.TheVariants.{Directory, Refused}
 use Rattle.answers.specs.declared.Found.{Found as Result}
-use Rattle.answers.specs.Answers.{findAnswer, find_date, FindSays}
+use Rattle.answers.specs.Answers.{find_answer, find_date, FindSays}
 use Rattle.answers.proofs.Files.{FileAt, DirectoryAt, at_file, at_directory}
 
 abbrev Undated : Result → FindAnswer → Type 0
@@ -36,13 +36,13 @@ module _ (b path : Bytes) where
   unfolding find_date
   find_refused r {x} h e =
       let a : refused (told x) ≡ answer (find path) b = Any.find_refused reads b path e in
-      (ap (λ (y : FindAnswer). findAnswer y r.date) h.0 ∙ a, h.1 ∙ ap find_date a)
+      (ap (λ (y : FindAnswer). find_answer y r.date) h.0 ∙ a, h.1 ∙ ap find_date a)
 
   pub find_root : (r : Result) → Undated r Directory → granted the_root ≡ placed b path → FindSays r (answer (find path) b)
   unfolding find_date
   find_root r h e =
       let a = Any.find_root reads b path e in
-      (ap₂ (λ (y : FindAnswer) (date : Bytes). findAnswer y date) h.0 h.1 ∙ a, h.1 ∙ ap find_date a)
+      (ap₂ (λ (y : FindAnswer) (date : Bytes). find_answer y date) h.0 h.1 ∙ a, h.1 ∙ ap find_date a)
 
   module _ (a : Arrival) (p : Place) (t : Target) (here : a ≡ At p) (is : p ≡ place.Directory t) (arrives : arrival_of a ≡ placed b path) where
     abbrev at₂ : ℕ

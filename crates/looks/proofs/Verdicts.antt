@@ -13,7 +13,7 @@ use Rattle.model.specs.Meaning.{fault_told, is_format, lines, answer}
 use Rattle.model.specs.Judge.{Fault, Judged, fault, clean, judge, is_clean}
 use Rattle.model.specs.MeaningOf
 use Rattle.judge.specs.Answers as found
-use Rattle.judge.specs.Answers.{Finding, judgedAs, concluded}
+use Rattle.judge.specs.Answers.{Finding, judged_as, concluded}
 use Rattle.laws.proofs.Judged.{judge_sound}
 use Rattle.laws.proofs.Lists.{account}
 
@@ -21,13 +21,13 @@ abbrev counted : Bytes → Answer Verdict
 counted b = granted (record { pages = page_count b; free = free_count b })
 
 module _ (b : Bytes) where
-  bad_length : valid_length (length b) ≡ false → refused (refusal 1) ≡ answer verdict b
+  bad_length_lem : valid_length (length b) ≡ false → refused (refusal 1) ≡ answer verdict b
   unfolding MeaningOf.answer MeaningOf.lines settle
-  bad_length v = rw v
+  bad_length_lem v = rw v
 
-  bad_header : valid_length (length b) ≡ true → valid_header b ≡ false → refused (refusal 2) ≡ answer verdict b
+  bad_header_lem : valid_length (length b) ≡ true → valid_header b ≡ false → refused (refusal 2) ≡ answer verdict b
   unfolding MeaningOf.answer MeaningOf.lines settle is_format
-  bad_header v h = rw (v, h)
+  bad_header_lem v h = rw (v, h)
 
   unsound : (f : Fault) → judge b ≡ fault f → valid_length (length b) ≡ true → valid_header b ≡ true → sound b ≡ false → refused (fault_told f) ≡ answer verdict b
   unfolding MeaningOf.answer MeaningOf.lines settle is_format
@@ -39,26 +39,26 @@ module _ (b : Bytes) where
 
 -- what the verdict says of a finding
 abbrev pub said : Finding → Answer Verdict
-said found.badLength = refused (refusal 1)
-said found.badHeader = refused (refusal 2)
+said found.bad_length = refused (refusal 1)
+said found.bad_header = refused (refusal 2)
 said (found.unsound f) = refused (fault_told f)
 said (found.is_sound pages free) = granted (record { pages = pages; free = free })
 
-pub verdict_said : (b : Bytes) → said (judgedAs b) ≡ answer verdict b
-unfolding judgedAs concluded is_clean
+pub verdict_said : (b : Bytes) → said (judged_as b) ≡ answer verdict b
+unfolding judged_as concluded is_clean
 verdict_said b = by_length (valid_length (length b)) refl
   where
     judged : (j : Judged) → judge b ≡ j → is_clean j ≡ sound b → valid_length (length b) ≡ true → valid_header b ≡ true → said (concluded b j) ≡ answer verdict b
     judged (fault f) e s v h = unsound b f e v h (sym s)
     judged (clean marks) e s v h = is_sound_lem b (sym s)
 
-    by_header : (h : Bool) → valid_header b ≡ h → valid_length (length b) ≡ true → said (if h then concluded b (judge b) else found.badHeader) ≡ answer verdict b
-    by_header false h v = bad_header b v h
+    by_header : (h : Bool) → valid_header b ≡ h → valid_length (length b) ≡ true → said (if h then concluded b (judge b) else found.bad_header) ≡ answer verdict b
+    by_header false h v = bad_header_lem b v h
     by_header true h v = judged (judge b) refl (judge_sound b (subst T (sym v) tt) (subst T (sym h) tt)) v h
 
-    by_length : (v : Bool) → valid_length (length b) ≡ v → said (if v then (if valid_header b then concluded b (judge b) else found.badHeader) else found.badLength) ≡ answer verdict b
-    by_length false v = bad_length b v
+    by_length : (v : Bool) → valid_length (length b) ≡ v → said (if v then (if valid_header b then concluded b (judge b) else found.bad_header) else found.bad_length) ≡ answer verdict b
+    by_length false v = bad_length_lem b v
     by_length true v = by_header (valid_header b) refl v
 
-pub judged_told : (b : Bytes) (j : Finding) → j ≡ judgedAs b → said j ≡ answer verdict b
+pub judged_told : (b : Bytes) (j : Finding) → j ≡ judged_as b → said j ≡ answer verdict b
 judged_told b j e = ap said e ∙ verdict_said b

@@ -1,9 +1,10 @@
 // Two calls that look: verdict and find; list stands in `listed`, read in `reads`. Neither has a `requires`: whatever the bytes, a call answers what the
 // model's `answer` says. The image is lent for reading.
+#![tactic(auto)]
 ghost use Rattle.std.specs.Prelude.{◌≡◌, replicate};
 ghost use Rattle.model.specs.Call.{verdict, find};
 ghost use Rattle.model.specs.Meaning.{answer};
-ghost use Rattle.answers.specs.Answers.{verdictAnswer, FindSays};
+ghost use Rattle.answers.specs.Answers.{verdict_answer, FindSays};
 
 use answers::{FindAnswer, Found, VerdictAnswer};
 use judge::Judgement;
@@ -12,7 +13,7 @@ use refusals::Refusal;
 
 // Whether the image is sound; every other call but format asks this first.
 pub fn verdict(image: &[u8]) -> VerdictAnswer
-    ensures { verdictAnswer result ≡ answer verdict image.now }
+    ensures { verdict_answer result ≡ answer verdict image.now }
 {
     match judge::judge_image(image) {
         Judgement::Sound(pages, free) => VerdictAnswer::Sound(pages, free),

@@ -24,7 +24,7 @@ use Rattle.refusals2.specs.Told.{told}
 use Rattle.answers2.specs.declared.FindAnswer.{FindAnswer}
 use Rattle.answers2.specs.declared.FindAnswer.TheVariants.{Directory, Refused}
 use Rattle.answers2.specs.declared.Found.{Found as Result}
-use Rattle.answers2.specs.Answers.{findAnswer, FindSays}
+use Rattle.answers2.specs.Answers.{find_answer, FindSays}
 
 abbrev Undated : Result → FindAnswer → Type 0
 Undated r x = (r.answer ≡ x) × (r.date ≡ replicate 8 0)
@@ -34,7 +34,7 @@ module _ (b path : Bytes) where
   unfolding find_date
   find_refused r {x} h e =
       let a : refused (told x) ≡ answer v2 (find path) b = Any.find_refused reads2 b path e in
-      (ap (λ (y : FindAnswer). findAnswer y r.date) h.0 ∙ a, h.1 ∙ ap find_date a)
+      (ap (λ (y : FindAnswer). find_answer y r.date) h.0 ∙ a, h.1 ∙ ap find_date a)
 
   module _ {a : Arrival} {c : Cartridge} {p : Place} (here : a ≡ At c p) (arrives : Arrives b path a) where
     abbrev size : ℕ
@@ -47,7 +47,7 @@ module _ (b path : Bytes) where
         let a : granted (record { kind = is_directory; size = size; date = replicate 8 0 }) ≡ answer v2 (find path) b =
         ap (λ (z : ℕ). granted (record { kind = is_directory; size = z; date = replicate 8 0 })) (page_size_lem (known_at b path here arrives))
         ∙ Any.find_root reads2 b path (at_root b path here arrives is) in
-        (ap₂ (λ (y : FindAnswer) (date : Bytes). findAnswer y date) h.0 h.1 ∙ a, h.1 ∙ ap find_date a)
+        (ap₂ (λ (y : FindAnswer) (date : Bytes). find_answer y date) h.0 h.1 ∙ a, h.1 ∙ ap find_date a)
 
     abbrev Finds : Kind → ℕ → Bytes → Type 0
     Finds kind k date = (granted (record { kind = kind; size = k; date = date }) ≡ answer v2 (find path) b) × (date ≡ find_date (answer v2 (find path) b))

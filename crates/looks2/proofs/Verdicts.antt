@@ -15,7 +15,7 @@ use Rattle.model2.specs.Calls.{v2}
 use Rattle.laws2.proofs.Owed2.{owed2}
 use Rattle.arrivals.proofs.Settled.{behind_image, if_sound}
 use Rattle.judge2.specs.Answers as found
-use Rattle.judge2.specs.Answers.{Finding, concluded, judgedAs}
+use Rattle.judge2.specs.Answers.{Finding, concluded, judged_as}
 use Rattle.places2.proofs.Judged.{judged_to, image_lines_lem}
 
 -- what the verdict says of a finding
@@ -29,8 +29,8 @@ module _ (b : Bytes) where
   counted = granted (record { pages = (view2 b).pages; free = free_count (view2 b) })
 
   -- a sound image's numbers are told with it
-  said_counted : said (judgedAs b) ≡ judged_to refused counted (judgedAs b)
-  unfolding judgedAs concluded
+  said_counted : said (judged_as b) ≡ judged_to refused counted (judged_as b)
+  unfolding judged_as concluded
   said_counted =
       settle_both (λ (y z : Finding). said y ≡ judged_to refused counted y) (header_lines b) (λ r. found.refused r) (concluded (view2 b) (judge_view (view2 b)))
       (λ r. found.refused r) (concluded (view2 b) (judge_view (view2 b))) (λ r. refl) (λ p. go (judge_view (view2 b)))
@@ -48,5 +48,5 @@ module _ (b : Bytes) where
   unfolding answer is_format
   verdict_lines = if_sound v2 b refused verdict_left ∙ sym (behind_image v2 b refused verdict refl (granted (told v2 verdict (tree_of v2 b))))
 
-  pub judged_told : (j : Finding) → j ≡ judgedAs b → said j ≡ answer v2 verdict b
+  pub judged_told : (j : Finding) → j ≡ judged_as b → said j ≡ answer v2 verdict b
   judged_told j e = ap said e ∙ said_counted ∙ image_lines_lem b refused counted ∙ verdict_lines

@@ -1,10 +1,11 @@
 // Two calls that look at a cartridge of version 2 (paper 02 §12): verdict and find; list stands in `listed2`, read in `reads2`. Neither has a `requires`: whatever
 // the bytes, a call answers what the model's `answer` says of version 2. The image is lent for reading.
+#![tactic(auto)]
 ghost use Rattle.std.specs.Prelude.{◌≡◌, replicate};
 ghost use Rattle.model.specs.Call.{verdict, find};
 ghost use Rattle.model.specs.MeaningOf.{answer};
 ghost use Rattle.model2.specs.Calls.{v2};
-ghost use Rattle.answers2.specs.Answers.{verdictAnswer, FindSays};
+ghost use Rattle.answers2.specs.Answers.{verdict_answer, FindSays};
 
 use answers2::{FindAnswer, Found, VerdictAnswer};
 use judge2::Judgement;
@@ -13,7 +14,7 @@ use refusals2::Refusal;
 
 // Whether the image is sound; every other call but format asks this first.
 pub fn verdict(image: &[u8]) -> VerdictAnswer
-    ensures { verdictAnswer result ≡ answer v2 verdict image.now }
+    ensures { verdict_answer result ≡ answer v2 verdict image.now }
 {
     match judge2::judge_image(image) {
         Judgement::Sound(cartridge, free) => VerdictAnswer::Sound(cartridge.pages, free),

@@ -14,8 +14,8 @@ use Rattle.view_laws.proofs.Comes.{never}
 use Rattle.faults.specs.declared.Check.{Check}
 use Rattle.faults.specs.declared.Check.TheVariants.{Clean, Faulty}
 use Rattle.faults.specs.declared.Fault.{Fault}
-use Rattle.faults.specs.Answers.{faultOf, outcome}
-use Rattle.faults.proofs.Answers.{clean_of, fault-of}
+use Rattle.faults.specs.Answers.{fault_of, outcome}
+use Rattle.faults.proofs.Answers.{clean_of, fault_of_lem}
 use Rattle.lost.proofs.Lost.{lost_from}
 
 lost_faulty : (m : List ℕ) {x : Model.Fault} (rest : Judged) (l : Option ℕ) → fault x ≡ lost_or (clean m) l → fault x ≡ lost_or rest l
@@ -38,9 +38,9 @@ module _ (v : View) (m : List ℕ) (q : Check)
   abbrev verdict : (marked counted : Bool) → Judged
   verdict marked counted = if marked && counted then clean m else fault bad_count
 
-  pub lost_decides : (x : Fault) → q ≡ Faulty x → fault (faultOf x) ≡ judge_rest v m
+  pub lost_decides : (x : Fault) → q ≡ Faulty x → fault (fault_of x) ≡ judge_rest v m
   unfolding judge_rest
-  lost_decides x e = lost_faulty m _ lowest (fault-of m lost e)
+  lost_decides x e = lost_faulty m _ lowest (fault_of_lem m lost e)
 
   pub none_lost_decides : q ≡ Clean → {marked counted : Bool} → marked_below v v.geometry.aside ≡ marked
       → eqb (free_count v) (zero_bits v v.pages) ≡ counted → verdict marked counted ≡ judge_rest v m

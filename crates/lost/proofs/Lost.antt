@@ -24,8 +24,8 @@ use Rattle.lost.specs.Searched.{Searched, is_lost}
 use Rattle.faults.specs.declared.Check.{Check}
 use Rattle.faults.specs.declared.Check.TheVariants.{Clean, Faulty}
 use Rattle.faults.specs.declared.Fault.{Fault}
-use Rattle.faults.specs.Answers.{faultOf, outcome}
-use Rattle.faults.proofs.Answers.{clean_of, fault-of}
+use Rattle.faults.specs.Answers.{fault_of, outcome}
+use Rattle.faults.proofs.Answers.{clean_of, fault_of_lem}
 use Rattle.view_laws.proofs.Comes.{never}
 
 -- the first of two answers
@@ -150,9 +150,9 @@ module _ (b : Bytes) (s : Shape) (m : List ℕ) (asked : Searched b s m) (byte :
     split : lost_from (geometry_of s) b m (length m) s.aside ≡ or_else (lost_from (geometry_of s) b m to from) (lost_from (geometry_of s) b m (length m) to)
     split = so_far ∙ lost_on (geometry_of s) b m to (length m) from (omega (arith, more, asked.low, asked.some)) (omega arith)
 
-    pub byte_faulty : (x : Fault) → q ≡ Faulty x → fault (faultOf x) ≡ lost_or (clean m) (lost_from (geometry_of s) b m (length m) s.aside)
+    pub byte_faulty : (x : Fault) → q ≡ Faulty x → fault (fault_of x) ≡ lost_or (clean m) (lost_from (geometry_of s) b m (length m) s.aside)
     byte_faulty x e =
-        some_faulty m (lost_from (geometry_of s) b m to from) (lost_from (geometry_of s) b m (length m) to) (fault-of m here e) ∙ ap (lost_or (clean m)) (sym split)
+        some_faulty m (lost_from (geometry_of s) b m to from) (lost_from (geometry_of s) b m (length m) to) (fault_of_lem m here e) ∙ ap (lost_or (clean m)) (sym split)
 
     pub byte_clean : q ≡ Clean → (clear step : ℕ) → clear ≡ 0 → step ≡ max 1 clear
         → lost_from (geometry_of s) b m (length m) s.aside ≡ lost_from (geometry_of s) b m (length m) (max s.aside (8 * (byte + step)))

@@ -1,5 +1,7 @@
 // The search for a lost page, one that is marked in the bitmap and that nobody owns (01, "A sound image"). The shape is any: where the bitmap is and
 // how many pages are set aside is all that the two versions (02 §12) differ in. No function changes the image or the marks.
+#![tactic(auto)]
+
 ghost use Rattle.std.specs.Prelude.{◌≡◌, ◌+◌, ◌-◌, ◌*◌, ◌≤◌, ◌<◌, min, max, length};
 ghost use Rattle.volume.specs.Lists.{first, count_from};
 ghost use Rattle.model.specs.Judge.{clean, lost_or};

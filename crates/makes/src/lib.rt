@@ -1,9 +1,10 @@
 // The calls that make: format and the two makes. None has a `requires`: whatever the bytes, a call answers what the model's `answer` says, and leaves the
 // image as `after` says. A refused call changes no byte.
+#![tactic(auto)]
 ghost use Rattle.std.specs.Prelude.{◌≡◌, ◌<◌};
 ghost use Rattle.model.specs.Call.{format, make_file, make_directory};
 ghost use Rattle.model.specs.Meaning.{answer, after};
-ghost use Rattle.answers.specs.Answers.{changeAnswer};
+ghost use Rattle.answers.specs.Answers.{change_answer};
 ghost use Rattle.makes.specs.Makes.{make_answer, make_after};
 
 use answers::ChangeAnswer;
@@ -13,7 +14,7 @@ use refusals::Refusal;
 
 // Writes page 0, whatever it held; every other byte stays.
 pub fn format(image: &mut [u8]) -> ChangeAnswer
-    ensures { (changeAnswer result ≡ answer format image.old) × (image.new ≡ after format image.old) }
+    ensures { (change_answer result ≡ answer format image.old) × (image.new ≡ after format image.old) }
 {
     let bytes = image.len();
     if !fields::length_is_allowed(bytes) {
@@ -37,7 +38,7 @@ fn make(
     pages: usize,
 ) -> ChangeAnswer
     requires { size < 65536 }
-    ensures result_value { changeAnswer result ≡ make_answer image.old path.now date.now pages }
+    ensures result_value { change_answer result ≡ make_answer image.old path.now date.now pages }
     ensures image_after { image.new ≡ make_after flags size pages image.old path.now date.now }
 {
     let opening = openings::find_opening(image, path, date);
@@ -55,7 +56,7 @@ fn make(
 
 // Makes an empty file, with the zeroed page that it owns (02 §1).
 pub fn make_file(image: &mut [u8], path: &[u8], date: &[u8]) -> ChangeAnswer
-    ensures result_value { changeAnswer result ≡ answer (make_file path.now date.now) image.old }
+    ensures result_value { change_answer result ≡ answer (make_file path.now date.now) image.old }
     ensures image_after { image.new ≡ after (make_file path.now date.now) image.old }
 {
     make(image, path, date, 0x80, 0, fields::pages_for(0))
@@ -63,7 +64,7 @@ pub fn make_file(image: &mut [u8], path: &[u8], date: &[u8]) -> ChangeAnswer
 
 // Makes a directory without entries, on a page of its own.
 pub fn make_directory(image: &mut [u8], path: &[u8], date: &[u8]) -> ChangeAnswer
-    ensures result_value { changeAnswer result ≡ answer (make_directory path.now date.now) image.old }
+    ensures result_value { change_answer result ≡ answer (make_directory path.now date.now) image.old }
     ensures image_after { image.new ≡ after (make_directory path.now date.now) image.old }
 {
     make(image, path, date, 0x81, 0x0100, 1)

@@ -1,5 +1,6 @@
 // The calls that make on a cartridge of version 2 (paper 02 §12): format and the two makes. None of the calls has a `requires`: whatever the bytes, it answers
 // what the model's `answer` says, and leaves the image as `after` says. A refused call changes no byte.
+#![tactic(auto)]
 ghost use Rattle.std.specs.Prelude.{◌≡◌, ◌*◌, ◌≤◌, ◌<◌, length};
 ghost use Rattle.volume.specs.Bytes.{if◌then◌else◌};
 ghost use Rattle.model.specs.EffectOf.{lowest_vacant, roomy, made_in};
@@ -12,7 +13,7 @@ ghost use Rattle.arrivals.specs.Openings.{is_none, make_answer, make_after};
 ghost use Rattle.cursor2.specs.Row.{found_of};
 ghost use Rattle.known2.specs.Known.{Known};
 ghost use Rattle.known2.specs.Housed.{Housed};
-ghost use Rattle.answers2.specs.Answers.{changeAnswer};
+ghost use Rattle.answers2.specs.Answers.{change_answer};
 ghost use Rattle.makes2.specs.Asked.{Fillable};
 
 use answers2::ChangeAnswer;
@@ -24,7 +25,7 @@ use shape2::Cartridge;
 
 // Writes the pages set aside, whatever they held; every other byte stays. The page code may be any number: one that does not fit is refused.
 pub fn format(image: &mut [u8], code: usize) -> ChangeAnswer
-    ensures { (changeAnswer result ≡ answer v2 (format_as code) image.old) × (image.new ≡ after v2 (format_as code) image.old) }
+    ensures { (change_answer result ≡ answer v2 (format_as code) image.old) × (image.new ≡ after v2 (format_as code) image.old) }
 {
     let bytes = image.len();
     if !header2::length_is_allowed(bytes) {
@@ -111,7 +112,7 @@ fn fill(
 // last refusal that can be given: 10 counts the page that a full directory gets.
 fn make(image: &mut [u8], path: &[u8], date: &[u8], flags: u8, told: usize) -> ChangeAnswer
     requires { told ≤ 1 }
-    ensures result_value { changeAnswer result ≡ make_answer v2 image.old path.now date.now 1 }
+    ensures result_value { change_answer result ≡ make_answer v2 image.old path.now date.now 1 }
     ensures image_after { image.new ≡ make_after v2 flags (told * page_size (code_in image.old)) 1 image.old path.now date.now }
 {
     let opening = openings2::find_opening(image, path, date);
@@ -135,7 +136,7 @@ fn make(image: &mut [u8], path: &[u8], date: &[u8], flags: u8, told: usize) -> C
 
 // Makes an empty file, with the zeroed page that it owns.
 pub fn make_file(image: &mut [u8], path: &[u8], date: &[u8]) -> ChangeAnswer
-    ensures result_value { changeAnswer result ≡ answer v2 (make_file path.now date.now) image.old }
+    ensures result_value { change_answer result ≡ answer v2 (make_file path.now date.now) image.old }
     ensures image_after { image.new ≡ after v2 (make_file path.now date.now) image.old }
 {
     make(image, path, date, 0x80, 0)
@@ -143,7 +144,7 @@ pub fn make_file(image: &mut [u8], path: &[u8], date: &[u8]) -> ChangeAnswer
 
 // Makes a directory without entries, on a page of its own, whose size it tells.
 pub fn make_directory(image: &mut [u8], path: &[u8], date: &[u8]) -> ChangeAnswer
-    ensures result_value { changeAnswer result ≡ answer v2 (make_directory path.now date.now) image.old }
+    ensures result_value { change_answer result ≡ answer v2 (make_directory path.now date.now) image.old }
     ensures image_after { image.new ≡ after v2 (make_directory path.now date.now) image.old }
 {
     make(image, path, date, 0x81, 1)

@@ -42,9 +42,9 @@ ne_of {m} {n} h = go (eqb m n) refl
 -- ---- the image's lines
 
 -- on a sound image none of them holds
-image-clear : {A : Type 0} (b : Bytes) (ls : List Line) (g : Refusal → A) (x : A) → T (sound b) → settle (image_lines b ++ ls) g x ≡ settle ls g x
+image_clear : {A : Type 0} (b : Bytes) (ls : List Line) (g : Refusal → A) (x : A) → T (sound b) → settle (image_lines b ++ ls) g x ≡ settle ls g x
 unfolding settle
-image-clear b ls g x h = let f = sound_facts_lem h in rw (yes_of (valid_length (length b)) f.fits, yes_of (valid_header b) f.headed, yes_of (sound b) h)
+image_clear b ls g x h = let f = sound_facts_lem h in rw (yes_of (valid_length (length b)) f.fits, yes_of (valid_header b) f.headed, yes_of (sound b) h)
 
 reason : {A : Type 0} → Answer A → Refusal
 reason (refused f) = f
@@ -87,25 +87,25 @@ module _ (b places target : Bytes) where
   abbrev own : List Line
   own = (not (eqb (length target) (length b)), refusal 28) ∷ (not (accepted b places), refusal 27) ∷ []
 
-  pub tidy-stops : {f : Refusal} → answer verdict b ≡ refused f → TidySays (refused f) target
+  pub tidy_stops : {f : Refusal} → answer verdict b ≡ refused f → TidySays (refused f) target
   unfolding tidy_answer tidy_after tidy_lines
-  tidy-stops {f} e = (sym (image_stops b f _ refused (granted tt) e), sym (image_stops b f _ (λ r. target) (moved places b) e))
+  tidy_stops {f} e = (sym (image_stops b f _ refused (granted tt) e), sym (image_stops b f _ (λ r. target) (moved places b) e))
 
-  pub tidy-long : T (sound b) → length target ≢ length b → TidySays (refused (refusal 28)) target
+  pub tidy_long : T (sound b) → length target ≢ length b → TidySays (refused (refusal 28)) target
   unfolding tidy_answer tidy_after tidy_lines settle
-  tidy-long h n = (sym (image-clear b own refused (granted tt) h ∙ rw (ne_of n)), sym (image-clear b own (λ r. target) (moved places b) h ∙ rw (ne_of n)))
+  tidy_long h n = (sym (image_clear b own refused (granted tt) h ∙ rw (ne_of n)), sym (image_clear b own (λ r. target) (moved places b) h ∙ rw (ne_of n)))
 
   module _ (h : T (sound b)) (e : length target ≡ length b) where
     same : not (eqb (length target) (length b)) ≡ false
     same = yes_of (eqb (length target) (length b)) (eq-eqb e)
 
-    pub tidy-unaccepted : accepted b places ≡ false → TidySays (refused (refusal 27)) target
+    pub tidy_unaccepted : accepted b places ≡ false → TidySays (refused (refusal 27)) target
     unfolding tidy_answer tidy_after tidy_lines settle
-    tidy-unaccepted n = (sym (image-clear b own refused (granted tt) h ∙ rw (same, n)), sym (image-clear b own (λ r. target) (moved places b) h ∙ rw (same, n)))
+    tidy_unaccepted n = (sym (image_clear b own refused (granted tt) h ∙ rw (same, n)), sym (image_clear b own (λ r. target) (moved places b) h ∙ rw (same, n)))
 
-    pub tidy-accepted : accepted b places ≡ true → TidySays (granted tt) (moved places b)
+    pub tidy_accepted : accepted b places ≡ true → TidySays (granted tt) (moved places b)
     unfolding tidy_answer tidy_after tidy_lines settle
-    tidy-accepted n = (sym (image-clear b own refused (granted tt) h ∙ rw (same, n)), sym (image-clear b own (λ r. target) (moved places b) h ∙ rw (same, n)))
+    tidy_accepted n = (sym (image_clear b own refused (granted tt) h ∙ rw (same, n)), sym (image_clear b own (λ r. target) (moved places b) h ∙ rw (same, n)))
 
 -- ---- propose
 
@@ -116,16 +116,16 @@ module _ (b row : Bytes) where
   abbrev mine : List Line
   mine = (not (eqb (length row) (page_count b)), refusal 27) ∷ []
 
-  pub propose-stops : {f : Refusal} → answer verdict b ≡ refused f → ProposeSays (refused f) row
+  pub propose_stops : {f : Refusal} → answer verdict b ≡ refused f → ProposeSays (refused f) row
   unfolding propose_answer propose_after propose_lines
-  propose-stops {f} e = (sym (image_stops b f _ refused (granted tt) e), sym (image_stops b f _ (λ r. row) (numbered 0 (order b) row) e))
+  propose_stops {f} e = (sym (image_stops b f _ refused (granted tt) e), sym (image_stops b f _ (λ r. row) (numbered 0 (order b) row) e))
 
-  pub propose-long : T (sound b) → length row ≢ page_count b → ProposeSays (refused (refusal 27)) row
+  pub propose_long : T (sound b) → length row ≢ page_count b → ProposeSays (refused (refusal 27)) row
   unfolding propose_answer propose_after propose_lines settle
-  propose-long h n = (sym (image-clear b mine refused (granted tt) h ∙ rw (ne_of n)), sym (image-clear b mine (λ r. row) (numbered 0 (order b) row) h ∙ rw (ne_of n)))
+  propose_long h n = (sym (image_clear b mine refused (granted tt) h ∙ rw (ne_of n)), sym (image_clear b mine (λ r. row) (numbered 0 (order b) row) h ∙ rw (ne_of n)))
 
-  pub propose-granted : T (sound b) → length row ≡ page_count b → ProposeSays (granted tt) (numbered 0 (order b) row)
+  pub propose_granted : T (sound b) → length row ≡ page_count b → ProposeSays (granted tt) (numbered 0 (order b) row)
   unfolding propose_answer propose_after propose_lines settle
-  propose-granted h e =
+  propose_granted h e =
       let n = yes_of (eqb (length row) (page_count b)) (eq-eqb e) in
-      (sym (image-clear b mine refused (granted tt) h ∙ rw n), sym (image-clear b mine (λ r. row) (numbered 0 (order b) row) h ∙ rw n))
+      (sym (image_clear b mine refused (granted tt) h ∙ rw n), sym (image_clear b mine (λ r. row) (numbered 0 (order b) row) h ∙ rw n))

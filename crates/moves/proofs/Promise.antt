@@ -22,7 +22,7 @@ use Rattle.moves.proofs.Places.{accepted_is}
 use Rattle.moves.proofs.Tidied.{moved_sound, entries_moved}
 use Rattle.moves.proofs.Carried.{pages_placed, byte_carried}
 use Rattle.moves.proofs.Helper.{helper_accepted}
-use Rattle.moves.proofs.Answers.{verdict_sound, TidySays, tidy-stops, tidy-long, tidy-unaccepted, tidy-accepted, ProposeSays, propose-stops, propose-long, propose-granted}
+use Rattle.moves.proofs.Answers.{verdict_sound, TidySays, tidy_stops, tidy_long, tidy_unaccepted, tidy_accepted, ProposeSays, propose_stops, propose_long, propose_granted}
 
 -- ---- what an accepted proposal leaves
 
@@ -54,16 +54,16 @@ goes b places target = by_verdict_lem (answer verdict b) refl
     say {a} {v} s g = subst (λ (x : Answer (Unit {0})). Goes b places target x (tidy_after b places target)) s.0 (subst (Goes b places target a) s.1 g)
 
     by_check : T (sound b) → length target ≡ length b → (c : Bool) → accepted b places ≡ c → Goes b places target (tidy_answer b places target) (tidy_after b places target)
-    by_check h e true q = say (tidy-accepted b places target h e q) (runs h (subst (λ (x : Bool). T x) (sym q) tt))
-    by_check h e false q = say (tidy-unaccepted b places target h e q) (stops (refusal 27) (by_proposal h e (subst (λ (x : Bool). T (not x)) (sym q) tt)))
+    by_check h e true q = say (tidy_accepted b places target h e q) (runs h (subst (λ (x : Bool). T x) (sym q) tt))
+    by_check h e false q = say (tidy_unaccepted b places target h e q) (stops (refusal 27) (by_proposal h e (subst (λ (x : Bool). T (not x)) (sym q) tt)))
 
     by_verdict_lem : (a : Answer Verdict) → answer verdict b ≡ a → Goes b places target (tidy_answer b places target) (tidy_after b places target)
-    by_verdict_lem (refused f) e = say (tidy-stops b places target e) (stops f (by_verdict f e))
+    by_verdict_lem (refused f) e = say (tidy_stops b places target e) (stops f (by_verdict f e))
     by_verdict_lem (granted v) e =
         let h = verdict_sound b e in
         elim (ℕ_discrete (length target) (length b)) [
           | yes q ↦ by_check h q (accepted b places) refl
-          | no n ↦ say (tidy-long b places target h n) (stops (refusal 28) (by_length h n))
+          | no n ↦ say (tidy_long b places target h n) (stops (refusal 28) (by_length h n))
         ]
 
 reason : {A : Type 0} → Answer A → Refusal
@@ -74,7 +74,7 @@ pub tidy_demand : TidyDemand
 unfolding reason
 tidy_demand = record {
   refuses = λ b places target f e. refuses b places target (goes b places target) e;
-  grants = λ b places target h e k. sym (tidy-accepted b places target h e (true_of (accepted b places) k)).0;
+  grants = λ b places target h e k. sym (tidy_accepted b places target h e (true_of (accepted b places) k)).0;
   tidies = λ b places target e. tidies b places target (goes b places target) e;
 }
   where
@@ -103,19 +103,19 @@ makes b row = by_verdict_lem (answer verdict b) refl
     say {a} {v} s g = subst (λ (x : Answer (Unit {0})). Makes b row x (propose_after b row)) s.0 (subst (Makes b row a) s.1 g)
 
     by_verdict_lem : (a : Answer Verdict) → answer verdict b ≡ a → Makes b row (propose_answer b row) (propose_after b row)
-    by_verdict_lem (refused f) e = say (propose-stops b row e) (stops f (Demand.by_verdict f e))
+    by_verdict_lem (refused f) e = say (propose_stops b row e) (stops f (Demand.by_verdict f e))
     by_verdict_lem (granted v) e =
         let h = verdict_sound b e in
         elim (ℕ_discrete (length row) (page_count b)) [
-          | yes q ↦ say (propose-granted b row h q) (runs (helper_accepted b row h q))
-          | no n ↦ say (propose-long b row h n) (stops (refusal 27) (Demand.by_length h n))
+          | yes q ↦ say (propose_granted b row h q) (runs (helper_accepted b row h q))
+          | no n ↦ say (propose_long b row h n) (stops (refusal 27) (Demand.by_length h n))
         ]
 
 pub propose_demand : ProposeDemand
 unfolding reason
 propose_demand = record {
   refuses = λ b row f e. refuses b row (makes b row) e;
-  grants = λ b row h e. sym (propose-granted b row h e).0;
+  grants = λ b row h e. sym (propose_granted b row h e).0;
   proposes = λ b row e. proposes b row (makes b row) e;
 }
   where

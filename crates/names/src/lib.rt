@@ -1,5 +1,7 @@
 // Names and paths, byte by byte: which bytes are legal, whether two names are the same, and where the texts of a path end.
 // Every function answers what the model says of the bytes, changes none, and asks only that what it reads lies in the image or the path.
+#![tactic(auto)]
+
 ghost use Rattle.std.specs.Prelude.{◌≡◌, not, ◌+◌, ◌≤◌, length, drop};
 ghost use Rattle.volume.specs.Bytes.{same, byte_at};
 ghost use Rattle.volume.specs.Lists.{all};
@@ -123,7 +125,7 @@ pub fn pad(text: &[u8]) -> [u8; 16]
     ensures { result ≡ padded text.now }
 {
     let mut name = [0u8; 16];
-    bytes::copy(text, &mut name);
+    name[..text.len()].copy_from_slice(text);
     name
 }
 

@@ -1,5 +1,7 @@
 // A name of a version 2 directory, whose entries stand on all the pages of its chain (paper 02 §2 and §12): legal, and not that of an earlier entry.
 // No function changes anything, and the answer is what the model says of the directory's row, the cursor being at an entry of it.
+#![tactic(auto)]
+
 ghost use Rattle.std.specs.Prelude.{◌≡◌, ◌+◌, ◌*◌, ◌≤◌, length};
 ghost use Rattle.volume.specs.Bytes.{byte_at};
 ghost use Rattle.volume.specs.Lists.{all};

@@ -1,5 +1,7 @@
 // Entry i of a directory of version 2, counted over all its pages (paper 02 §12): whole pages are passed, since a page's number of entries is known without reading them.
 // The image is lent for reading. Asked is a directory whose pages lie in it, or a cursor that stands; what is found is a cursor that stands, or the end.
+#![tactic(auto)]
+
 ghost use Rattle.std.specs.Prelude.{◌≡◌, ◌-◌, ◌≤◌, drop};
 ghost use Rattle.volume.specs.Geometry as On;
 ghost use Rattle.model2.specs.Version2.{linked_pages, entry_count};

@@ -1,5 +1,7 @@
 // The occupied entries of a directory of version 2 (paper 02 §12), one after the other: vacant ones are passed over a page at a time, by their flags alone.
 // No function changes the image. What a walk that stops at occupied entries alone passes over is vacant.
+#![tactic(auto)]
+
 ghost use Rattle.std.specs.Prelude.{◌≡◌, ◌+◌, ◌-◌, ◌*◌, ◌≤◌, ◌<◌, ◌^◌, length};
 ghost use Rattle.rows2.specs.Roomy.{Roomy};
 ghost use Rattle.cursor2.specs.Row.{row_from, row_after, StandsAfter};
@@ -9,7 +11,7 @@ use cursor2::{Cursor, Step};
 use shape::Shape;
 
 // An occupied entry with its number in the whole directory, or none is left.
-#[derive(Drop)]
+#[derive(Clone, Copy)]
 pub enum Met {
     Occupied(Cursor, usize),
     NoMore,

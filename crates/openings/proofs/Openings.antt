@@ -38,8 +38,8 @@ use Rattle.walk.specs.declared.Parent.{Parent}
 use Rattle.walk.specs.declared.Parent.TheVariants.{In, Missing, Blocked}
 use Rattle.walk.specs.declared.Walk.{Walk}
 use Rattle.fields.proofs.Plain.{told as is-told, untold}
-use Rattle.faults.specs.Answers.{faultOf}
-use Rattle.judge.specs.Answers.{findingOf, judgedAs}
+use Rattle.faults.specs.Answers.{fault_of}
+use Rattle.judge.specs.Answers.{finding_of, judged_as}
 use Rattle.faults.specs.declared.Fault.{Fault}
 use Rattle.judge.specs.declared.Judgement.{Judgement}
 use Rattle.judge.specs.declared.Judgement.TheVariants.{Sound, BadLength, BadHeader, Unsound}
@@ -197,8 +197,8 @@ module _ (b : Bytes) (s : T (sound b)) where
 -- ---- the image
 
 -- the judge says j
-module _ (b path date : Bytes) (j : Judgement) (judged : findingOf j ≡ judgedAs b) where
-  opening_judged : (x : Judgement) → j ≡ x → judged_to refused (opening_walked b path date) (findingOf x) ≡ opening b path date
+module _ (b path date : Bytes) (j : Judgement) (judged : finding_of j ≡ judged_as b) where
+  opening_judged : (x : Judgement) → j ≡ x → judged_to refused (opening_walked b path date) (finding_of x) ≡ opening b path date
   unfolding opening opening_walked settle
   opening_judged x e = ap (judged_to refused (opening_walked b path date)) (rw e at judged) ∙ image_lines_lem b refused (opening_walked b path date)
 
@@ -211,5 +211,5 @@ module _ (b path date : Bytes) (j : Judgement) (judged : findingOf j ≡ judgedA
   pub opening_header : j ≡ BadHeader → refused (refusal 2) ≡ opening b path date
   opening_header = opening_judged BadHeader
 
-  pub opening_unsound : (f : Fault) → j ≡ Unsound f → refused (fault_told (faultOf f)) ≡ opening b path date
+  pub opening_unsound : (f : Fault) → j ≡ Unsound f → refused (fault_told (fault_of f)) ≡ opening b path date
   opening_unsound f = opening_judged (Unsound f)

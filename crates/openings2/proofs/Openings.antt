@@ -23,9 +23,9 @@ use Rattle.arrivals.specs.Openings as model
 use Rattle.arrivals.specs.Openings.{vacancy_in, unless_full, unless_named, opening_named, opening_walked, opening}
 use Rattle.arrivals.proofs.Openings.{opening_by, opening_no_path, opening_bad_date, opening_root, opening_below, opening_stopped, opening_sound as sound-opening}
 use Rattle.fields.proofs.Plain.{told as is-told, untold}
-use Rattle.faults.specs.Answers.{faultOf}
+use Rattle.faults.specs.Answers.{fault_of}
 use Rattle.faults.specs.declared.Fault.{Fault}
-use Rattle.judge2.specs.Answers.{findingOf, judgedAs}
+use Rattle.judge2.specs.Answers.{finding_of, judged_as}
 use Rattle.judge2.specs.declared.Judgement.{Judgement}
 use Rattle.judge2.specs.declared.Judgement.TheVariants.{Sound, BadLength, BadVersion, BadShape, Unsound}
 use Rattle.shape.specs.declared.Shape.{Shape}
@@ -114,8 +114,8 @@ module _ (b path date : Bytes) (r : Bool) (told_path : r ≡ not (is_no_path (pa
 -- ---- the image
 
 -- the judge says j
-module _ (b path date : Bytes) (j : Judgement) (judged : findingOf j ≡ judgedAs b) where
-  stopped : (x : Judgement) → j ≡ x → {m : Model} → judged_to some none (findingOf x) ≡ some m → refused m ≡ opening v2 b path date
+module _ (b path date : Bytes) (j : Judgement) (judged : finding_of j ≡ judged_as b) where
+  stopped : (x : Judgement) → j ≡ x → {m : Model} → judged_to some none (finding_of x) ≡ some m → refused m ≡ opening v2 b path date
   stopped x e is = opening_stopped v2 b path date (sym (image_lines_lem b some none) ∙ ap (judged_to some none) (sym (rw e at judged)) ∙ is)
 
   pub opening_sound : {c : Cartridge} {free : ℕ} → j ≡ Sound c free → {x : Answer model.Opening} → x ≡ opening_walked v2 b path date
@@ -131,5 +131,5 @@ module _ (b path date : Bytes) (j : Judgement) (judged : findingOf j ≡ judgedA
   pub opening_shape : j ≡ BadShape → refused (refusal 26) ≡ opening v2 b path date
   opening_shape e = stopped BadShape e refl
 
-  pub opening_unsound : (f : Fault) → j ≡ Unsound f → refused (fault_told (faultOf f)) ≡ opening v2 b path date
+  pub opening_unsound : (f : Fault) → j ≡ Unsound f → refused (fault_told (fault_of f)) ≡ opening v2 b path date
   opening_unsound f e = stopped (Unsound f) e refl

@@ -1,6 +1,7 @@
 // Who owns each page of an image that is known to be sound (02 §8, for §13): the visit of the second judge without its questions. All of them would be
 // answered with yes, so each function asks for that yes and sets what the question would have let through.
 // No function changes the image.
+#![tactic(auto)]
 ghost use Rattle.std.specs.Prelude.{◌≡◌, ◌+◌, ◌≤◌, ◌<◌, [], ◌∷◌, length};
 ghost use Rattle.model.specs.Layout.{page_count};
 ghost use Rattle.model.specs.Entry.{entries, entry_at};

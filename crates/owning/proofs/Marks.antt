@@ -19,8 +19,8 @@ use Rattle.view_laws.proofs.Comes.{Made}
 use Rattle.faults.specs.declared.Check.{Check}
 use Rattle.faults.specs.declared.Check.TheVariants.{Clean, Faulty}
 use Rattle.faults.specs.declared.Fault.{Fault}
-use Rattle.faults.specs.Answers.{faultOf, outcome}
-use Rattle.faults.proofs.Answers.{clean_of, fault-of}
+use Rattle.faults.specs.Answers.{fault_of, outcome}
+use Rattle.faults.proofs.Answers.{clean_of, fault_of_lem}
 use Rattle.owning.specs.Marked.{Marked}
 
 -- ---- one page
@@ -51,9 +51,9 @@ module _ {b : Bytes} {d i k p₀ passed p : ℕ} {m₀ m : List ℕ} (at : Chain
 
   -- one turn: the answer for page p is q, and it leaves the marks l
   module _ (q : Check) (l : List ℕ) (page : outcome q l ≡ judge_page (view b) (bad_chain d i passed) p m) where
-    pub chained_faulty : passed < k → {x : Fault} → q ≡ Faulty x → fault (faultOf x) ≡ judge_chain (view b) d i k 0 p₀ m₀
+    pub chained_faulty : passed < k → {x : Fault} → q ≡ Faulty x → fault (fault_of x) ≡ judge_chain (view b) d i k 0 p₀ m₀
     unfolding then_judge
-    chained_faulty more e = sym (chain_next more ∙ rw (← fault-of l page e))
+    chained_faulty more e = sym (chain_next more ∙ rw (← fault_of_lem l page e))
 
     pub chained_here : q ≡ Clean → page_size * p < length b
     chained_here e = let made = page_made b (bad_chain d i passed) p m l at.each (clean_of page e) in let each = at.each in omega arith

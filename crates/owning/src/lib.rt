@@ -1,9 +1,11 @@
 // The pages of an image get their owner (01, "A sound image"; the places of faults: 02 §2): one page, and a file's chain.
 // No function changes the image.
+#![tactic(auto)]
+
 ghost use Rattle.std.specs.Prelude.{◌≡◌};
 ghost use Rattle.model.specs.Version1.{view};
 ghost use Rattle.model.specs.Judge.{judge_page, judge_chain};
-ghost use Rattle.faults.specs.Answers.{faultOf, outcome};
+ghost use Rattle.faults.specs.Answers.{fault_of, outcome};
 ghost use Rattle.owning.specs.Marked.{Marked};
 
 use faults::{Check, Fault};
@@ -12,7 +14,7 @@ use fields::Page;
 // A page gets its owner. `range` is the fault of a page that an entry cannot own, for only the entry knows its place.
 pub fn own_page(image: &[u8], marks: &mut [u8], page: Page, range: Fault) -> Check
     requires { Marked image.now marks.old }
-    ensures { outcome result marks.new ≡ judge_page (view image.now) (faultOf range) page.0 marks.old }
+    ensures { outcome result marks.new ≡ judge_page (view image.now) (fault_of range) page.0 marks.old }
 {
     let p = page.0;
     if p < 1 {

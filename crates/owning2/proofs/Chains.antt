@@ -21,8 +21,8 @@ use Rattle.shape.specs.Geometry.{geometry_of}
 use Rattle.faults.specs.declared.Check.{Check}
 use Rattle.faults.specs.declared.Check.TheVariants.{Clean, Faulty}
 use Rattle.faults.specs.declared.Fault.{Fault}
-use Rattle.faults.specs.Answers.{faultOf, outcome}
-use Rattle.faults.proofs.Answers.{clean_of, fault-of}
+use Rattle.faults.specs.Answers.{fault_of, outcome}
+use Rattle.faults.proofs.Answers.{clean_of, fault_of_lem}
 use Rattle.owning2.specs.Ready.{Ready, follows}
 use Rattle.owning2.proofs.Pages.{then_fault, then_clean, still, next_is, link_lies, page_here}
 
@@ -57,8 +57,8 @@ chained_first {b} {s} {d} {i} {k} {p} {m} r = record {
 module _ {b : Bytes} {s : Shape} {d i k p₀ passed p : ℕ} {m₀ m : List ℕ} (at : Chained b s d i k p₀ m₀ passed p m) where
   -- one turn: the answer for page p is q, and it leaves the marks l
   module _ (q : Check) (l : List ℕ) (page : outcome q l ≡ judge_page (view2 b) (bad_chain d i passed) p m) where
-    pub chained_faulty : passed < k → {x : Fault} → q ≡ Faulty x → fault (faultOf x) ≡ judge_chain (view2 b) d i k 0 p₀ m₀
-    chained_faulty more e = sym (at.comes ∙ chain_turn (view2 b) d i k passed p m more ∙ then_fault _ (fault-of l page e))
+    pub chained_faulty : passed < k → {x : Fault} → q ≡ Faulty x → fault (fault_of x) ≡ judge_chain (view2 b) d i k 0 p₀ m₀
+    chained_faulty more e = sym (at.comes ∙ chain_turn (view2 b) d i k passed p m more ∙ then_fault _ (fault_of_lem l page e))
 
     pub chained_link : q ≡ Clean → Lies ((geometry_of s).link p) b
     chained_link e = link_lies at.ready (page_here at.ready (bad_chain d i passed) p l (clean_of page e))

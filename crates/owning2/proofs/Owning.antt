@@ -25,8 +25,8 @@ use Rattle.cursor2.proofs.Turns.{pages_first, behind_end}
 use Rattle.faults.specs.declared.Check.{Check}
 use Rattle.faults.specs.declared.Check.TheVariants.{Clean, Faulty}
 use Rattle.faults.specs.declared.Fault.{Fault}
-use Rattle.faults.specs.Answers.{faultOf, outcome}
-use Rattle.faults.proofs.Answers.{clean_of, fault-of}
+use Rattle.faults.specs.Answers.{fault_of, outcome}
+use Rattle.faults.proofs.Answers.{clean_of, fault_of_lem}
 use Rattle.owning2.specs.Ready.{Ready, follows}
 use Rattle.owning2.proofs.Pages.{then_fault, then_clean, still, next_is, link_lies, some_page, page_here}
 
@@ -79,10 +79,10 @@ module _ {b : Bytes} {s : Shape} {d e N start : ℕ} {m₀ : List ℕ} where
       more : i < N → judge_pages (view2 b) d e i (linked_pages (follows b) (suc (N - (i + 1))) p) clean m ≡ judge_pages (view2 b) d e 0 (linked_pages (follows b) N start) clean m₀
       more h = let z : suc (N - (i + 1)) ≡ N - i = omega arith in ap (λ (k : ℕ). judge_pages (view2 b) d e i (linked_pages (follows b) k p) clean m) z ∙ o.same
 
-      pub owning_faulty : i < N → {x : Fault} → q ≡ Faulty x → fault (faultOf x) ≡ judge_pages (view2 b) d e 0 (linked_pages (follows b) N start) clean m₀
+      pub owning_faulty : i < N → {x : Fault} → q ≡ Faulty x → fault (fault_of x) ≡ judge_pages (view2 b) d e 0 (linked_pages (follows b) N start) clean m₀
       owning_faulty h f = elim (ℕ_discrete (follows b p) 0) [
-        | yes z ↦ sym (then_fault _ (fault-of l page f)) ∙ sym (pages_end (follows b) (view2 b) d e i m (N - (i + 1)) p z) ∙ more h
-        | no z ↦ sym (then_fault _ (fault-of l page f)) ∙ sym (pages_on (follows b) (view2 b) d e i m (N - (i + 1)) p z) ∙ more h
+        | yes z ↦ sym (then_fault _ (fault_of_lem l page f)) ∙ sym (pages_end (follows b) (view2 b) d e i m (N - (i + 1)) p z) ∙ more h
+        | no z ↦ sym (then_fault _ (fault_of_lem l page f)) ∙ sym (pages_on (follows b) (view2 b) d e i m (N - (i + 1)) p z) ∙ more h
       ]
 
       pub owning_link : q ≡ Clean → Lies ((geometry_of s).link p) b

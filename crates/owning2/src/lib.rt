@@ -1,10 +1,12 @@
 // The pages of a version 2 image get their owner (paper 02 §2 and §12): one page, a file's chain, a directory's pages, and the root's after page 0.
 // No function changes the image. Faults are those of `faults`, told by the page that an entry stands on and its number there.
+#![tactic(auto)]
+
 ghost use Rattle.std.specs.Prelude.{◌≡◌};
 ghost use mathlib.Core.List.{tail};
 ghost use Rattle.model.specs.Judge.{clean, judge_page, judge_chain, judge_pages};
 ghost use Rattle.model2.specs.Version2.{linked_pages, view2};
-ghost use Rattle.faults.specs.Answers.{faultOf, outcome};
+ghost use Rattle.faults.specs.Answers.{fault_of, outcome};
 ghost use Rattle.owning2.specs.Ready.{Ready, follows};
 
 use faults::{Check, Fault};
@@ -14,7 +16,7 @@ use shape::Shape;
 // A page gets its owner. `range` is the fault of a page that an entry cannot own, for only the entry knows its place.
 fn own_page(image: &[u8], shape: Shape, marks: &mut [u8], page: Page, range: Fault) -> Check
     requires { Ready image.now shape marks.old }
-    ensures { outcome result marks.new ≡ judge_page (view2 image.now) (faultOf range) page.0 marks.old }
+    ensures { outcome result marks.new ≡ judge_page (view2 image.now) (fault_of range) page.0 marks.old }
 {
     let p = page.0;
     if p < shape.aside {

@@ -1,4 +1,6 @@
 // One page of an image of version 1, zeroed and filled: the functions of `shape_pages` at the shape of version 1, with contracts in the model's words.
+#![tactic(auto)]
+
 ghost use Rattle.std.specs.Prelude.{◌≡◌, ◌+◌, ◌<◌, ◌≤◌, length};
 ghost use Rattle.volume.specs.Bytes.{put, zeros};
 ghost use Rattle.volume.specs.Geometry as On;

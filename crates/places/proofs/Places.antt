@@ -18,8 +18,8 @@ use Rattle.model.specs.Refusal.{settle}
 use Rattle.model.specs.Meaning.{fault_told, first_fault, image_lines}
 use Rattle.model.specs.Judge.{Judged, fault, clean, judge, is_clean}
 use Rattle.judge.specs.Answers as found
-use Rattle.faults.specs.Answers.{faultOf}
-use Rattle.judge.specs.Answers.{Finding, findingOf, judgedAs, concluded}
+use Rattle.faults.specs.Answers.{fault_of}
+use Rattle.judge.specs.Answers.{Finding, finding_of, judged_as, concluded}
 use Rattle.faults.specs.declared.Fault.{Fault}
 use Rattle.judge.specs.declared.Judgement.{Judgement}
 use Rattle.judge.specs.declared.Judgement.TheVariants.{Sound, BadLength, BadHeader, Unsound}
@@ -132,14 +132,14 @@ module _ (path : Bytes) (r : Bool) (asked : r ≡ not (is_no_path (path_of path)
 
 -- f of the finding's number, or x on a sound image
 abbrev pub judged_to : {A : Type 0} → (Model → A) → A → Finding → A
-judged_to f x found.badLength = f (refusal 1)
-judged_to f x found.badHeader = f (refusal 2)
+judged_to f x found.bad_length = f (refusal 1)
+judged_to f x found.bad_header = f (refusal 2)
 judged_to f x (found.unsound y) = f (fault_told y)
 judged_to f x (found.is_sound pages free) = x
 
 module _ (b : Bytes) where
-  pub image_lines_lem : {A : Type 0} (f : Model → A) (x : A) → judged_to f x (judgedAs b) ≡ settle (image_lines b) f x
-  unfolding judgedAs concluded is_clean settle
+  pub image_lines_lem : {A : Type 0} (f : Model → A) (x : A) → judged_to f x (judged_as b) ≡ settle (image_lines b) f x
+  unfolding judged_as concluded is_clean settle
   image_lines_lem {A} f x = by_length (valid_length (length b)) refl
     where
       judged : (j : Judged) (s : Bool) → is_clean j ≡ s → judged_to f x (concluded b j) ≡ (if not s then f (first_fault j) else x)
@@ -147,19 +147,19 @@ module _ (b : Bytes) where
       judged (clean marks) s e = rw (sym e)
 
       by_header : (h : Bool) → valid_header b ≡ h → valid_length (length b) ≡ true
-          → judged_to f x (if h then concluded b (judge b) else found.badHeader) ≡ (if not h then f (refusal 2) else if not (sound b) then f (first_fault (judge b)) else x)
+          → judged_to f x (if h then concluded b (judge b) else found.bad_header) ≡ (if not h then f (refusal 2) else if not (sound b) then f (first_fault (judge b)) else x)
       by_header false h v = refl
       by_header true h v = judged (judge b) (sound b) (judge_sound b (subst T (sym v) tt) (subst T (sym h) tt))
 
       by_length : (v : Bool) → valid_length (length b) ≡ v
-          → judged_to f x (if v then (if valid_header b then concluded b (judge b) else found.badHeader) else found.badLength)
+          → judged_to f x (if v then (if valid_header b then concluded b (judge b) else found.bad_header) else found.bad_length)
           ≡ (if not v then f (refusal 1) else if not (valid_header b) then f (refusal 2) else if not (sound b) then f (first_fault (judge b)) else x)
       by_length false v = refl
       by_length true v = by_header (valid_header b) refl v
 
   -- the judge says j
-  module _ (path : Bytes) (j : Judgement) (judged : findingOf j ≡ judgedAs b) where
-    placed_judged : (x : Judgement) → j ≡ x → judged_to refused (place_walked b path) (findingOf x) ≡ placed b path
+  module _ (path : Bytes) (j : Judgement) (judged : finding_of j ≡ judged_as b) where
+    placed_judged : (x : Judgement) → j ≡ x → judged_to refused (place_walked b path) (finding_of x) ≡ placed b path
     unfolding Of.placed Of.place_walked settle
     placed_judged x e = ap (judged_to refused (place_walked b path)) (rw e at judged) ∙ image_lines_lem refused (place_walked b path)
 
@@ -172,11 +172,11 @@ module _ (b : Bytes) where
     pub placed_header : j ≡ BadHeader → refused (refusal 2) ≡ placed b path
     placed_header = placed_judged BadHeader
 
-    pub placed_unsound : (f : Fault) → j ≡ Unsound f → refused (fault_told (faultOf f)) ≡ placed b path
+    pub placed_unsound : (f : Fault) → j ≡ Unsound f → refused (fault_told (fault_of f)) ≡ placed b path
     placed_unsound f = placed_judged (Unsound f)
 
   -- an image that is judged sound is so
-  pub judged_sound : {j : Judgement} → findingOf j ≡ judgedAs b → {pages free : ℕ} → j ≡ Sound pages free → T (sound b)
+  pub judged_sound : {j : Judgement} → finding_of j ≡ judged_as b → {pages free : ℕ} → j ≡ Sound pages free → T (sound b)
   unfolding settle
   judged_sound judged is = let e = rw is at judged in go (valid_length (length b)) (valid_header b) (sound b) (ap (judged_to (λ m. false) true) e ∙ image_lines_lem (λ m. false) true)
     where
@@ -186,5 +186,5 @@ module _ (b : Bytes) where
       go true false s k = let bad : ◌≡◌ {A = Bool} true false = k in absurd (true≢false bad)
       go false h s k = let bad : ◌≡◌ {A = Bool} true false = k in absurd (true≢false bad)
 
-  pub judged_whole : {j : Judgement} → findingOf j ≡ judgedAs b → {pages free : ℕ} → j ≡ Sound pages free → page_size * page_count b ≡ length b
+  pub judged_whole : {j : Judgement} → finding_of j ≡ judged_as b → {pages free : ℕ} → j ≡ Sound pages free → page_size * page_count b ≡ length b
   judged_whole judged e = omega (arith, (valid_sized b (sound_facts_lem (judged_sound judged e)).fits).whole)

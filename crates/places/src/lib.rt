@@ -1,5 +1,6 @@
 // Where a path leads on an image: what a call does first that takes the path of something that is there.
 // The image is judged, then the path, and then it is walked; whatever the bytes, the answer is a place of the tree or the first refusal.
+#![tactic(auto)]
 ghost use Rattle.std.specs.Prelude.{◌≡◌, ◌*◌, ◌-◌, ◌<◌, ◌≤◌, length};
 ghost use Rattle.model.specs.Layout.{page_size, page_count};
 ghost use Rattle.walk.specs.Steps.{name_in};
@@ -12,7 +13,7 @@ use refusals::Refusal;
 use walk::{Parent, Spot};
 
 // A file or a directory by its entry: the entry's position, the byte of the path at which its name begins, and what the entry says.
-#[derive(Drop)]
+#[derive(Clone, Copy)]
 pub struct Target {
     pub entry: usize,
     pub begins: usize,
@@ -21,14 +22,14 @@ pub struct Target {
 }
 
 // The root has no entry.
-#[derive(Drop)]
+#[derive(Clone, Copy)]
 pub enum Place {
     Root,
     File(Target),
     Directory(Target),
 }
 
-#[derive(Drop)]
+#[derive(Clone, Copy)]
 pub enum Arrival {
     At(Place),
     Stopped(Refusal),

@@ -1,5 +1,6 @@
 // Where a path leads on an image of version 2 (paper 02 §12): what a call does first that takes the path of something that is there.
 // The image is judged, then the path, and then it is walked; whatever the bytes, the answer is a place of the tree, with the image's shape, or the first refusal.
+#![tactic(auto)]
 ghost use Rattle.std.specs.Prelude.{◌≡◌, ◌-◌, ◌≤◌, length};
 ghost use Rattle.model2.specs.Version2.{view2};
 ghost use Rattle.model2.specs.Calls.{v2};
@@ -18,7 +19,7 @@ use shape2::Cartridge;
 use walk2::Parent;
 
 // A file or a directory by its entry: the entry's position, the byte of the path at which its name begins, and what the entry says.
-#[derive(Drop)]
+#[derive(Clone, Copy)]
 pub struct Target {
     pub entry: usize,
     pub begins: usize,
@@ -27,7 +28,7 @@ pub struct Target {
 }
 
 // The root has no entry.
-#[derive(Drop)]
+#[derive(Clone, Copy)]
 pub enum Place {
     Root,
     File(Target),
@@ -35,7 +36,7 @@ pub enum Place {
 }
 
 // A call that arrives goes on with the image's shape and its number of pages, which the judge has read.
-#[derive(Drop)]
+#[derive(Clone, Copy)]
 pub enum Arrival {
     At(Cartridge, Place),
     Stopped(Refusal),

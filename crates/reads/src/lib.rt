@@ -1,9 +1,10 @@
 // Read. It has no `requires`: whatever the bytes, it answers what the model's `answer` says, and leaves its buffer as `bufferAfter` says. The image is
 // lent for reading.
+#![tactic(auto)]
 ghost use Rattle.std.specs.Prelude.{◌≡◌};
 ghost use Rattle.model.specs.Call.{read};
 ghost use Rattle.model.specs.Meaning.{answer, buffer_after};
-ghost use Rattle.answers.specs.Answers.{readAnswer};
+ghost use Rattle.answers.specs.Answers.{read_answer};
 
 use answers::ReadAnswer;
 use fields::Position;
@@ -12,7 +13,7 @@ use refusals::Refusal;
 
 // Copies a file's bytes from a position on to the front of the buffer, as many as there are and as it has room for.
 pub fn read(image: &[u8], path: &[u8], position: Position, buffer: &mut [u8]) -> ReadAnswer
-    ensures result_value { readAnswer result ≡ answer (read path.now position.0 buffer.old) image.now }
+    ensures result_value { read_answer result ≡ answer (read path.now position.0 buffer.old) image.now }
     ensures buffer_after { buffer.new ≡ buffer_after (read path.now position.0 buffer.old) image.now }
 {
     let arrival = places::arrive(image, path);

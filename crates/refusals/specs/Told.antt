@@ -1,14 +1,14 @@
 -- The paper's number and place of each case of the enum `Refusal`.
 use Rattle.model.specs.Call.{Refusal as Model, refusal, refusal_at}
 use Rattle.model.specs.Meaning.{fault_told}
-use Rattle.faults.specs.Answers.{faultOf}
+use Rattle.faults.specs.Answers.{fault_of}
 use Rattle.refusals.specs.declared.Refusal.{Refusal}
 use Rattle.refusals.specs.declared.Refusal.TheVariants.{BadLength, BadHeader, Unsound, NoPath, BadDate, IsRoot, NoSuchName, NotADirectory, NameTaken, IsADirectory, Locked, PastEnd, DirectoryFull, NoFreePages, NotEmpty, NotAPage}
 
 abbrev pub told : Refusal → Model
 told BadLength = refusal 1
 told BadHeader = refusal 2
-told (Unsound fault) = fault_told (faultOf fault)
+told (Unsound fault) = fault_told (fault_of fault)
 told NoPath = refusal 4
 told BadDate = refusal 11
 told IsRoot = refusal 14

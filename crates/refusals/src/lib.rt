@@ -1,14 +1,16 @@
 // Why a call says no: one case for each number of the paper's table that a call can give, with its place where it has one;
 // the faults of an image are the judge's own cases.
 // The code says the case, the contracts say its number and place, by `told` in specs/; nothing else decides a number.
+#![tactic(auto)]
+
 ghost use Rattle.std.specs.Prelude.{◌≡◌};
 ghost use Rattle.model.specs.Meaning.{fault_told};
-ghost use Rattle.faults.specs.Answers.{faultOf};
+ghost use Rattle.faults.specs.Answers.{fault_of};
 ghost use Rattle.refusals.specs.Told.{told};
 
 use faults::Fault;
 
-#[derive(Drop)]
+#[derive(Clone, Copy)]
 pub enum Refusal {
     // 1: the image's length is not one of the allowed.
     BadLength,
@@ -46,7 +48,7 @@ pub enum Refusal {
 
 // The paper's number of a fault, in either version. 20 is told before 19.
 pub fn fault_number(fault: Fault) -> u8
-    ensures { result ≡ (fault_told (faultOf fault)).number }
+    ensures { result ≡ (fault_told (fault_of fault)).number }
 {
     match fault {
         Fault::BadEntry(_, _) => 16,

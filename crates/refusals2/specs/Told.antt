@@ -1,7 +1,7 @@
 -- The paper's number and place of each case of version 2's enum `Refusal`.
 use Rattle.model.specs.Call.{Refusal as Model, refusal, refusal_at}
 use Rattle.model.specs.Meaning.{fault_told}
-use Rattle.faults.specs.Answers.{faultOf}
+use Rattle.faults.specs.Answers.{fault_of}
 use Rattle.refusals2.specs.declared.Refusal.{Refusal}
 use Rattle.refusals2.specs.declared.Refusal.TheVariants.{BadLength, BadVersion, BadShape, Unsound, NoPath, BadDate, IsRoot, NoSuchName, NotADirectory, NameTaken, IsADirectory, Locked, PastEnd, NoFreePages, NotEmpty}
 
@@ -9,7 +9,7 @@ abbrev pub told : Refusal → Model
 told BadLength = refusal 1
 told BadVersion = refusal 2
 told BadShape = refusal 26
-told (Unsound fault) = fault_told (faultOf fault)
+told (Unsound fault) = fault_told (fault_of fault)
 told NoPath = refusal 4
 told BadDate = refusal 11
 told IsRoot = refusal 14

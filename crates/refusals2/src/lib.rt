@@ -1,12 +1,14 @@
 // Why a call on a cartridge of version 2 says no: one case for each number of the paper's table that version 2 can give (paper 02 §12), with its place where
 // it has one; the faults of an image are the judge's own cases. 9 and 29 are not among them: a directory grows, and there are no stores.
 // The code says the case, the contracts say its number and place, by `told` in specs/; nothing else decides a number.
+#![tactic(auto)]
+
 ghost use Rattle.std.specs.Prelude.{◌≡◌};
 ghost use Rattle.refusals2.specs.Told.{told};
 
 use faults::Fault;
 
-#[derive(Drop)]
+#[derive(Clone, Copy)]
 pub enum Refusal {
     // 1: the image's length is not one of the allowed.
     BadLength,

@@ -1,9 +1,10 @@
 // The calls that remove. None has a `requires`: whatever the bytes, a call answers what the model's `answer` says, and leaves the image as `after` says.
 // A refused call changes no byte.
+#![tactic(auto)]
 ghost use Rattle.std.specs.Prelude.{◌≡◌};
 ghost use Rattle.model.specs.Call.{remove_file, remove_directory};
 ghost use Rattle.model.specs.Meaning.{answer, after};
-ghost use Rattle.answers.specs.Answers.{changeAnswer};
+ghost use Rattle.answers.specs.Answers.{change_answer};
 
 use answers::ChangeAnswer;
 use places::{Arrival, Place};
@@ -11,7 +12,7 @@ use refusals::Refusal;
 
 // Removes a file that is not locked. Its pages are free from then on, and keep their bytes.
 pub fn remove_file(image: &mut [u8], path: &[u8]) -> ChangeAnswer
-    ensures result_value { changeAnswer result ≡ answer (remove_file path.now) image.old }
+    ensures result_value { change_answer result ≡ answer (remove_file path.now) image.old }
     ensures image_after { image.new ≡ after (remove_file path.now) image.old }
 {
     let arrival = places::arrive(image, path);
@@ -34,7 +35,7 @@ pub fn remove_file(image: &mut [u8], path: &[u8]) -> ChangeAnswer
 
 // Removes a directory that holds nothing. Its page is free from then on, and keeps its bytes.
 pub fn remove_directory(image: &mut [u8], path: &[u8]) -> ChangeAnswer
-    ensures result_value { changeAnswer result ≡ answer (remove_directory path.now) image.old }
+    ensures result_value { change_answer result ≡ answer (remove_directory path.now) image.old }
     ensures image_after { image.new ≡ after (remove_directory path.now) image.old }
 {
     let arrival = places::arrive(image, path);

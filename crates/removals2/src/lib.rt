@@ -1,10 +1,11 @@
 // The calls that remove on a cartridge of version 2 (paper 02 §12). Neither has a `requires`: whatever the bytes, a call answers what the model's `answer v2`
 // says, and leaves the image as `after v2` says. A refused call changes no byte.
+#![tactic(auto)]
 ghost use Rattle.std.specs.Prelude.{◌≡◌};
 ghost use Rattle.model.specs.Call.{remove_file, remove_directory};
 ghost use Rattle.model.specs.MeaningOf.{answer, after};
 ghost use Rattle.model2.specs.Calls.{v2};
-ghost use Rattle.answers2.specs.Answers.{changeAnswer};
+ghost use Rattle.answers2.specs.Answers.{change_answer};
 
 use answers2::ChangeAnswer;
 use places2::{Arrival, Place};
@@ -12,7 +13,7 @@ use refusals2::Refusal;
 
 // Removes a file that is not locked. Its pages are free from then on, and keep their bytes and their links.
 pub fn remove_file(image: &mut [u8], path: &[u8]) -> ChangeAnswer
-    ensures result_value { changeAnswer result ≡ answer v2 (remove_file path.now) image.old }
+    ensures result_value { change_answer result ≡ answer v2 (remove_file path.now) image.old }
     ensures image_after { image.new ≡ after v2 (remove_file path.now) image.old }
 {
     let arrival = places2::arrive(image, path);
@@ -36,7 +37,7 @@ pub fn remove_file(image: &mut [u8], path: &[u8]) -> ChangeAnswer
 
 // Removes a directory that holds nothing, with all its pages, which are free from then on, and keep their bytes and their links.
 pub fn remove_directory(image: &mut [u8], path: &[u8]) -> ChangeAnswer
-    ensures result_value { changeAnswer result ≡ answer v2 (remove_directory path.now) image.old }
+    ensures result_value { change_answer result ≡ answer v2 (remove_directory path.now) image.old }
     ensures image_after { image.new ≡ after v2 (remove_directory path.now) image.old }
 {
     let arrival = places2::arrive(image, path);

@@ -1,5 +1,6 @@
 // Lost pages won back (02 §7): the judge's walk, and the bits and the count set anew by its owner marks. The one public call has no `requires`:
 // whatever the bytes, it answers what `repairAnswer` says and leaves the image as `repairAfter` says.
+#![tactic(auto)]
 ghost use Rattle.std.specs.Prelude.{◌≡◌, ◌<◌, ◌≤◌, true, length, replicate};
 ghost use Rattle.volume.specs.Bytes.{if◌then◌else◌};
 ghost use Rattle.volume.specs.Geometry as On;
@@ -8,7 +9,7 @@ ghost use Rattle.owning.specs.Marked.{Marked};
 ghost use Rattle.repair.specs.Remark.{remarked, recounted};
 ghost use Rattle.repair.specs.Repair.{repair_answer, repair_after};
 ghost use Rattle.repair.specs.Taken.{is_taken, Shown, Right};
-ghost use Rattle.answers.specs.Answers.{changeAnswer};
+ghost use Rattle.answers.specs.Answers.{change_answer};
 
 use faults::Check;
 use fields::Page;
@@ -77,7 +78,7 @@ fn remark(image: &mut [u8], marks: &[u8])
 // On an image of right length and header, with a mark of 0 for each page.
 fn mend(image: &mut [u8], marks: &mut [u8]) -> ChangeAnswer
     requires { (valid_length (length image.old) ≡ true) × (valid_header image.old ≡ true) × Marked image.old marks.old × (marks.old ≡ replicate (page_count image.old) 0) }
-    ensures result_value { changeAnswer result ≡ repair_answer image.old }
+    ensures result_value { change_answer result ≡ repair_answer image.old }
     ensures image_after { image.new ≡ repair_after image.old }
 {
     let walked = judge::own_pages(image, marks);
@@ -90,7 +91,7 @@ fn mend(image: &mut [u8], marks: &mut [u8]) -> ChangeAnswer
 
 // Sets the bits of the first N to exactly the header and the owned pages and corrects the count, if the walk is clean.
 pub fn repair(image: &mut [u8]) -> ChangeAnswer
-    ensures result_value { changeAnswer result ≡ repair_answer image.old }
+    ensures result_value { change_answer result ≡ repair_answer image.old }
     ensures image_after { image.new ≡ repair_after image.old }
 {
     if !fields::length_is_allowed(image.len()) {

@@ -15,7 +15,7 @@ use Rattle.model.specs.Judge.{bad_count, fault, clean, lost_or, judge_rest}
 use Rattle.faults.specs.declared.Check.{Check}
 use Rattle.faults.specs.declared.Check.TheVariants.{Clean, Faulty}
 use Rattle.faults.specs.declared.Fault.{Fault}
-use Rattle.faults.specs.Answers.{faultOf, outcome}
+use Rattle.faults.specs.Answers.{fault_of, outcome}
 use Rattle.owning.specs.Marked.{Marked}
 use Rattle.lost.proofs.Lost.{lost_from}
 use Rattle.lost.proofs.Decides.{lost_decides, none_lost_decides}
@@ -24,7 +24,7 @@ module _ (b : Bytes) (m : List ℕ) (marked : Marked b m) (q : Check) (lost : ou
   searched : outcome q m ≡ lost_or (clean m) (lost_from version1 b m (page_count b) 1)
   searched = lost ∙ ap (λ (n : ℕ). lost_or (clean m) (lost_from version1 b m n 1)) marked.each
 
-  pub rest_faulty : (x : Fault) → q ≡ Faulty x → fault (faultOf x) ≡ judge_rest (view b) m
+  pub rest_faulty : (x : Fault) → q ≡ Faulty x → fault (fault_of x) ≡ judge_rest (view b) m
   rest_faulty x e = lost_decides (view b) m q searched x e
 
   module _ (e : q ≡ Clean) (set : ℕ) (bit : set ≡ One.page_bit b 0) where

@@ -1,5 +1,7 @@
 // What the judge asks after a clean walk (01, "A sound image"; 02 §2): the lowest lost page, then bit 0, then the count.
 // The function changes neither the image nor the marks.
+#![tactic(auto)]
+
 ghost use Rattle.std.specs.Prelude.{◌≡◌};
 ghost use Rattle.model.specs.Version1.{view};
 ghost use Rattle.model.specs.Judge.{judge_rest};

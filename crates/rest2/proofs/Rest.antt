@@ -27,7 +27,7 @@ use Rattle.fields.proofs.Plain.{told, untold}
 use Rattle.faults.specs.declared.Check.{Check}
 use Rattle.faults.specs.declared.Check.TheVariants.{Clean, Faulty}
 use Rattle.faults.specs.declared.Fault.{Fault}
-use Rattle.faults.specs.Answers.{faultOf, outcome}
+use Rattle.faults.specs.Answers.{fault_of, outcome}
 use Rattle.lost.specs.Searched.{Searched}
 use Rattle.lost.proofs.Lost.{lost_from}
 use Rattle.lost.proofs.Decides.{lost_decides, none_lost_decides}
@@ -79,7 +79,7 @@ module _ {b : Bytes} {s : Shape} {m : List ℕ} (r : Ready b s m) where
     sought : outcome q m ≡ lost_or (clean m) (lost_from (view2 b).geometry b m (view2 b).pages (view2 b).geometry.aside)
     sought = lost ∙ ap₂ (λ (g : Geometry) (n : ℕ). lost_or (clean m) (lost_from g b m n g.aside)) r.made r.each
 
-    pub rest_faulty : (x : Fault) → q ≡ Faulty x → fault (faultOf x) ≡ judge_rest (view2 b) m
+    pub rest_faulty : (x : Fault) → q ≡ Faulty x → fault (fault_of x) ≡ judge_rest (view2 b) m
     rest_faulty x e = lost_decides (view2 b) m q sought x e
 
     module _ (e : q ≡ Clean) (marked : Bool) (asked : marked ≡ marked_below (view2 b) s.aside) where

@@ -1,5 +1,7 @@
 // What the judge of version 2 asks after a clean walk (paper 02 §2 and §12): the lowest lost page, then the bits of the pages set aside, then the count.
 // No function changes the image or the marks. Faults are those of `faults`, and lost pages are looked for by `lost`.
+#![tactic(auto)]
+
 ghost use Rattle.std.specs.Prelude.{◌≡◌, ◌+◌, ◌≤◌, length};
 ghost use Rattle.model.specs.Sound.{marked_below};
 ghost use Rattle.model.specs.Judge.{judge_rest};

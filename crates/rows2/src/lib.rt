@@ -1,4 +1,6 @@
 // The entries of one page of a directory of version 2 (paper 02 §12): how many there are, and where they begin.
+#![tactic(auto)]
+
 ghost use Rattle.std.specs.Prelude.{◌≡◌, ◌+◌, ◌*◌, ◌<◌, ◌≤◌, ◌^◌};
 ghost use Rattle.volume.specs.Geometry as On;
 ghost use Rattle.model2.specs.Layout.{root_start};

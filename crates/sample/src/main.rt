@@ -1,5 +1,6 @@
 // Makes the sample image by the library's own calls and writes it to standard output: paper 01's example of a listing,
 // /0042 of 256 bytes, the directory /A, and /A/7 of 0 bytes, on 2,048 bytes.
+#![tactic(auto)]
 use fields::Position;
 use libc::STDOUT_FILENO;
 

@@ -1,5 +1,7 @@
 // The shape of a cartridge at run time: the code's copy of a geometry of `volume`, and the numbers that stand where it says.
 // Every function answers what `volume` defines at the shape's geometry, and asks only that what it reads or writes lies in the image.
+#![tactic(auto)]
+
 ghost use Rattle.std.specs.Prelude.{◌≡◌, ◌+◌, ◌*◌, ◌^◌, ◌<◌, ◌≤◌};
 ghost use Rattle.volume.specs.Field as Field;
 ghost use Rattle.volume.specs.Geometry as On;
@@ -11,14 +13,14 @@ ghost use Rattle.shape.specs.Geometry.{field_of, geometry_of};
 use fields::Page;
 
 // Where a number stands: in one byte, or in two with the low one first.
-#[derive(Drop)]
+#[derive(Clone, Copy)]
 pub enum Cell {
     Byte(usize),
     Pair(usize),
 }
 
 // Where the links stand: each in the first byte of its page, or all in a table from a position on, one byte or two for each page.
-#[derive(Drop)]
+#[derive(Clone, Copy)]
 pub enum Links {
     OnPage,
     Bytes(usize),
@@ -26,7 +28,7 @@ pub enum Links {
 }
 
 // The pages below `aside` are set aside. A page has `size` bytes, of which the last `room` hold a file's content; `map` is where the bitmap begins.
-#[derive(Drop)]
+#[derive(Clone, Copy)]
 pub struct Shape {
     pub aside: usize,
     pub size: usize,

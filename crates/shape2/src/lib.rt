@@ -1,5 +1,7 @@
 // The shape of an image of version 2 (paper 02 §12), made from its length and page code, when both were judged (26).
 // It is the definitions' geometry at run time, so what `shape_bitmap`, `shape_pages` and `shape_chains` do by it is what `volume` says at that geometry.
+#![tactic(auto)]
+
 ghost use Rattle.std.specs.Prelude.{◌≡◌, ◌≤◌};
 ghost use Rattle.model2.specs.Layout as Layout;
 ghost use Rattle.shape.specs.Geometry.{geometry_of};
@@ -7,7 +9,7 @@ ghost use Rattle.shape.specs.Geometry.{geometry_of};
 use shape::{Cell, Links, Shape};
 
 // A shape, and N: the number of pages is no part of a shape.
-#[derive(Drop)]
+#[derive(Clone, Copy)]
 pub struct Cartridge {
     pub shape: Shape,
     pub pages: usize,

@@ -1,5 +1,7 @@
 // The bitmap of an image of any shape: how many pages are free, by words of 64 bits, and which free one is the lowest, by bytes.
 // Every function is total where the bitmap lies in the image, and none changes a byte.
+#![tactic(auto)]
+
 ghost use Rattle.std.specs.Prelude.{◌≡◌, ◌+◌, ◌≤◌, length};
 ghost use Rattle.volume.specs.Geometry as On;
 ghost use Rattle.volume.proofs.Growing.{WordsLie};
@@ -11,7 +13,7 @@ use fields::Page;
 use shape::Shape;
 
 // The lowest free page, if there is one.
-#[derive(Drop)]
+#[derive(Clone, Copy)]
 pub enum Free {
     At(Page),
     None,

@@ -1,5 +1,7 @@
 // The bit of a page in the bitmap of an image of any shape: read, set and cleared.
 // Every function is total where the bitmap lies in the image; `mark` and `unmark` change one byte each.
+#![tactic(auto)]
+
 ghost use Rattle.std.specs.Prelude.{◌≡◌, ◌<◌, length};
 ghost use Rattle.volume.specs.Geometry as On;
 ghost use Rattle.shape.specs.Geometry.{geometry_of};

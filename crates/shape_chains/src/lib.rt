@@ -1,5 +1,7 @@
 // Chains of pages in an image of any shape: found, read and written.
 // Each goes from page to page by the links and does the work of one page by a function of its own; what it asks is said by the laws' own records.
+#![tactic(auto)]
+
 ghost use Rattle.std.specs.Prelude.{◌≡◌, ◌+◌, ◌-◌, ◌<◌, ◌≤◌, ◌^◌, min, length, take, drop};
 ghost use mathlib.Core.List.{flat_map};
 ghost use Rattle.volume.specs.Bytes.{put};

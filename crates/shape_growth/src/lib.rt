@@ -1,5 +1,7 @@
 // Chains of pages in an image of any shape: grown and given back.
 // A page that is added is the lowest free one; what each function asks is said by the laws' own records.
+#![tactic(auto)]
+
 ghost use Rattle.std.specs.Prelude.{◌≡◌, ◌-◌, take};
 ghost use mathlib.Core.List.{foldl};
 ghost use Rattle.volume.specs.Chain.{chain};

@@ -1,5 +1,7 @@
 // One page of an image of any shape: zeroed, filled, taken and given back.
 // A page to be written is lent on as its own part of the image, so of the bytes of other pages only those of count, bitmap and link change.
+#![tactic(auto)]
+
 ghost use Rattle.std.specs.Prelude.{◌≡◌, ◌+◌, ◌<◌, ◌≤◌, length, take};
 ghost use Rattle.volume.specs.Bytes.{put, zeros};
 ghost use Rattle.volume.specs.Geometry as On;

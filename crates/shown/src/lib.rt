@@ -1,5 +1,6 @@
 // The calls of `zealfs` as lines of text, for programs that make them and print what came: the call with its arguments, ` => `, and its
 // answer with all its values. Nothing is decided here.
+#![tactic(auto)]
 ghost use Rattle.std.specs.Prelude.{◌≡◌, ◌≤◌, length};
 
 use faults::Fault;

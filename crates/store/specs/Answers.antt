@@ -5,6 +5,6 @@ use Rattle.refusals.specs.Told.{told}
 use Rattle.store.specs.declared.StoreAnswer.{StoreAnswer}
 use Rattle.store.specs.declared.StoreAnswer.TheVariants.{At, Refused}
 
-abbrev pub storeAnswer : StoreAnswer → Answer ℕ
-storeAnswer (At page) = granted page.0
-storeAnswer (Refused r) = refused (told r)
+abbrev pub store_answer : StoreAnswer → Answer ℕ
+store_answer (At page) = granted page.0
+store_answer (Refused r) = refused (told r)

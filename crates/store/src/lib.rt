@@ -1,6 +1,7 @@
 // A file made with its content at once, by whole pages that the board stores one after the other (02 §11). Nothing here changes an image: a store is
 // asked for by its number, its page's number is the answer, and its bytes go into a lent buffer. Until they do, the buffer itself serves as a copy of
 // the header page, on which the pages are found. The one public call has no `requires`.
+#![tactic(auto)]
 ghost use Rattle.std.specs.Prelude.{◌≡◌, ◌+◌, ◌-◌, ◌*◌, ◌/◌, ◌<◌, ◌≤◌, length, ltb};
 ghost use Rattle.volume.specs.Bytes.{byte_at, part, put, if◌then◌else◌};
 ghost use Rattle.volume.specs.Geometry as On;
@@ -8,7 +9,7 @@ ghost use Rattle.model.specs.Layout.{version1, page_size, room, page_count, page
 ghost use Rattle.model.specs.Call.{store};
 ghost use Rattle.model.specs.Meaning.{answer, buffer_after};
 ghost use Rattle.store_laws.specs.Claim.{claim, claimed, page_after, link_after, content_page, started_entry};
-ghost use Rattle.store.specs.Answers.{storeAnswer};
+ghost use Rattle.store.specs.Answers.{store_answer};
 ghost use Rattle.store.specs.Asked.{Storing};
 
 use bitmap::Free;
@@ -17,7 +18,7 @@ use openings::Opening;
 use refusals::Refusal;
 
 // The page of the store, or why there is none.
-#[derive(Drop)]
+#[derive(Clone, Copy)]
 pub enum StoreAnswer {
     At(Page),
     Refused(Refusal),
@@ -177,7 +178,7 @@ pub fn store(
     number: usize,
     page: &mut [u8],
 ) -> StoreAnswer
-    ensures result_value { storeAnswer result ≡ answer (store path.now date.now content.now number page.old) image.now }
+    ensures result_value { store_answer result ≡ answer (store path.now date.now content.now number page.old) image.now }
     ensures page_after { page.new ≡ buffer_after (store path.now date.now content.now number page.old) image.now }
 {
     if page.len() != 256 {

@@ -42,9 +42,9 @@ ordered =
     ∷ shown [] [] (λ b. numbers (write [] 0 [])) (1 ∷ 2 ∷ 16 ∷ 17 ∷ 18 ∷ 20 ∷ 19 ∷ 3 ∷ 4 ∷ 5 ∷ 6 ∷ 7 ∷ 25 ∷ 12 ∷ 10 ∷ [])
     ∷ []
 
-pub ordered-hold : Hold ordered
+pub ordered_hold : Hold ordered
 unfolding computing computed stated ordered RefusalOf.table_order RefusalOf.own_numbers MeaningOf.numbers
-ordered-hold = hold ordered refl
+ordered_hold = hold ordered refl
 
 -- ---- lengths, and what every call judges first
 
@@ -73,8 +73,8 @@ unfolding computing computed stated formats desk
 formats_hold = hold formats refl
 
 -- every call but format is refused so, though its path, position and date are bad
-everyCall : Refusal → List Step
-everyCall r =
+every_call : Refusal → List Step
+every_call r =
     verdict gives refused r
     ∷ find (text "x") gives refused r
     ∷ list (text "x") 9 gives refused r
@@ -89,17 +89,17 @@ everyCall r =
     ∷ store (text "x") [] [] 9 (replicate 256 7) gives refused r
     ∷ []
 
-pub judgedFirst : List Case
-unfolding everyCall
-judgedFirst =
+pub judged_first : List Case
+unfolding every_call
+judged_first =
     -- a byte too many behind a sound image, and bytes that are wrong in all ways
-    shown (fresh ++ 0 ∷ []) (everyCall (numbered 1 0 0 0)) whole (fresh ++ 0 ∷ [])
-    ∷ answered (replicate 2049 0xE5) (everyCall (numbered 1 0 0 0))
+    shown (fresh ++ 0 ∷ []) (every_call (numbered 1 0 0 0)) whole (fresh ++ 0 ∷ [])
+    ∷ answered (replicate 2049 0xE5) (every_call (numbered 1 0 0 0))
     -- byte 0, 1 or 2 wrong, also where the image is not sound
-    ∷ shown (set fresh 0 0x5B) (everyCall (numbered 2 0 0 0)) whole (set fresh 0 0x5B)
-    ∷ answered (set fresh 1 2) (everyCall (numbered 2 0 0 0))
-    ∷ answered (set fresh 2 2) (everyCall (numbered 2 0 0 0))
-    ∷ answered blank (everyCall (numbered 2 0 0 0))
+    ∷ shown (set fresh 0 0x5B) (every_call (numbered 2 0 0 0)) whole (set fresh 0 0x5B)
+    ∷ answered (set fresh 1 2) (every_call (numbered 2 0 0 0))
+    ∷ answered (set fresh 2 2) (every_call (numbered 2 0 0 0))
+    ∷ answered blank (every_call (numbered 2 0 0 0))
     -- a byte lower than it should be is as wrong as a higher one
     ∷ answered (set fresh 0 0x59) (verdict gives refusal 2 ∷ [])
     ∷ answered (set fresh 1 0) (verdict gives refusal 2 ∷ [])
@@ -107,19 +107,19 @@ judgedFirst =
     ∷ answered (set far 2 1) (verdict gives refusal 2 ∷ [])
     ∷ answered (set far 2 0) (verdict gives refusal 2 ∷ [])
     -- not sound: the first fault, by number and place (paper 02 §2)
-    ∷ shown (set desk 545 0x7F) (everyCall (numbered 16 2 1 0)) whole (set desk 545 0x7F)
-    ∷ shown (set desk 1280 6) (everyCall (numbered 17 0 0 2)) whole (set desk 1280 6)
-    ∷ shown (set desk 561 3) (everyCall (numbered 18 3 0 0)) whole (set desk 561 3)
-    ∷ answered (put 3 (3 ∷ 0b110111 ∷ []) desk) (everyCall (numbered 20 3 0 0))
-    ∷ answered (put 3 (1 ∷ 0b1111111 ∷ []) desk) (everyCall (numbered 19 6 0 0))
-    ∷ shown (set fresh 3 6) (everyCall (numbered 3 0 0 0)) whole (set fresh 3 6)
+    ∷ shown (set desk 545 0x7F) (every_call (numbered 16 2 1 0)) whole (set desk 545 0x7F)
+    ∷ shown (set desk 1280 6) (every_call (numbered 17 0 0 2)) whole (set desk 1280 6)
+    ∷ shown (set desk 561 3) (every_call (numbered 18 3 0 0)) whole (set desk 561 3)
+    ∷ answered (put 3 (3 ∷ 0b110111 ∷ []) desk) (every_call (numbered 20 3 0 0))
+    ∷ answered (put 3 (1 ∷ 0b1111111 ∷ []) desk) (every_call (numbered 19 6 0 0))
+    ∷ shown (set fresh 3 6) (every_call (numbered 3 0 0 0)) whole (set fresh 3 6)
     -- sound: only then the path is looked at
-    ∷ shown fresh (verdict gives sized 8 7 ∷ drop 1 (everyCall (numbered 4 0 0 0))) whole fresh
+    ∷ shown fresh (verdict gives sized 8 7 ∷ drop 1 (every_call (numbered 4 0 0 0))) whole fresh
     ∷ []
 
-pub judgedFirst-hold : Hold judgedFirst
-unfolding computing computed stated judgedFirst everyCall fresh desk far
-judgedFirst-hold = hold judgedFirst refl
+pub judged_first_hold : Hold judged_first
+unfolding computing computed stated judged_first every_call fresh desk far
+judged_first_hold = hold judged_first refl
 
 -- What a store asks besides (paper 02 §11): 29 stands above all, 12 below 10, and a refused one leaves the buffer as it is. Granted ones are computed in
 -- crates/store_laws.
@@ -135,9 +135,9 @@ stores =
     ∷ answered [] (store [] [] [] 0 [] gives refusal 29 ∷ store [] [] [] 0 (replicate 257 7) gives refusal 29 ∷ [])
     ∷ []
 
-pub stores-hold : Hold stores
+pub stores_hold : Hold stores
 unfolding computing computed stated stores fresh full is_none store_count
-stores-hold = hold stores refl
+stores_hold = hold stores refl
 
 -- ---- paths and walks, on the desk
 
@@ -189,9 +189,9 @@ paths =
     (text " !\"#$%&'()*+,-.0123456789:;<=>?@ABCDEFGHIJKLMNOPQRSTUVWXYZ[\\]^_`abcdefghijklmnopqrstuvwxyz{|}~")
     ∷ []
 
-pub paths-hold : Hold paths
+pub paths_hold : Hold paths
 unfolding computing computed stated paths desk
-paths-hold = hold paths refl
+paths_hold = hold paths refl
 
 -- ---- what find and list tell
 
@@ -240,9 +240,9 @@ told =
     ∷ shown (long 0x01 0xFE) [] (λ b. tells (list (text "/") 0) (tree_of b)) (holds (is_file false) (text "A" ++ replicate 15 0) 65025 day1)
     ∷ []
 
-pub told-hold : Hold told
+pub told_hold : Hold told
 unfolding computing computed stated told desk long one
-told-hold = hold told refl
+told_hold = hold told refl
 
 -- ---- read
 
@@ -285,6 +285,6 @@ readings =
     whole shelf
     ∷ []
 
-pub readings-hold : Hold readings
+pub readings_hold : Hold readings
 unfolding computing computed stated readings shelf fresh
-readings-hold = hold readings refl
+readings_hold = hold readings refl

@@ -1,6 +1,7 @@
 // Tidy pages (02 §13): a proposal says for every page of an image its new place; an accepted one is carried out into a second buffer. Crate `proposals`
 // judges one, `targets` carries it out. All of it goes page by page, by the owners' row, which crate `owner_rows` fills.
 // The two public calls have no `requires`, and no function can change the image, which is lent to be read alone.
+#![tactic(auto)]
 ghost use Rattle.std.specs.Prelude.{◌≡◌, ◌+◌, ◌-◌, ◌<◌, ◌≤◌, length};
 ghost use mathlib.Core.List.{flat_map};
 ghost use Rattle.volume.specs.Lists.{keep, count_from};
@@ -18,7 +19,7 @@ use refusals::Refusal;
 use zealfs::VerdictAnswer;
 
 // What both calls answer: done, the verdict's own refusal, or one of §13's.
-#[derive(Drop)]
+#[derive(Clone, Copy)]
 pub enum TidyAnswer {
     Done,
     Refused(Refusal),

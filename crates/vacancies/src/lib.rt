@@ -1,4 +1,6 @@
 // The vacant entries of a directory: the lowest one, where a make puts its own, and whether there are no others.
+#![tactic(auto)]
+
 ghost use Rattle.std.specs.Prelude.{◌≡◌, ◌+◌, ◌<◌, ◌≤◌, length};
 ghost use Rattle.volume.specs.Lists.{all, first};
 ghost use Rattle.model.specs.Layout.{page_count};

@@ -1,4 +1,6 @@
 // The walk of a path over an image, from directory to directory. It judges nothing: on any image it goes where the model's walk on the bytes goes.
+#![tactic(auto)]
+
 ghost use Rattle.std.specs.Prelude.{◌≡◌, true, not, ◌+◌, ◌*◌, ◌<◌, ◌≤◌, length};
 ghost use Rattle.model.specs.Layout.{page_size, page_count};
 ghost use Rattle.model.specs.Version1.{view};
@@ -9,18 +11,18 @@ ghost use Rattle.walk.specs.Steps.{spot_of, Inside, walked_of, Small, entered, w
 use fields::{Entry, Page};
 
 // The position of an entry.
-#[derive(Drop)]
+#[derive(Clone, Copy)]
 pub enum Spot {
     At(usize),
     Nowhere,
 }
 
 // The directory that a walk has come to.
-#[derive(Drop)]
+#[derive(Clone, Copy)]
 pub struct Walk(pub Page);
 
 // The next directory of a walk, or where it stops: the byte of the path at which the name begins that is not there, or that is a file's.
-#[derive(Drop)]
+#[derive(Clone, Copy)]
 pub enum Reached {
     Into(Walk),
     Missing(usize),
@@ -69,7 +71,7 @@ impl Walk {
 }
 
 // Where all names of a path but the last lead, with the byte at which the last one begins, or where they stop. The last name ends with the path.
-#[derive(Drop)]
+#[derive(Clone, Copy)]
 pub enum Parent {
     In(Walk, usize),
     Missing(usize),

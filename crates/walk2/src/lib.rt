@@ -1,5 +1,7 @@
 // The walk of a path over an image of version 2 that is known to be sound (paper 02 §12), from directory to directory, each a chain of pages.
 // It goes where the model's walk on the bytes goes, and every directory that it comes to is one of the image's own, whose pages lie in it.
+#![tactic(auto)]
+
 ghost use Rattle.std.specs.Prelude.{◌≡◌, true, not, ◌≤◌, length};
 ghost use Rattle.model.specs.Path.{path_of, is_no_path};
 ghost use Rattle.model.specs.Walk.{entry_named};
@@ -15,11 +17,11 @@ use fields::{Entry, Page};
 use shape::Shape;
 
 // The directory that a walk has come to.
-#[derive(Drop)]
+#[derive(Clone, Copy)]
 pub struct Walk(pub Page);
 
 // The next directory of a walk, or where it stops: the byte of the path at which the name begins that is not there, or that is a file's.
-#[derive(Drop)]
+#[derive(Clone, Copy)]
 pub enum Reached {
     Into(Walk),
     Missing(usize),
@@ -66,7 +68,7 @@ impl Walk {
 }
 
 // Where all names of a path but the last lead, with the byte at which the last one begins, or where they stop. The last name ends with the path.
-#[derive(Drop)]
+#[derive(Clone, Copy)]
 pub enum Parent {
     In(Walk, usize),
     Missing(usize),

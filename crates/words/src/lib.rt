@@ -1,5 +1,7 @@
 // Words of up to 64 bits: their bytes read from a position on, bit j of the word being bit j mod 8 of the j div 8-th byte; their ones and zeros counted, and
 // the lowest zero found. What a bit stands for is no matter of this crate.
+#![tactic(auto)]
+
 ghost use Rattle.std.specs.Prelude.{◌≡◌, ◌+◌, ◌%◌, ◌^◌, ◌<◌, ◌≤◌, length};
 ghost use Rattle.std.specs.Int.Count.{ones};
 ghost use Rattle.words.specs.Words.{Holds, Ends};

@@ -1,10 +1,11 @@
 // The call that writes. It has no `requires`: whatever the bytes, it answers what the model's `answer` says, and leaves the image as `after` says. A
 // refused call changes no byte.
+#![tactic(auto)]
 ghost use Rattle.std.specs.Prelude.{◌≡◌, ◌+◌, ◌-◌, ◌<◌, ◌≤◌, max, length, ltb};
 ghost use Rattle.model.specs.Layout.{pages_for, free_count};
 ghost use Rattle.model.specs.Call.{write};
 ghost use Rattle.model.specs.Meaning.{answer, after};
-ghost use Rattle.answers.specs.Answers.{changeAnswer};
+ghost use Rattle.answers.specs.Answers.{change_answer};
 
 use answers::ChangeAnswer;
 use fields::Position;
@@ -29,7 +30,7 @@ fn lacks_pages(image: &[u8], size: usize, position: Position, bytes: usize) -> b
 
 // Puts bytes over the content of a file that is not locked, from a position on. The file grows where they reach past its end.
 pub fn write(image: &mut [u8], path: &[u8], position: Position, bytes: &[u8]) -> ChangeAnswer
-    ensures result_value { changeAnswer result ≡ answer (write path.now position.0 bytes.now) image.old }
+    ensures result_value { change_answer result ≡ answer (write path.now position.0 bytes.now) image.old }
     ensures image_after { image.new ≡ after (write path.now position.0 bytes.now) image.old }
 {
     let arrival = places::arrive(image, path);

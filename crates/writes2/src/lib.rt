@@ -1,5 +1,6 @@
 // The call that writes, on a cartridge of version 2 (paper 02 §12). It has no `requires`: whatever the bytes, it answers what the model's `answer v2` says,
 // and leaves the image as `after v2` says. A refused call changes no byte.
+#![tactic(auto)]
 ghost use Rattle.std.specs.Prelude.{◌≡◌, ◌+◌, ◌-◌, ◌<◌, ◌≤◌, max, length, ltb};
 ghost use Rattle.volume.specs.Geometry as On;
 ghost use Rattle.model.specs.Call.{write};
@@ -7,7 +8,7 @@ ghost use Rattle.model.specs.MeaningOf.{answer, after};
 ghost use Rattle.model2.specs.Layout.{pages_for};
 ghost use Rattle.model2.specs.Calls.{v2};
 ghost use Rattle.shape.specs.Geometry.{geometry_of};
-ghost use Rattle.answers2.specs.Answers.{changeAnswer};
+ghost use Rattle.answers2.specs.Answers.{change_answer};
 ghost use Rattle.writes2.specs.Asked.{Counted};
 
 use answers2::ChangeAnswer;
@@ -35,7 +36,7 @@ fn lacks_pages(image: &[u8], shape: Shape, size: usize, position: Position, byte
 
 // Puts bytes over the content of a file that is not locked, from a position on. The file grows where they reach past its end.
 pub fn write(image: &mut [u8], path: &[u8], position: Position, bytes: &[u8]) -> ChangeAnswer
-    ensures result_value { changeAnswer result ≡ answer v2 (write path.now position.0 bytes.now) image.old }
+    ensures result_value { change_answer result ≡ answer v2 (write path.now position.0 bytes.now) image.old }
     ensures image_after { image.new ≡ after v2 (write path.now position.0 bytes.now) image.old }
 {
     let arrival = places2::arrive(image, path);

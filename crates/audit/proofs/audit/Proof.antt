@@ -1,12 +1,12 @@
 -- `audit` asks for the length and the header, and lends a row in which the header alone owns a page.
-use Rattle.fields.proofs.Plain.{arith, needs}
+use Rattle.fields.proofs.Plain.{arith, rules}
 use Rattle.claims.proofs.Claims.{told}
 use Rattle.audit.proofs.Marks.{allowed, few, first_length, first_row_lem, no_length, no_header, no_row, yes_row}
 use Rattle.audit.proofs.audit as fn
 
-pub audit-spec : {M : Type 1} → fn.Statement.statement M
-audit-spec = fn.Tie.close (fn.Tie.spec
-    (λ c. search needs)
+pub audit_spec : {M : Type 1} → fn.Statement.statement M
+audit_spec = fn.Tie.close (fn.Tie.spec
+    (λ c. search rules)
     (λ c. no_length c.before.before.before.args.image.now c.before.length-is-allowed.ensures c.if1.taken)
     (λ c κs.
     let h = allowed _ (told c.before.length-is-allowed.ensures c.if1.left) in
@@ -15,7 +15,7 @@ audit-spec = fn.Tie.close (fn.Tie.spec
     let test1 = c.before.before in
     no_header test1.before.before.before.args.image.now test1.before.length-is-allowed.ensures test1.if1.left
     c.before.header-is-right.ensures c.if2.taken)
-    (λ c. search needs) (λ c. search needs)
+    (λ c. search rules) (λ c. search rules)
     (λ c. search (few, told))
     (λ c. search (first_length, told))
     (λ c κs.

@@ -9,8 +9,8 @@ invariant-loop image from count i₀ t7 i = i ≤ count
 abbrev decreases-loop : fn.Tie.decreases-loop
 decreases-loop image from count i₀ t7 i = count - i
 
-pub bytes-at-spec : {M : Type 1} → fn.Statement.statement M
-bytes-at-spec = fn.Tie.close (fn.Tie.spec
+pub bytes_at_spec : {M : Type 1} → fn.Statement.statement M
+bytes_at_spec = fn.Tie.close (fn.Tie.spec
     invariant-loop decreases-loop
     (λ c. search rules)
     (λ c κs. search rules)

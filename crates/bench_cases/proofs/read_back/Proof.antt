@@ -12,8 +12,8 @@ slice-aggregate-same c =
     sym (length-take-le large-buffer.before.before.before.args.count read.read.new.1.1.1.0
     (omega (arith, read.read.auto, large-buffer.large-buffer.ensures, large-buffer.before.before.before.requires)))
 
-pub read-back-spec : {M : Type 1} → fn.Statement.statement M
-read-back-spec = fn.Tie.close (fn.Tie.spec
+pub read_back_spec : {M : Type 1} → fn.Statement.statement M
+read_back_spec = fn.Tie.close (fn.Tie.spec
     (λ c κs. search rules)
     (λ c. search rules)
     (λ c κs. search rules)

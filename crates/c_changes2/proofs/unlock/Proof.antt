@@ -1,5 +1,5 @@
 -- The code of what the call answers, which is what the model answers; a refusal of the model fits its code.
-use Rattle.fields.proofs.Plain.{needs}
+use Rattle.fields.proofs.Plain.{rules}
 use Rattle.model.specs.Call.{set_lock}
 use Rattle.codes.proofs.Fits.{change_fits, coded}
 use Rattle.codes2.proofs.Fits.{roomy2}
@@ -7,7 +7,7 @@ use Rattle.c_changes2.proofs.unlock as fn
 
 pub unlock_spec : {M : Type 1} → fn.Statement.statement M
 unlock_spec = fn.Tie.close (fn.Tie.spec
-    (λ c. search needs)
+    (λ c. search rules)
     (λ c κs. change_fits roomy2 (set_lock _ _) _ c.before.before.unlock.ensures.0)
-    (λ c. search needs)
+    (λ c. search rules)
     (λ c. (coded c.change-code.ensures c.before.before.before.unlock.ensures.0, c.before.before.before.unlock.ensures.1)))

@@ -1,5 +1,5 @@
 -- Each arm knows its case, so what the call ensures is the link list's answer in that case, and code and out array are read off it.
-use Rattle.fields.proofs.Plain.{ap, ◌∙◌, needs}
+use Rattle.fields.proofs.Plain.{ap, ◌∙◌, rules}
 use Rattle.link_list.specs.Links.{find_link}
 use Rattle.link_codes.specs.Codes.{link_code_of}
 use Rattle.link_codes.proofs.Fits.{link_fits}
@@ -9,7 +9,7 @@ use Rattle.c_links.proofs.find as fn
 pub find_spec : {M : Type 1} → fn.Statement.statement M
 unfolding link_code_of figure_out
 find_spec = fn.Tie.close (fn.Tie.spec
-    (λ c. search needs) (λ c. search needs) (λ c. search needs) (λ c. search needs)
+    (λ c. search rules) (λ c. search rules) (λ c. search rules) (λ c. search rules)
     (λ c κs. link_fits (find_link _ _ _) _ (rw c.before.before.r.given.1 at c.before.before.before.before.find.ensures))
     (λ c.
     let e = rw c.before.before.figure.given.1 at c.before.before.before.before.find.ensures in

@@ -1,5 +1,5 @@
 -- Each arm knows its case, so what the call ensures is the model's answer in that case, and code and out array are read off it.
-use Rattle.fields.proofs.Plain.{ap, ◌∙◌, needs}
+use Rattle.fields.proofs.Plain.{ap, ◌∙◌, rules}
 use Rattle.model.specs.Call.{list}
 use Rattle.codes.specs.Codes.{code_of}
 use Rattle.codes.specs.Outs.{kind_number, lock_number, list_out}
@@ -7,10 +7,10 @@ use Rattle.codes.proofs.Fits.{refused_fits}
 use Rattle.codes2.proofs.Fits.{roomy2}
 use Rattle.c_looks2.proofs.list as fn
 
-pub list-spec : {M : Type 1} → fn.Statement.statement M
+pub list_spec : {M : Type 1} → fn.Statement.statement M
 unfolding code_of list_out kind_number lock_number
-list-spec = fn.Tie.close (fn.Tie.spec
-    (λ c. search needs) (λ c. search needs) (λ c. search needs) (λ c. search needs) (λ c. search needs) (λ c. search needs)
+list_spec = fn.Tie.close (fn.Tie.spec
+    (λ c. search rules) (λ c. search rules) (λ c. search rules) (λ c. search rules) (λ c. search rules) (λ c. search rules)
     (λ c κs. refused_fits roomy2 (list _ _) _ (rw c.before.before.answer3.given.1 at c.before.before.before.before.before.before.list.ensures.0))
     (λ c.
     let list = c.before.before.before.before.before in

@@ -18,5 +18,5 @@ returns-2 c =
     let row = copy.before.before.before.before.audit in
     (rw (← row.ensures.0, c.if1.false), copy.copy-owners.ensures ∙ row.ensures.1)
 
-pub audit-spec : {M : Type 1} → fn.Statement.statement M
-audit-spec = fn.Tie.close (fn.Tie.spec (λ c κs. search rules) (λ c. search rules) (λ c. search rules) (λ c κs. search rules) returns returns-2)
+pub audit_spec : {M : Type 1} → fn.Statement.statement M
+audit_spec = fn.Tie.close (fn.Tie.spec (λ c κs. search rules) (λ c. search rules) (λ c. search rules) (λ c κs. search rules) returns returns-2)

@@ -21,5 +21,5 @@ same_length c = search rules
 returns : tie.Need-returns
 returns c = (c.tidy-code.ensures ∙ ap code_of c.before.before.before.propose.ensures.0, c.before.before.before.propose.ensures.1)
 
-pub propose-spec : {M : Type 1} → statement M
-propose-spec = tie.close (tie.spec propose-requires tidy-code-requires same_length returns)
+pub propose_spec : {M : Type 1} → statement M
+propose_spec = tie.close (tie.spec propose-requires tidy-code-requires same_length returns)

@@ -4,8 +4,8 @@ use Rattle.c_requests.proofs.Fits.{repair_fits}
 use borrow.Author.Rules.{rules}
 use Rattle.c_requests.proofs.repair as fn
 
-pub repair-spec : {M : Type 1} → fn.Statement.statement M
-repair-spec = fn.Tie.close (fn.Tie.spec
+pub repair_spec : {M : Type 1} → fn.Statement.statement M
+repair_spec = fn.Tie.close (fn.Tie.spec
     (λ c. search rules)
     (λ c κs. rw c.before.before.repair.ensures.0 (repair_fits _))
     (λ c. search rules)

@@ -21,5 +21,5 @@ same_length c = search rules
 returns : tie.Need-returns
 returns c = (c.tidy-code.ensures ∙ ap code_of c.before.before.before.tidy.ensures.0, c.before.before.before.tidy.ensures.1)
 
-pub tidy-spec : {M : Type 1} → statement M
-tidy-spec = tie.close (tie.spec tidy-requires tidy-code-requires same_length returns)
+pub tidy_spec : {M : Type 1} → statement M
+tidy_spec = tie.close (tie.spec tidy-requires tidy-code-requires same_length returns)

@@ -35,8 +35,8 @@ returns-4 : tie.Need-returns-4
 unfolding code_of packed
 returns-4 c = rw c.enum-told3.given.1
 
-pub tidy-code-spec : {M : Type 1} → statement M
-tidy-code-spec =
+pub tidy_code_spec : {M : Type 1} → statement M
+tidy_code_spec =
     tie.close
     (tie.spec
     enum_told

@@ -10,7 +10,7 @@ invariant-loop image path count i₀ i = Unit {0}
 abbrev decreases-loop : tie.decreases-loop
 decreases-loop image path count i₀ i = count - i
 
-pub list-entries-spec : {M : Type 1} → statement M
-list-entries-spec =
+pub list_entries_spec : {M : Type 1} → statement M
+list_entries_spec =
     tie.close
     (tie.spec invariant-loop decreases-loop (λ c. search rules) (λ c κs. search rules) (λ c. search rules) (λ c. search rules) (λ c. search rules) (λ c. search rules))

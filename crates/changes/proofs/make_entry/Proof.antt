@@ -3,8 +3,8 @@ use Rattle.changes.proofs.Makes.{put_growing, put_grown}
 use borrow.Author.Rules.{rules}
 use Rattle.changes.proofs.make_entry as fn
 
-pub make-entry-spec : {M : Type 1} → fn.Statement.statement M
-make-entry-spec = fn.Tie.close (fn.Tie.spec
+pub make_entry_spec : {M : Type 1} → fn.Statement.statement M
+make_entry_spec = fn.Tie.close (fn.Tie.spec
     (λ c. search rules) (λ c. search rules) (λ c. search rules)
     (λ c κs. search put_growing)
     (λ c. search rules)

@@ -4,7 +4,7 @@ use Rattle.entry_bytes.proofs.Puts.{entry_put}
 use borrow.Author.Rules.{rules}
 use Rattle.changes.proofs.put_entry as fn
 
-pub put-entry-spec : {M : Type 1} → fn.Statement.statement M
-put-entry-spec = fn.Tie.close (fn.Tie.spec
+pub put_entry_spec : {M : Type 1} → fn.Statement.statement M
+put_entry_spec = fn.Tie.close (fn.Tie.spec
     (λ c. search rules) (λ c. search rules) (λ c. search rules) (λ c. search rules) (λ c. search rules) (λ c. search rules)
     (λ c. search (entry_put, new_length)))

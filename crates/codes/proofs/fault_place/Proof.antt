@@ -1,20 +1,20 @@
 -- Each arm knows its fault, whose numbers are the place that is packed.
-use Rattle.fields.proofs.Plain.{needs}
+use Rattle.fields.proofs.Plain.{rules}
 use Rattle.codes.proofs.fault_place as fn
 
-pub fault-place-spec : {M : Type 1} → fn.Statement.statement M
-fault-place-spec = fn.Tie.close (fn.Tie.spec
-    (λ c. search needs)
-    (λ c κs. rw c.before.fault.given.1 at c.before.before.before.pre)
-    (λ c. search needs)
-    (λ c κs. rw c.before.fault2.given.1 at c.before.before.before.pre)
-    (λ c. search needs)
-    (λ c κs. rw c.before.fault3.given.1 at c.before.before.before.pre)
-    (λ c. search needs)
-    (λ c κs. rw c.before.fault4.given.1 at c.before.before.before.pre)
-    (λ c. search needs)
-    (λ c κs. rw c.before.fault5.given.1 at c.before.before.before.pre)
-    (λ c. search needs) (λ c. search needs)
+pub fault_place_spec : {M : Type 1} → fn.Statement.statement M
+fault_place_spec = fn.Tie.close (fn.Tie.spec
+    (λ c. search rules)
+    (λ c κs. rw c.before.fault.given.1 at c.before.before.before.requires)
+    (λ c. search rules)
+    (λ c κs. rw c.before.fault2.given.1 at c.before.before.before.requires)
+    (λ c. search rules)
+    (λ c κs. rw c.before.fault3.given.1 at c.before.before.before.requires)
+    (λ c. search rules)
+    (λ c κs. rw c.before.fault4.given.1 at c.before.before.before.requires)
+    (λ c. search rules)
+    (λ c κs. rw c.before.fault5.given.1 at c.before.before.before.requires)
+    (λ c. search rules) (λ c. search rules)
     (λ c. rw c.before.before.fault.given.1 c.pack.ensures)
     (λ c. rw c.before.before.fault2.given.1 c.pack2.ensures)
     (λ c. rw c.before.before.fault3.given.1 c.pack3.ensures)

@@ -2,8 +2,8 @@
 use Rattle.codes.specs.Outs.{lock_number}
 use Rattle.codes.proofs.lock_number as fn
 
-pub lock-number-spec : {M : Type 1} → fn.Statement.statement M
+pub lock_number_spec : {M : Type 1} → fn.Statement.statement M
 unfolding lock_number
-lock-number-spec = fn.Tie.close (fn.Tie.spec
+lock_number_spec = fn.Tie.close (fn.Tie.spec
     (λ c. rw c.if1.taken)
     (λ c. rw c.if1.left))

@@ -2,7 +2,7 @@
 -- owner there, so one page fewer has none: twice that number falls from a directory to its entries and from an entry to the directory below.
 use borrow.Fn.PlainCycle.{Measures, is, falls, and}
 use Rattle.fields.proofs as fields
-use Rattle.fields.proofs.Plain.{needs, arith, ℕ, ◌+◌, ◌*◌, ◌-◌, ◌≤◌, ◌<◌}
+use Rattle.fields.proofs.Plain.{rules, arith, ℕ, ◌+◌, ◌*◌, ◌-◌, ◌≤◌, ◌<◌}
 use Rattle.view_laws.specs.Marks.{unowned}
 use Rattle.faults.proofs.Answers.{clean_of}
 use Rattle.owning.proofs as owning
@@ -20,8 +20,8 @@ abbrev μ-directory : Measures 2 dps ℕ
 abbrev μ-entry : Measures 2 eps ℕ
 μ-entry κs a = 2 * unowned a.1.0.now
 
-pub +judge-directory-judge-entry-spec : {M : Type 1} → statement M
-+judge-directory-judge-entry-spec = close μ-directory μ-entry
+pub +judge_directory_judge_entry_spec : {M : Type 1} → statement M
++judge_directory_judge_entry_spec = close μ-directory μ-entry
     (λ t. directory (
       fields.entry_count.Reads.Asked,
       fields.entry_count.Reads.Learnt,
@@ -35,26 +35,26 @@ pub +judge-directory-judge-entry-spec : {M : Type 1} → statement M
     (and 2 dps (is 2 dps μ-directory t) dpre) dpost
     (λ image marks₀ page count i₀ marks i. (i ≤ count) × Stands image page.0 marks₀ i marks)
     (λ image marks₀ page count i₀ marks i. count - i)
-    (λ c κs. search needs)
-    (λ c. (search needs, search stands_first))
+    (λ c κs. search rules)
+    (λ c. (search rules, search stands_first))
     (λ c κs. omega arith) (λ c κs. omega arith)
-    (λ c. search needs) (λ c. search needs) (λ c. search needs)
-    (λ c. (search needs, search stands_vacant))
+    (λ c. search rules) (λ c. search rules) (λ c. search rules)
+    (λ c. (search rules, search stands_vacant))
     (λ c κs. omega arith)
-    (λ c. search needs) (λ c. search needs)
+    (λ c. search rules) (λ c. search rules)
     (λ c.
     let judged = c.before.before.before.before.before in
     let test = judged.before.before.before.before.before in
     stands_faulty test.before.before.entry-count.ensures test.before.loop.inv.1 _ _ test.loop-test.taken
     judged.judge-entry.ensures c.before.judged.given.1)
-    (λ c. search needs) (λ c. search needs) (λ c. search needs)
+    (λ c. search rules) (λ c. search rules) (λ c. search rules)
     (λ c. let judged = c.before.before.before.before in
     let test = judged.before.before.before.before.before in (
-      search needs,
+      search rules,
       stands_next test.before.before.entry-count.ensures test.before.loop.inv.1 _ _ test.loop-test.taken
           judged.judge-entry.ensures c.enum-told2.given.1,
     ))
-    (λ c. search needs)
+    (λ c. search rules)
     (λ c f h. search stands_last))
     (λ t. entry (
       fields.entry_position.Reads.Asked,
@@ -74,24 +74,24 @@ pub +judge-directory-judge-entry-spec : {M : Type 1} → statement M
     )
     (and 2 eps (is 2 eps μ-entry t) epre) epost
     (λ c κs. omega arith) (λ c κs. omega arith)
-    (λ c. search needs) (λ c. search needs)
+    (λ c. search rules) (λ c. search rules)
     (λ c κs. (omega arith, omega arith, search file_flags))
     (λ c f h. search stale_file)
-    (λ c. search needs) (λ c. search needs) (λ c. search needs)
+    (λ c. search rules) (λ c. search rules) (λ c. search rules)
     (λ c f h. search sized_directory)
     (λ c κs. (omega arith, omega arith, search directory_flags))
     (λ c f h. search stale_directory)
-    (λ c. search needs) (λ c. search needs) (λ c. search needs)
+    (λ c. search rules) (λ c. search rules) (λ c. search rules)
     (λ c f h. search faulty_page)
-    (λ c. search needs)
+    (λ c. search rules)
     (λ c κs.
     let page = c.before.before.before.before.before in
-    let pre = page.before.before.before.before.before.before.before.before.before.before.before.before.pre.1.0 in
+    let pre = page.before.before.before.before.before.before.before.before.before.before.before.before.requires.1.0 in
     let made = page_made _ _ _ _ _ pre.each (clean_of page.own-page.ensures c.before.enum-told2.given.1) in
     let long = page.own-page.kept.1.0 in
     omega arith)
     (λ c f h. search vacant_entry)
-    (λ c. search needs)
+    (λ c. search rules)
     (λ c f h. search fresh_file)
-    (λ c. search needs)
+    (λ c. search rules)
     (λ c f h. search (directory_below, c.before.before.judge-directory.ensures)))

@@ -14,8 +14,8 @@ returns-2 c = free_room _ c.before.before.before.before.verdict.result c.before.
 returns-3 : tie.Need-returns-3
 returns-3 c = (λ e h. absurd (verdict_refused _ c.before.before.verdict.result c.before.before.verdict.ensures _ c.enum_told.given.1 h), λ e. absurd (true≢false e))
 
-pub has-room-spec : {M : Type 1} → statement M
-has-room-spec =
+pub has_room_spec : {M : Type 1} → statement M
+has_room_spec =
     tie.close
     (tie.spec
     returns

@@ -16,8 +16,8 @@ returns-2 c =
     let args = at.before.before.before.before.before.before.args in
     made_written args.path.now args.date.now args.bytes.now args.image.now _ _ at.make-file.result c.before.before.before.before.enum-told2.given.1 at.make-file.ensures.0 at.make-file.ensures.1 c.before.before.write.result c.before.before.write.ensures.0 c.before.before.write.ensures.1
 
-pub make-anew-spec : {M : Type 1} → statement M
-make-anew-spec =
+pub make_anew_spec : {M : Type 1} → statement M
+make_anew_spec =
     tie.close
     (tie.spec
     (λ c κs. search rules)

@@ -21,8 +21,8 @@ returns-2 c =
     let args = start.args in
     copy_done args.path.now args.date.now args.bytes.now args.image.now args.copy.now at_copy.copy-in.new.0 at.put-in-turn.new.0 start.requires at_copy.copy-in.ensures at.put-in-turn.result at.put-in-turn.ensures.0 c.before.before.before.before.before.enum-told2.given.1 _ (omega (arith, at.put-in-turn.auto.0, at_copy.copy-in.auto.0, start.requires)) c.before.before.copy-in2.ensures
 
-pub put-by-copy-spec : {M : Type 1} → statement M
-put-by-copy-spec =
+pub put_by_copy_spec : {M : Type 1} → statement M
+put_by_copy_spec =
     tie.close
     (tie.spec
     (λ c κs. search rules)

@@ -23,8 +23,8 @@ returns-3 c =
     let args = at.before.before.before.before.before.before.args in
     put_refused args.path.now args.date.now args.bytes.now args.image.now _ at.make-file.result _ c.before.before.before.r.given.1 at.make-file.ensures.0 at.make-file.ensures.1 (λ e. c.if1.false (c.before.number.ensures ∙ e))
 
-pub put-in-turn-spec : {M : Type 1} → statement M
-put-in-turn-spec =
+pub put_in_turn_spec : {M : Type 1} → statement M
+put_in_turn_spec =
     tie.close
     (tie.spec
     (λ c κs. search rules)

@@ -11,8 +11,8 @@ slice-aggregate-put-by-copy c = room_long _ 65536 c.before.before.before.before.
 put-by-copy-requires : tie.Need-put-by-copy-requires
 put-by-copy-requires c κs = sym (room_long _ 65536 c.before.before.before.before.before.before.requires)
 
-pub put-with-room-spec : {M : Type 1} → statement M
-put-with-room-spec =
+pub put_with_room_spec : {M : Type 1} → statement M
+put_with_room_spec =
     tie.close
     (tie.spec
     (λ c. search rules)

@@ -38,8 +38,8 @@ returns-3 c =
     let start = at-judge-file.before.before.before.before in
     bad_checked start.args.file.now start.args.directory.now start.args.image.now _ (told start.args.file.now c.before.i.given.1 at-judge-file.judge-file.ensures)
 
-pub check-file-spec : {M : Type 1} → statement M
-check-file-spec =
+pub check_file_spec : {M : Type 1} → statement M
+check_file_spec =
     tie.close
     (tie.spec
     (λ c κs. search rules)

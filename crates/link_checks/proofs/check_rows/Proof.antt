@@ -60,8 +60,8 @@ returns-2 c =
     let inv = c.before.loop.invariant in
     sym (checked_end start.args.file.now start.args.directory.now start.args.image.now start.args.rows c.before.loop.i c.before.loop.at c.loop-test.false) ∙ inv.2
 
-pub check-rows-spec : {M : Type 1} → statement M
-check-rows-spec =
+pub check_rows_spec : {M : Type 1} → statement M
+check_rows_spec =
     tie.close
     (tie.spec
     invariant-loop

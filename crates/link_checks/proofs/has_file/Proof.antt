@@ -75,8 +75,8 @@ returns-2 c =
     let args = c.before.before.before.before.before.before.before.before.before.before.args in
     c.before.is-file2.ensures ∙ ap (λ (v : Bytes). is_file_there (node_in args.directory.now v (tree_of args.image.now))) (named c.before.before.before.before.before.before).0
 
-pub has-file-spec : {M : Type 1} → statement M
-has-file-spec =
+pub has_file_spec : {M : Type 1} → statement M
+has_file_spec =
     tie.close
     (tie.spec
     (λ c. search rules)

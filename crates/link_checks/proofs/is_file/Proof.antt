@@ -48,8 +48,8 @@ returns-2 c = ap is_file_found (sym c.enum-told2.given.1) ∙ says c.before.befo
 returns-3 : tie.Need-returns-3
 returns-3 c = ap is_file_found (sym c.enum-told3.given.1) ∙ says c.before.before
 
-pub is-file-spec : {M : Type 1} → statement M
-is-file-spec =
+pub is_file_spec : {M : Type 1} → statement M
+is_file_spec =
     tie.close
     (tie.spec
     join-requires

@@ -23,8 +23,8 @@ returns-2 c =
     let r = below_put start.args.directory.now start.args.name.now start.args.path.now _ _ start.requires.0 at-if1.if1.false start.requires.1 at-put-bytes.put-bytes.ensures at-put-name2.put-name2.ensures.1 in
     ((at-put-name2.put-name2.ensures.0 ∙ r.0, omega (arith, at-put-name2.put-name2.ensures.0, start.requires.1)), r.1)
 
-pub join-spec : {M : Type 1} → statement M
-join-spec =
+pub join_spec : {M : Type 1} → statement M
+join_spec =
     tie.close
     (tie.spec
     (λ c κs. search rules)

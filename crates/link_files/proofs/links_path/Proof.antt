@@ -12,8 +12,8 @@ returns : tie.Need-returns
 unfolding text
 returns c = c.before.before.join.ensures
 
-pub links-path-spec : {M : Type 1} → statement M
-links-path-spec =
+pub links_path_spec : {M : Type 1} → statement M
+links_path_spec =
     tie.close
     (tie.spec
     (λ c. search rules)

@@ -26,8 +26,8 @@ load-by-requires c κs =
 returns-2 : tie.Need-returns-2
 returns-2 c = c.before.before.before.load-by.ensures
 
-pub load-asked-spec : {M : Type 1} → statement M
-load-asked-spec =
+pub load_asked_spec : {M : Type 1} → statement M
+load_asked_spec =
     tie.close
     (tie.spec
     (λ c κs. search rules)

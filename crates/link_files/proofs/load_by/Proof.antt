@@ -36,8 +36,8 @@ returns-2 c =
     let path = path_read at_path.links-path.result at_path.links-path.new.1.0 _ (onward start.args.directory.now links_name) at_path.links-path.ensures.0.0 at_path.links-path.ensures.1 in
     refused_loads start.args.image.now start.args.directory.now start.requires.0 _ start.args.file.now path at_read.read.result at_read.read.ensures.0 _ c.before.r.given.1
 
-pub load-by-spec : {M : Type 1} → statement M
-load-by-spec =
+pub load_by_spec : {M : Type 1} → statement M
+load_by_spec =
     tie.close
     (tie.spec
     links-path-requires

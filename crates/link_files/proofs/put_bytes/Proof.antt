@@ -40,8 +40,8 @@ returns c =
     let start = c.before.before in
     let inv = c.before.loop.invariant in sym (bytes_end start.args.at c.before.loop.i start.args.source.now c.before.loop.bytes c.loop-test.false) ∙ inv.2
 
-pub put-bytes-spec : {M : Type 1} → statement M
-put-bytes-spec =
+pub put_bytes_spec : {M : Type 1} → statement M
+put_bytes_spec =
     tie.close
     (tie.spec
     invariant-loop

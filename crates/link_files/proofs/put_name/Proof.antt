@@ -15,8 +15,8 @@ returns c =
     let start = at-put-bytes.before.before.before.before in
     (refl, name_put start.args.at start.args.name.now start.args.path.now _ start.requires at-put-bytes.put-bytes.ensures)
 
-pub put-name-spec : {M : Type 1} → statement M
-put-name-spec =
+pub put_name_spec : {M : Type 1} → statement M
+put_name_spec =
     tie.close
     (tie.spec
     (λ c. search rules)

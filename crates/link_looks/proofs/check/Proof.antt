@@ -46,8 +46,8 @@ returns-3 c =
     let s = loads_not start.args.directory.now start.args.image.now _ _ _ at_load.load.ensures _ c.before.r.given.1 in
     refused_check start.args.directory.now start.args.image.now _ s
 
-pub check-spec : {M : Type 1} → statement M
-check-spec =
+pub check_spec : {M : Type 1} → statement M
+check_spec =
     tie.close
     (tie.spec
     (λ c. search rules)

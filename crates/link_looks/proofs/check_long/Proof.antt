@@ -47,8 +47,8 @@ returns-2 c =
     let s = loads_not start.args.directory.now start.args.image.now _ _ _ at_load.load.ensures _ c.before.r.given.1 in
     refused_check start.args.directory.now start.args.image.now _ s
 
-pub check-long-spec : {M : Type 1} → statement M
-check-long-spec =
+pub check_long_spec : {M : Type 1} → statement M
+check_long_spec =
     tie.close
     (tie.spec
     (λ c. search rules)

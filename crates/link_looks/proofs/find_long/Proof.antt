@@ -39,8 +39,8 @@ returns-2 c =
     let s = loads_not start.args.directory.now start.args.image.now _ _ _ at_load.load.ensures _ c.before.r.given.1 in
     refused_find start.args.directory.now start.args.image.now _ s start.args.count start.args.value
 
-pub find-long-spec : {M : Type 1} → statement M
-find-long-spec =
+pub find_long_spec : {M : Type 1} → statement M
+find_long_spec =
     tie.close
     (tie.spec
     (λ c. search rules)

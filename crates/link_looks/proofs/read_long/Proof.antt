@@ -41,8 +41,8 @@ returns-2 c =
     let s = loads_not start.args.directory.now start.args.image.now _ _ _ at_load.load.ensures _ c.before.r.given.1 in
     refused_read start.args.directory.now start.args.image.now _ s start.args.numbers.now
 
-pub read-long-spec : {M : Type 1} → statement M
-read-long-spec =
+pub read_long_spec : {M : Type 1} → statement M
+read_long_spec =
     tie.close
     (tie.spec
     (λ c. search rules)

@@ -20,8 +20,8 @@ returns-4 c =
     let said = c.before.before.number.ensures in
     first_other _ _ (λ e. c.before.if2.false (said ∙ e)) (λ e. c.if3.false (said ∙ e))
 
-pub date-first-spec : {M : Type 1} → statement M
-date-first-spec =
+pub date_first_spec : {M : Type 1} → statement M
+date_first_spec =
     tie.close
     (tie.spec
     returns

@@ -55,8 +55,8 @@ returns-3 c = ap old_found (sym c.enum_told.given.1) ∙ says c.before.before
 returns-4 : tie.Need-returns-4
 returns-4 c = ap old_found (sym c.enum-told2.given.1) ∙ says c.before.before
 
-pub old-file-spec : {M : Type 1} → statement M
-old-file-spec =
+pub old_file_spec : {M : Type 1} → statement M
+old_file_spec =
     tie.close
     (tie.spec
     links-path-requires

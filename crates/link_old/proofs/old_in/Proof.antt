@@ -16,5 +16,5 @@ old-file-requires-2 c κs = (c.before.before.before.before.requires, omega arith
 returns-2 : tie.Need-returns-2
 returns-2 c = c.before.old-file2.ensures
 
-pub old-in-spec : {M : Type 1} → statement M
-old-in-spec = tie.close (tie.spec (λ c. search rules) old-file-requires returns (λ c. search rules) old-file-requires-2 returns-2)
+pub old_in_spec : {M : Type 1} → statement M
+old_in_spec = tie.close (tie.spec (λ c. search rules) old-file-requires returns (λ c. search rules) old-file-requires-2 returns-2)

@@ -57,8 +57,8 @@ returns-3 c =
       kept,
     )
 
-pub old-links-spec : {M : Type 1} → statement M
-old-links-spec =
+pub old_links_spec : {M : Type 1} → statement M
+old_links_spec =
     tie.close
     (tie.spec
     (λ c κs. search rules)

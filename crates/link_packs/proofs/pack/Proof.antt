@@ -27,8 +27,8 @@ returns-3 c =
     let start = c.before.before.before.before in
     (omega arith, unpacked start.args.judged (rows_of start.args.numbers.now) start.requires _ (ap list_told c.enum-told3.given.1) _)
 
-pub pack-spec : {M : Type 1} → statement M
-pack-spec =
+pub pack_spec : {M : Type 1} → statement M
+pack_spec =
     tie.close
     (tie.spec
     (λ c. search rules)

@@ -19,8 +19,8 @@ returns-2 c =
     let args = start.args in
     packed_long args.judged (rows_of args.numbers.now) _ at-pack.pack.new.1.1.0 at-pack.pack.result at-pack.pack.ensures c.enum_told.given.1 start.requires.1 at-pack.pack.auto.1.1.0 _ refl
 
-pub pack-long-spec : {M : Type 1} → statement M
-pack-long-spec =
+pub pack_long_spec : {M : Type 1} → statement M
+pack_long_spec =
     tie.close
     (tie.spec
     (λ c κs. search rules)

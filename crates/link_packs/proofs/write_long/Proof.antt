@@ -19,8 +19,8 @@ returns c =
     let args = at-pack.before.before.before.before.before.before.args in
     at-write.write-packed.ensures (rows_of args.numbers.now) at-pack.pack-long.ensures.1
 
-pub write-long-spec : {M : Type 1} → statement M
-write-long-spec =
+pub write_long_spec : {M : Type 1} → statement M
+write_long_spec =
     tie.close
     (tie.spec
     (λ c. search rules)

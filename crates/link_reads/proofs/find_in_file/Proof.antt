@@ -33,8 +33,8 @@ returns-3 c = find_bad _ _ _ _ (told _ c.before.at.given.1 c.before.before.befor
 returns-4 : tie.Need-returns-4
 returns-4 c = find_bad _ _ _ _ (told _ c.before.i.given.1 c.before.before.before.judge-file.ensures)
 
-pub find-in-file-spec : {M : Type 1} → statement M
-find-in-file-spec =
+pub find_in_file_spec : {M : Type 1} → statement M
+find_in_file_spec =
     tie.close
     (tie.spec
     (λ c κs. search rules)

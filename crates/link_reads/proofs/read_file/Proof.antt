@@ -30,8 +30,8 @@ returns-3 c = read_bad _ _ _ (told _ c.before.at.given.1 c.before.before.before.
 returns-4 : tie.Need-returns-4
 returns-4 c = read_bad _ _ _ (told _ c.before.i.given.1 c.before.before.before.judge-file.ensures)
 
-pub read-file-spec : {M : Type 1} → statement M
-read-file-spec =
+pub read_file_spec : {M : Type 1} → statement M
+read_file_spec =
     tie.close
     (tie.spec
     (λ c κs. search rules)

@@ -46,8 +46,8 @@ returns-2 c =
     let inv = c.before.loop.invariant in
     sym (figure_end start.args.file.now start.args.count start.args.value start.args.rows _ _ c.loop-test.false) ∙ inv.1
 
-pub figure-in-spec : {M : Type 1} → statement M
-figure-in-spec =
+pub figure_in_spec : {M : Type 1} → statement M
+figure_in_spec =
     tie.close
     (tie.spec
     invariant-loop

@@ -10,5 +10,5 @@ returns c = sym (other_count c.before.before.args.count c.before.before.args.val
 returns-2 : tie.Need-returns-2
 returns-2 c = sym (same_count c.before.before.before.args.count c.before.before.before.args.value c.before.before.before.args.row c.before.if1.false)
 
-pub is-accession-spec : {M : Type 1} → statement M
-is-accession-spec = tie.close (tie.spec returns returns-2)
+pub is_accession_spec : {M : Type 1} → statement M
+is_accession_spec = tie.close (tie.spec returns returns-2)

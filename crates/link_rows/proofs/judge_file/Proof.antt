@@ -35,8 +35,8 @@ loop-again c =
     let next = further row c.before.before.before.found.given.1 in
     (next.1, omega (arith, row.few), counted_next row c.before.before.before.found.given.1 c.before.follows.ensures c.if1.false)
 
-pub judge-file-spec : {M : Type 1} → statement M
-judge-file-spec =
+pub judge_file_spec : {M : Type 1} → statement M
+judge_file_spec =
     tie.close
     (tie.spec
     invariant-loop

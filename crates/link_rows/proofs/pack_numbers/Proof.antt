@@ -29,8 +29,8 @@ loop-again c = (omega arith, search rules, packing_next _ _ _ _ _ _ c.before.bef
 returns-2 : tie.Need-returns-2 invariant-loop decreases-loop
 returns-2 c = packed_all _ _ _ _ _ _ c.before.loop.invariant.2 c.loop-test.false
 
-pub pack-numbers-spec : {M : Type 1} → statement M
-pack-numbers-spec =
+pub pack_numbers_spec : {M : Type 1} → statement M
+pack_numbers_spec =
     tie.close
     (tie.spec
     invariant-loop

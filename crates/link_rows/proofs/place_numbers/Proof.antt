@@ -41,8 +41,8 @@ returns c =
     let inv = c.before.loop.invariant in
     sym (place_end c.before.before.before.before.args.file.now c.before.before.before.before.args.count _ _ _ c.loop-test.false) ∙ inv.2
 
-pub place-numbers-spec : {M : Type 1} → statement M
-place-numbers-spec =
+pub place_numbers_spec : {M : Type 1} → statement M
+place_numbers_spec =
     tie.close
     (tie.spec
     invariant-loop

@@ -29,7 +29,7 @@ returns c =
     let first = second.before.before.before.before in
     row_put _ _ _ _ _ _ _ _ _ (search rules) first.put-number.ensures.0 first.put-number.ensures.1 second.put-number2.ensures.0 second.put-number2.ensures.1 third.put-number3.ensures.0 third.put-number3.ensures.1
 
-pub put-row-spec : {M : Type 1} → statement M
-put-row-spec =
+pub put_row_spec : {M : Type 1} → statement M
+put_row_spec =
     tie.close
     (tie.spec put-number-requires put-number-requires-2 put-number-requires-3 (λ c. search rules) returns)

@@ -28,8 +28,8 @@ returns-4 c = (row_out (three c.before.before.before) c.before.in_range_lem.ensu
 returns-5 : tie.Need-returns-5
 returns-5 c = row_in (three c.before.before.before) c.before.in_range_lem.ensures c.if1.false
 
-pub row-at-spec : {M : Type 1} → statement M
-row-at-spec = tie.close (tie.spec
+pub row_at_spec : {M : Type 1} → statement M
+row_at_spec = tie.close (tie.spec
     (λ c κs. search rules) (λ c. search rules) (λ c. search rules)
     returns
     (λ c κs. search rules) (λ c. search rules) (λ c. search rules)

@@ -17,6 +17,6 @@ returns-2 c =
     let start = at-row-at.before.before in
     rw c.no_row.ensures (sym (step_none start.args.s.now start.args.at _ c.before.enum_told.given.1 at-row-at.row_at.ensures))
 
-pub row-from-spec : {M : Type 1} → statement M
-row-from-spec =
+pub row_from_spec : {M : Type 1} → statement M
+row_from_spec =
     tie.close (tie.spec (λ c κs. search rules) (λ c. search rules) (λ c. search rules) (λ c κs. search rules) returns returns-2)

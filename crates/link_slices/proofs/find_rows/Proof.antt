@@ -37,8 +37,8 @@ returns-2 c =
     let start = c.before.before.before.before.before.before.before.before.before.before in
     found_refused _ _ _ _ _ (loads_not start.args.directory.now start.args.image.now _ _ _ at_load.load.ensures _ c.before.r.given.1)
 
-pub find-rows-spec : {M : Type 1} → statement M
-find-rows-spec =
+pub find_rows_spec : {M : Type 1} → statement M
+find_rows_spec =
     tie.close
     (tie.spec
     (λ c κs. search rules)

@@ -16,8 +16,8 @@ returns-3 c = found_broken _ _ _ c.before.before.before.judge-file.ensures _ c.b
 returns-4 : tie.Need-returns-4
 returns-4 c = found_low _ _ _ c.before.before.before.judge-file.ensures _ c.before.i.given.1
 
-pub judge-found-spec : {M : Type 1} → statement M
-judge-found-spec =
+pub judge_found_spec : {M : Type 1} → statement M
+judge_found_spec =
     tie.close
     (tie.spec
     (λ c κs. search rules)

@@ -128,7 +128,7 @@ module _ {M : Type 1} {𝓤 : Ura M} (𝓛 : Logic 𝓤) (mem : Memory → SProp
       owned ! J.the_row (Is J.the_row) ((LL.makes J.the_type J'.the_plain) 𝓛) r _ is $ done !
 
   -- ---- the calls
-  asked-fresh : ent 𝓤 (sep 𝓤 (sem 𝓛 ftrue) (sem 𝓛 (owns [] tt tt))) ((Fresh 𝓛 mem run).pre ((tt, tt, tt, tt, tt), tt))
+  asked-fresh : ent 𝓤 (sep 𝓤 (sem 𝓛 ftrue) (sem 𝓛 (owns [] tt tt))) ((Fresh 𝓛 mem run).requires ((tt, tt, tt, tt, tt), tt))
   asked-fresh = qed 𝓛 (‵ ftrue ∷ ‵ (owns [] tt tt) ∷ []) ∵ join ! $ frame ! $ done !
 
   said-fresh : (n : Judged) → ent 𝓤 (ensured 𝓛 fresh.ended (fresh.clauses 𝓛 mem run) tt tt tt n) (fact 𝓤 (n ≡ unjudged))
@@ -140,7 +140,7 @@ module _ {M : Type 1} {𝓤 : Ura M} (𝓛 : Logic 𝓤) (mem : Memory → SProp
   abbrev to : Judged → ℕ → Row → (Judge 𝓛 mem run).Ghost
   to j i r = ((tt, tt, tt, (j, (i, (r, tt))), passed j i r), tt)
 
-  asked : (j : Judged) (i : ℕ) (r : Row) → ent 𝓤 (sep 𝓤 (sem 𝓛 ftrue) (sem 𝓛 (owns (J.the_row ∷ usize ∷ T.the_row ∷ []) (j, (i, (r, tt))) (passed j i r)))) ((Judge 𝓛 mem run).pre (to j i r))
+  asked : (j : Judged) (i : ℕ) (r : Row) → ent 𝓤 (sep 𝓤 (sem 𝓛 ftrue) (sem 𝓛 (owns (J.the_row ∷ usize ∷ T.the_row ∷ []) (j, (i, (r, tt))) (passed j i r)))) ((Judge 𝓛 mem run).requires (to j i r))
   asked j i r = qed 𝓛 (‵ ftrue ∷ ‵ (owns (J.the_row ∷ usize ∷ T.the_row ∷ []) (j, (i, (r, tt))) (passed j i r)) ∷ []) ∵ join ! $ frame ! $ done !
 
   said : (j : Judged) (i : ℕ) (r : Row) (n : Judged) → ent 𝓤 (ensured 𝓛 judge.ended (judge.clauses 𝓛 mem run) tt (j, (i, (r, tt))) tt n) (fact 𝓤 (n ≡ judged_next j i r))
@@ -214,7 +214,7 @@ module _ {M : Type 1} {𝓤 : Ura M} (𝓛 : Logic 𝓤) (mem : Memory → SProp
           elem_back ! T.the_row p xs i no_row (vals elem) b o small $
           -- [the rows; the open borrow; _2; _3; _4; _5; _6; _7; …]
           nothing ! $ owned ! T.the_row (Is T.the_row) ((LL.makes T.the_type T'.the_plain) 𝓛) elem _ gr $ fjoin ! $ owned ! usize (Is usize) (uint_Makes 𝓛 w64) i _ (refl, index) $ fjoin ! $
-          owned ! J.the_row (Is J.the_row) ((LL.makes J.the_type J'.the_plain) 𝓛) j _ isj $ fjoin ! $ nothing ! $ use2 𝓛 (raw ((Judge 𝓛 mem run).pre (to j i elem))) (asked j i elem) $
+          owned ! J.the_row (Is J.the_row) ((LL.makes J.the_type J'.the_plain) 𝓛) j _ isj $ fjoin ! $ nothing ! $ use2 𝓛 (raw ((Judge 𝓛 mem run).requires (to j i elem))) (asked j i elem) $
           calls_at ! fm (Judge 𝓛 mem run) known (to j i elem) (and_then ! (load ! (from ! (stop !)) (look ! 3 refl)) (and_then ! (load ! (from ! (stop !)) (look ! 4 refl)) (and_then ! (load ! (from ! (stop !)) (look ! 8 refl)) (no_more !)))) (λ u.
           use1 𝓛 (later (some (λ (n : Judged). (‵ ftrue ⊛ ‵ ((J.the_row).own_val n (u ∷ []))) ⊛ raw (ensured 𝓛 judge.ended (judge.clauses 𝓛 mem run) tt (j, (i, (elem, tt))) tt n)))) (id⊢ 𝓤 _) $ await ! tt $ pick ! (λ n.
           split ! $ move ! (1 ∷ []) $ use1 𝓛 (raw (fact 𝓤 (n ≡ judged_next j i elem))) (said j i elem n) $ heard ! (n ≡ judged_next j i elem) (λ e. split ! $ drop ! $
@@ -287,7 +287,7 @@ module _ {M : Type 1} {𝓤 : Ura M} (𝓛 : Logic 𝓤) (mem : Memory → SProp
     starts : ent 𝓤 (⋆ 𝓛 Entered) (Wp 𝓤 H C Λ En m.t-1 (at_return 𝓤 H En Post))
     starts =
         qed 𝓛 Entered ∵ exec ! C Λ En m.t-1 (at_ret En Post) $
-        nothing ! $ nothing ! $ use2 𝓛 (raw ((Fresh 𝓛 mem run).pre ((tt, tt, tt, tt, tt), tt))) asked-fresh $
+        nothing ! $ nothing ! $ use2 𝓛 (raw ((Fresh 𝓛 mem run).requires ((tt, tt, tt, tt, tt), tt))) asked-fresh $
         calls_at ! fm (Fresh 𝓛 mem run) known-fresh ((tt, tt, tt, tt, tt), tt) (no_more !) (λ u.
         use1 𝓛 (later (some (λ (n : Judged). (‵ ftrue ⊛ ‵ ((J.the_row).own_val n (u ∷ []))) ⊛ raw (ensured 𝓛 fresh.ended (fresh.clauses 𝓛 mem run) tt tt tt n)))) (id⊢ 𝓤 _) $ await ! tt $ pick ! (λ n.
         split ! $ move ! (1 ∷ []) $ use1 𝓛 (raw (fact 𝓤 (n ≡ unjudged))) (said-fresh n) $ heard ! (n ≡ unjudged) (λ new. split ! $ drop ! $
@@ -328,9 +328,9 @@ module _ {M : Type 1} {𝓤 : Ura M} (𝓛 : Logic 𝓤) (mem : Memory → SProp
       walk_Meets 𝓛 f.ended stayed (Goes-none_slice 𝓛 1 (0 ∷ []) tt (plain (λ _. T.the_row)) yes, tt)
       (f.clauses 𝓛 mem run) (WpFn 𝓤 H 𝓣.C 𝓣.Λ code.function) (WpFn-mono 𝓤 H 𝓛.laws 𝓣 code.function) judge-walks
 
-pub judge-rows-spec : {M : Type 1} → stated.statement M
+pub judge_rows_spec : {M : Type 1} → stated.statement M
 unfolding code.routine tables_of
-judge-rows-spec 𝓤 𝓛 𝓜 𝓡 =
+judge_rows_spec 𝓤 𝓛 𝓜 𝓡 =
     entered 𝓤 𝓛.H (triple_of 𝓛 f.signature (f.spec 𝓛 𝓜.mem 𝓡.run))
     (tables 𝓤 𝓛.H 𝓜 𝓡 code.env).C (tables 𝓤 𝓛.H 𝓜 𝓡 code.env).Λ #link-slices·judge-rows code.function (code.unfolded 𝓤 𝓛.H 𝓜 𝓡)
     (judge-meets 𝓛 𝓜.mem 𝓡.run (tables_of 𝓤 𝓛.H 𝓜 (tables 𝓤 𝓛.H 𝓜 𝓡 code.env))

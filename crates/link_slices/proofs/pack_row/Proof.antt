@@ -26,5 +26,5 @@ returns-4 c =
     let at-if1 = at-if3.before.before in
     row_packed _ _ _ (sym at-if1.before.in_range_lem.ensures ∙ not-false _ at-if1.if1.false) (omega (arith, at-if3.if3.false, at-if3.before.if2.false)) _ at-put-row.put-row.ensures.0 _ at-put-row.put-row.ensures.1
 
-pub pack-row-spec : {M : Type 1} → statement M
-pack-row-spec = tie.close (tie.spec (λ c κs. search rules) returns returns-2 returns-3 put-row-requires (λ c. search rules) returns-4)
+pub pack_row_spec : {M : Type 1} → statement M
+pack_row_spec = tie.close (tie.spec (λ c κs. search rules) returns returns-2 returns-3 put-row-requires (λ c. search rules) returns-4)

@@ -152,7 +152,7 @@ module _ {M : Type 1} {𝓤 : Ura M} (𝓛 : Logic 𝓤) (mem : Memory → SProp
   OwnA α δ bs = (MutSlice (named 0) (α ∷ []) u8).own_val (into δ bs) (slice_val (b', o') (length bs) ∷ [])
 
   asked : (α : ℕ) (δ : GName) (bs : List ℕ) (a : ℕ) (r : Row)
-      → ent 𝓤 (sep 𝓤 (sep 𝓤 (A.lft (α ∷ []) full_share) (sem 𝓛 ftrue)) (sem 𝓛 (owns (MutSlice (named 0) (α ∷ []) u8 ∷ usize ∷ T.the_row ∷ []) (asks δ bs a r) (passed bs a r)))) ((Pack 𝓛 mem run).pre (to α δ bs a r))
+      → ent 𝓤 (sep 𝓤 (sep 𝓤 (A.lft (α ∷ []) full_share) (sem 𝓛 ftrue)) (sem 𝓛 (owns (MutSlice (named 0) (α ∷ []) u8 ∷ usize ∷ T.the_row ∷ []) (asks δ bs a r) (passed bs a r)))) ((Pack 𝓛 mem run).requires (to α δ bs a r))
   asked α δ bs a r = qed 𝓛 ((‵ (flft (α ∷ []) full_share) ⊛ ‵ ftrue) ∷ ‵ (owns (MutSlice (named 0) (α ∷ []) u8 ∷ usize ∷ T.the_row ∷ []) (asks δ bs a r) (passed bs a r)) ∷ []) ∵ join ! $ frame ! $ done !
 
   module _ (𝓣 : Tables 𝓤 H) (g : Room T.the_row (length xs)) (gb : Room u8 (length bs₀)) (fm : FmC 𝓤 H 𝓛.laws 𝓣.C) (known : Triple 𝓤 (𝓣.C #link-slices·pack-row) (Pack 𝓛 mem run))
@@ -229,7 +229,7 @@ module _ {M : Type 1} {𝓤 : Ura M} (𝓛 : Logic 𝓤) (mem : Memory → SProp
           lft_new ! tt (λ α. move ! (3 ∷ []) $
           use1 𝓛 (later (some (λ (δ : GName). ‵ (OwnA α δ bs) ⊛ ‵ (flent (α ∷ []) (Held u8 (length bs) b' o' δ))))) (lends_slice 𝓛 u8 (named 0) (α ∷ []) bs b' o' (subst (Room u8) (sym long) gb)) $ await ! tt $ pick ! (λ δ. split ! $
           nothing ! $ owned ! T.the_row (Is T.the_row) ((LL.makes T.the_type T'.the_plain) 𝓛) elem _ gr $ fjoin ! $ owned ! usize (Is usize) (uint_Makes 𝓛 w64) a _ (refl, fits) $ fjoin ! $ move ! (1 ∷ 0 ∷ []) $ fjoin ! $
-          nothing ! $ move ! (3 ∷ 0 ∷ []) $ join ! $ use2 𝓛 (raw ((Pack 𝓛 mem run).pre (to α δ bs a elem))) (asked α δ bs a elem) $
+          nothing ! $ move ! (3 ∷ 0 ∷ []) $ join ! $ use2 𝓛 (raw ((Pack 𝓛 mem run).requires (to α δ bs a elem))) (asked α δ bs a elem) $
           calls_at ! fm (Pack 𝓛 mem run) known (to α δ bs a elem) (and_then ! (load ! (from ! (stop !)) (look ! 10 refl)) (and_then ! (load ! (from ! (stop !)) (look ! 5 refl)) (and_then ! (load ! (from ! (stop !)) (look ! 12 refl)) (no_more !)))) (λ u.
           use1 𝓛 (later (some (λ (n : ℕ). ((‵ (flft (α ∷ []) full_share) ⊛ ‵ ftrue) ⊛ ‵ (usize.own_val n (u ∷ []))) ⊛ raw (ensured 𝓛 pack.ended (pack.clauses 𝓛 mem run) (α ∷ [], tt) (asks δ bs a elem) tt n)))) (id⊢ 𝓤 _) $ await ! tt $ pick ! (λ n. split ! $
           move ! (1 ∷ []) $ use1 𝓛 (some (λ (ws : List ℕ × (Unit {0} × (Unit {0} × Unit {0}))). ‵ (lasts pack.ended (α ∷ [], tt) (asks δ bs a elem) ws) ⊛ raw (fact 𝓤 ((n ≡ packed_at (length bs) a elem) × (ws.0 ≡ packed_bytes a elem bs))))) (id⊢ 𝓤 _) $ pick ! (λ ws. split ! $
@@ -351,9 +351,9 @@ module _ {M : Type 1} {𝓤 : Ura M} (𝓛 : Logic 𝓤) (mem : Memory → SProp
       walk_Meets 𝓛 f.ended stayed (Goes-none_slice 𝓛 2 (0 ∷ []) tt (plain (λ _. T.the_row)) yes, (Goes-slice 𝓛 2 1 tt (plain (λ _. u8)), tt))
       (f.clauses 𝓛 mem run) (WpFn 𝓤 H 𝓣.C 𝓣.Λ code.function) (WpFn-mono 𝓤 H 𝓛.laws 𝓣 code.function) pack-walks
 
-pub pack-rows-spec : {M : Type 1} → stated.statement M
+pub pack_rows_spec : {M : Type 1} → stated.statement M
 unfolding code.routine tables_of
-pack-rows-spec 𝓤 𝓛 𝓜 𝓡 =
+pack_rows_spec 𝓤 𝓛 𝓜 𝓡 =
     entered 𝓤 𝓛.H (triple_of 𝓛 f.signature (f.spec 𝓛 𝓜.mem 𝓡.run))
     (tables 𝓤 𝓛.H 𝓜 𝓡 code.env).C (tables 𝓤 𝓛.H 𝓜 𝓡 code.env).Λ #link-slices·pack-rows code.function (code.unfolded 𝓤 𝓛.H 𝓜 𝓡)
     (pack-meets 𝓛 𝓜.mem 𝓡.run (tables_of 𝓤 𝓛.H 𝓜 (tables 𝓤 𝓛.H 𝓜 𝓡 code.env))

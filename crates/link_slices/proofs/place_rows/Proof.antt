@@ -46,7 +46,7 @@ use denote.Triple.Clauses.{ensured, lasts}
 use denote.Steps.{nothing, owned, peeks, heard, only}
 use denote.Triple.Spec.{Meets, triple_of}
 use denote.Triple.Table.{entered, cited}
-use denote.Triple.Walked.{says, needs, Stays, stay_slice, stay_none, stay_none_slice, walk_of, Walks, ends_at, walked, Goes-slice, Goes-none, Goes-none_slice, walk_Meets}
+use denote.Triple.Walked.{says, rules, Stays, stay_slice, stay_none, stay_none_slice, walk_of, Walks, ends_at, walked, Goes-slice, Goes-none, Goes-none_slice, walk_Meets}
 use Rattle.link_list.specs.declared.Row.{Row}
 use Rattle.link_list.specs.contracts.Row as T
 use Rattle.link_list.proofs.Row.TheLaws as T'
@@ -129,16 +129,16 @@ module _ {M : Type 1} {𝓤 : Ura M} (𝓛 : Logic 𝓤) (mem : Memory → SProp
   abbrev to : ℕ → (StepAt 𝓛 mem run).Ghost
   to p = (((κ, tt), (q, tt), tt, (file, (p, tt)), passed p), tt)
 
-  asked : (p : ℕ) → ent 𝓤 (on_entry 𝓛 step.signature (κ, tt) (q, tt) (file, (p, tt)) (passed p)) ((StepAt 𝓛 mem run).pre (to p))
+  asked : (p : ℕ) → ent 𝓤 (on_entry 𝓛 step.signature (κ, tt) (q, tt) (file, (p, tt)) (passed p)) ((StepAt 𝓛 mem run).requires (to p))
   asked p = qed 𝓛 ((‵ (flft κ q) ⊛ ‵ ftrue) ∷ ‵ (owns (ShrSlice (named 0) κ u8 ∷ usize ∷ []) (file, (p, tt)) (passed p)) ∷ []) ∵ join ! $ frame ! $ done !
 
   -- the slice is Copy: one copy goes to the callee, one is kept
-  lends : (p : ℕ) → p < 2 ^ 64 → ent 𝓤 (sep 𝓤 (A.lft κ q) (sem 𝓛 Own)) (sep 𝓤 ((StepAt 𝓛 mem run).pre (to p)) (sem 𝓛 Own))
+  lends : (p : ℕ) → p < 2 ^ 64 → ent 𝓤 (sep 𝓤 (A.lft κ q) (sem 𝓛 Own)) (sep 𝓤 ((StepAt 𝓛 mem run).requires (to p)) (sem 𝓛 Own))
   lends p fits =
       qed 𝓛 (‵ (flft κ q) ∷ ‵ Own ∷ []) ∵ move ! (1 ∷ []) $ use1 𝓛 (‵ Own ⊛ ‵ Own) ((shr_slice_copy 𝓛 (named 0) κ u8).twice file (fileVal ∷ [])) $ split ! $
       -- [what the file owns, twice; the token]
       nothing ! $ owned ! usize (Is usize) (uint_Makes 𝓛 w64) p _ (refl, fits) $ fjoin ! $ move ! (1 ∷ 0 ∷ []) $ fjoin ! $
-      nothing ! $ move ! (3 ∷ 0 ∷ []) $ join ! $ move ! (0 ∷ 1 ∷ []) $ use2 𝓛 (raw ((StepAt 𝓛 mem run).pre (to p))) (asked p) $ frame ! $ done !
+      nothing ! $ move ! (3 ∷ 0 ∷ []) $ join ! $ move ! (0 ∷ 1 ∷ []) $ use2 𝓛 (raw ((StepAt 𝓛 mem run).requires (to p))) (asked p) $ frame ! $ done !
 
   said : (p : ℕ) (r : Step) → ent 𝓤 (ensured 𝓛 step.ended (step.clauses 𝓛 mem run) (κ, tt) (file, (p, tt)) tt r) (fact 𝓤 (r ≡ step_at v p))
   said p r = ex_e 𝓤 _ (λ ws. snd∗ 𝓤 (sem 𝓛 (lasts step.ended (κ, tt) (file, (p, tt)) ws)) (fact 𝓤 (r ≡ step_at v p)))
@@ -195,7 +195,7 @@ module _ {M : Type 1} {𝓤 : Ura M} (𝓛 : Logic 𝓤) (mem : Memory → SProp
         assigns ! (bin ! (load ! (from ! (stop !)) (look ! 5 refl)) (load ! (from ! (stop !)) (look ! 11 refl)) tt) (from ! (stop !)) (init ! 7 refl (tt, tt)) $
         rewrite ! 7 (λ (c : Bool). ‵ (fat full_share ty_bool l₇ 0 (vbool c))) (lt-ltb i count small) refl $
         stays ! (load ! (from ! (stop !)) (look ! 7 refl)) $
-        move ! (14 ∷ 15 ∷ []) $ use2 𝓛 (raw ((StepAt 𝓛 mem run).pre (to p)) ⊛ ‵ Own) (lends p fits) $ split ! $
+        move ! (14 ∷ 15 ∷ []) $ use2 𝓛 (raw ((StepAt 𝓛 mem run).requires (to p)) ⊛ ‵ Own) (lends p fits) $ split ! $
         calls_at ! fm (StepAt 𝓛 mem run) known (to p) (and_then ! (load ! (from ! (stop !)) (look ! 12 refl)) (and_then ! (load ! (from ! (stop !)) (look ! 6 refl)) (no_more !))) (λ u.
         use1 𝓛 (later (some (λ (r : Step). ((‵ (flft κ q) ⊛ ‵ ftrue) ⊛ ‵ ((S.the_row).own_val r (u ∷ []))) ⊛ raw (ensured 𝓛 step.ended (step.clauses 𝓛 mem run) (κ, tt) (file, (p, tt)) tt r)))) (id⊢ 𝓤 _) $ await ! tt $ pick ! (λ r.
         split ! $ move ! (1 ∷ []) $ use1 𝓛 (raw (fact 𝓤 (r ≡ step_at v p))) (said p r) $ heard ! (r ≡ step_at v p) (λ e. split ! $ move ! (1 ∷ []) $
@@ -283,7 +283,7 @@ module _ {M : Type 1} {𝓤 : Ura M} (𝓛 : Logic 𝓤) (mem : Memory → SProp
   place-walks : Walks 𝓛 f.ended stayed (WpFn 𝓤 H 𝓣.C 𝓣.Λ code.function) (f.clauses 𝓛 mem run)
   place-walks = walked 𝓛 f.ended stayed (f.clauses 𝓛 mem run) (WpFn 𝓤 H 𝓣.C 𝓣.Λ code.function) (λ κs. (shr_slice_vals, (uint_vals w64, (shr_slice_vals, tt))))
       (λ κs. (shr_slice_Tells (named 0) κs.0 u8, (uint_Tells w64, (mut_slice_Tells (named 1) κs.1.0 T.the_row, tt))))
-      (λ κs qs bounds a g are. needs 𝓤 (a.1.0 ≤ length a.1.1.0.now) _ (λ within.
+      (λ κs qs bounds a g are. rules 𝓤 (a.1.0 ≤ length a.1.1.0.now) _ (λ within.
       walk 𝓛 mem run κs.0 κs.1.0 qs.0 qs.1.0 a.0 a.1.0 a.1.1.0.ref_ptr.0 a.1.1.0.ref_ptr.1 a.1.1.0.ghost_name a.1.1.0.now 𝓣 known are.0.0.1 are.1.0.1 are.1.1.0.0.1 within))
 
   place-meets : Meets 𝓛 f.signature (WpFn 𝓤 H 𝓣.C 𝓣.Λ code.function) (f.spec 𝓛 mem run)
@@ -291,9 +291,9 @@ module _ {M : Type 1} {𝓤 : Ura M} (𝓛 : Logic 𝓤) (mem : Memory → SProp
       walk_Meets 𝓛 f.ended stayed (Goes-none_slice 𝓛 2 (0 ∷ []) tt (plain (λ _. u8)) yes, (Goes-none 𝓛 2 (λ _. usize) yes (λ κs x f. refl), (Goes-slice 𝓛 2 1 tt (plain (λ _. T.the_row)), tt)))
       (f.clauses 𝓛 mem run) (WpFn 𝓤 H 𝓣.C 𝓣.Λ code.function) (WpFn-mono 𝓤 H 𝓛.laws 𝓣 code.function) place-walks
 
-pub place-rows-spec : {M : Type 1} → stated.statement M
+pub place_rows_spec : {M : Type 1} → stated.statement M
 unfolding code.routine tables_of
-place-rows-spec 𝓤 𝓛 𝓜 𝓡 =
+place_rows_spec 𝓤 𝓛 𝓜 𝓡 =
     entered 𝓤 𝓛.H (triple_of 𝓛 f.signature (f.spec 𝓛 𝓜.mem 𝓡.run))
     (tables 𝓤 𝓛.H 𝓜 𝓡 code.env).C (tables 𝓤 𝓛.H 𝓜 𝓡 code.env).Λ #link-slices·place-rows code.function (code.unfolded 𝓤 𝓛.H 𝓜 𝓡)
     (place-meets 𝓛 𝓜.mem 𝓡.run (tables_of 𝓤 𝓛.H 𝓜 (tables 𝓤 𝓛.H 𝓜 𝓡 code.env))

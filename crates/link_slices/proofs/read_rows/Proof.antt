@@ -47,7 +47,7 @@ use denote.Triple.Walked.{says, Stays, stay_none_slice, gave_slice, walk_of, Wal
 use Rattle.link_list.specs.declared.Row.{Row}
 use Rattle.link_slices.specs.declared.Found.{Found}
 use Rattle.link_list.specs.Links.{read_links, link_answer, link_list}
-use Rattle.link_answers.specs.Answers.{readTold}
+use Rattle.link_answers.specs.Answers.{read_told}
 use Rattle.link_slices.specs.Reading.{placed, FoundFor}
 use Rattle.link_list.specs.contracts.Row as T
 use Rattle.link_slices.specs.contracts.Found as F
@@ -116,7 +116,7 @@ module _ {M : Type 1} {𝓤 : Ura M} (𝓛 : Logic 𝓤) (mem : Memory → SProp
   OwnD = (ShrSlice (named 1) κ' u8).own_val directory (directoryVal ∷ [])
 
   exits : (r : Found) (ys : List Row) → Is R.the_row r.answer (EL.vals R.the_type R'.the_laws r.answer)
-      → (readTold r.answer ≡ link_answer (read_links directory.now xs) image.now) × (ys ≡ link_list (read_links directory.now xs) image.now) → length ys ≡ length xs
+      → (read_told r.answer ≡ link_answer (read_links directory.now xs) image.now) × (ys ≡ link_list (read_links directory.now xs) image.now) → length ys ≡ length xs
       → ent 𝓤 (⋆ 𝓛 (‵ (flft κ q) ∷ ‵ (flft κ' q') ∷ ‵ (flft κ'' q'') ∷ ‵ OwnI ∷ ‵ OwnD ∷ ‵ (finally T.the_row γ ys) ∷ [])) (Post (EL.val R.the_type R'.the_laws r.answer))
   exits r ys is e l =
       qed 𝓛 (‵ (flft κ q) ∷ ‵ (flft κ' q') ∷ ‵ (flft κ'' q'') ∷ ‵ OwnI ∷ ‵ OwnD ∷ ‵ (finally T.the_row γ ys) ∷ []) ∵
@@ -143,7 +143,7 @@ module _ {M : Type 1} {𝓤 : Ura M} (𝓛 : Logic 𝓤) (mem : Memory → SProp
   OwnF α l δ zs = (MutSlice (named 2) (α ∷ []) u8).own_val (file l δ zs) (slice_val (l, 0) (length zs) ∷ [])
 
   module _ {Γ : List (Item 𝓤)} {G : Goal 𝓤 H} where
-    lends-find : (α l : ℕ) (δ : GName) (zs : List ℕ) → 65025 ≤ length zs → Sq 𝓛 (raw ((Find 𝓛 mem run).pre (to-find α l δ zs)) ∷ ‵ OwnI ∷ ‵ OwnD ∷ Γ) G
+    lends-find : (α l : ℕ) (δ : GName) (zs : List ℕ) → 65025 ≤ length zs → Sq 𝓛 (raw ((Find 𝓛 mem run).requires (to-find α l δ zs)) ∷ ‵ OwnI ∷ ‵ OwnD ∷ Γ) G
         → Sq 𝓛 (‵ (flft κ q) ∷ ‵ (flft κ' q') ∷ ‵ (flft (α ∷ []) full_share) ∷ ‵ OwnI ∷ ‵ OwnD ∷ ‵ (OwnF α l δ zs) ∷ Γ) G
     lends-find α l δ zs enough k =
         move ! (3 ∷ []) $ use1 𝓛 (‵ OwnI ⊛ ‵ OwnI) ((shr_slice_copy 𝓛 (named 0) κ u8).twice image (imageVal ∷ [])) $ split ! $
@@ -152,7 +152,7 @@ module _ {M : Type 1} {𝓤 : Ura M} (𝓛 : Logic 𝓤) (mem : Memory → SProp
         nothing ! $ move ! (8 ∷ 0 ∷ []) $ fjoin ! $ owned ! usize (Is usize) (uint_Makes 𝓛 w64) (length xs) _ (refl, roomy.0) $ fjoin ! $ move ! (1 ∷ 0 ∷ []) $ fjoin ! $ move ! (2 ∷ 0 ∷ []) $ fjoin ! $
         nothing ! $ move ! (6 ∷ 0 ∷ []) $ join ! $ move ! (5 ∷ 0 ∷ []) $ join ! $ move ! (4 ∷ 0 ∷ []) $ join ! $
         -- [the tokens; what is handed over; the directory; the image]
-        use2 𝓛 (raw ((Find 𝓛 mem run).pre (to-find α l δ zs)))
+        use2 𝓛 (raw ((Find 𝓛 mem run).requires (to-find α l δ zs)))
         (qed 𝓛 ((‵ (flft κ q) ⊛ (‵ (flft κ' q') ⊛ (‵ (flft (α ∷ []) full_share) ⊛ ‵ ftrue))) ∷ ‵ (owns (ShrSlice (named 0) κ u8 ∷ ShrSlice (named 1) κ' u8 ∷ usize ∷ MutSlice (named 2) (α ∷ []) u8 ∷ []) (asks l δ zs) (passed l zs)) ∷ []) ∵ says ! enough $ frame ! $ done !) $
         move ! (0 ∷ 2 ∷ 1 ∷ []) $ k
 
@@ -176,12 +176,12 @@ module _ {M : Type 1} {𝓤 : Ura M} (𝓛 : Logic 𝓤) (mem : Memory → SProp
   OwnR = (MutSlice (named 1) κ'' T.the_row).own_val rows (rowsVal ∷ [])
 
   module _ {Γ : List (Item 𝓤)} {G : Goal 𝓤 H} where
-    lends-place : (β l : ℕ) (δ : GName) (r : Found) (zs : List ℕ) → r.count < 2 ^ 64 → r.count ≤ length xs → Sq 𝓛 (raw ((Place 𝓛 mem run).pre (to-place β l δ r zs)) ∷ Γ) G
+    lends-place : (β l : ℕ) (δ : GName) (r : Found) (zs : List ℕ) → r.count < 2 ^ 64 → r.count ≤ length xs → Sq 𝓛 (raw ((Place 𝓛 mem run).requires (to-place β l δ r zs)) ∷ Γ) G
         → Sq 𝓛 (‵ (flft (β ∷ []) full_share) ∷ ‵ (flft κ'' q'') ∷ ‵ (OwnP β l δ r zs) ∷ ‵ OwnR ∷ Γ) G
     lends-place β l δ r zs fits few k =
         nothing ! $ move ! (2 ∷ 0 ∷ []) $ join ! $ move ! (1 ∷ 0 ∷ []) $ join ! $ nothing ! $ move ! (3 ∷ 0 ∷ []) $ fjoin ! $
         owned ! usize (Is usize) (uint_Makes 𝓛 w64) r.count _ (refl, fits) $ fjoin ! $ move ! (2 ∷ 0 ∷ []) $ fjoin ! $ move ! (1 ∷ 0 ∷ []) $
-        use2 𝓛 (raw ((Place 𝓛 mem run).pre (to-place β l δ r zs)))
+        use2 𝓛 (raw ((Place 𝓛 mem run).requires (to-place β l δ r zs)))
         (qed 𝓛 ((‵ (flft (β ∷ []) full_share) ⊛ (‵ (flft κ'' q'') ⊛ ‵ ftrue)) ∷ ‵ (owns (ShrSlice (named 0) (β ∷ []) u8 ∷ usize ∷ MutSlice (named 1) κ'' T.the_row ∷ []) (wants l δ r zs) (handed l r)) ∷ []) ∵ says ! few $ frame ! $ done !) $ k
 
   module _ (𝓣 : Tables 𝓤 H) (fm : FmC 𝓤 H 𝓛.laws 𝓣.C) (known-find : Triple 𝓤 (𝓣.C #link-slices·find-rows) (Find 𝓛 mem run)) (known-place : Triple 𝓤 (𝓣.C #link-slices·place-rows) (Place 𝓛 mem run)) where
@@ -262,9 +262,9 @@ module _ {M : Type 1} {𝓤 : Ura M} (𝓛 : Logic 𝓤) (mem : Memory → SProp
       (Goes-none_slice 𝓛 3 (0 ∷ []) tt (plain (λ _. u8)) yes, (Goes-none_slice 𝓛 3 (1 ∷ []) tt (plain (λ _. u8)) yes, (Goes-gave_slice 𝓛 3 2 tt (plain (λ _. T.the_row)), tt)))
       (f.clauses 𝓛 mem run) (WpFn 𝓤 H 𝓣.C 𝓣.Λ code.function) (WpFn-mono 𝓤 H 𝓛.laws 𝓣 code.function) read-walks
 
-pub read-rows-spec : {M : Type 1} → stated.statement M
+pub read_rows_spec : {M : Type 1} → stated.statement M
 unfolding code.routine tables_of
-read-rows-spec 𝓤 𝓛 𝓜 𝓡 =
+read_rows_spec 𝓤 𝓛 𝓜 𝓡 =
     entered 𝓤 𝓛.H (triple_of 𝓛 f.signature (f.spec 𝓛 𝓜.mem 𝓡.run))
     (tables 𝓤 𝓛.H 𝓜 𝓡 code.env).C (tables 𝓤 𝓛.H 𝓜 𝓡 code.env).Λ #link-slices·read-rows code.function (code.unfolded 𝓤 𝓛.H 𝓜 𝓡)
     (read_meets 𝓛 𝓜.mem 𝓡.run (tables_of 𝓤 𝓛.H 𝓜 (tables 𝓤 𝓛.H 𝓜 𝓡 code.env))

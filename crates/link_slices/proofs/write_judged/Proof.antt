@@ -11,5 +11,5 @@ returns c =
     let at-write-packed = c.before.before in
     λ rs judged stands. at-write-packed.write-packed.ensures rs (at-write-packed.before.judgement.ensures ∙ ap judged_told judged ∙ judged_bad rs, stands)
 
-pub write-judged-spec : {M : Type 1} → statement M
-write-judged-spec = tie.close (tie.spec (λ c κs. search rules) (λ c κs. search rules) (λ c. search rules) returns)
+pub write_judged_spec : {M : Type 1} → statement M
+write_judged_spec = tie.close (tie.spec (λ c κs. search rules) (λ c κs. search rules) (λ c. search rules) returns)

@@ -51,7 +51,7 @@ use Rattle.link_judge.specs.Judged.{unjudged, judged_from}
 use Rattle.link_judge.specs.contracts.Judged as J
 use Rattle.link_judge.proofs.Judged.TheLaws as J'
 use Rattle.link_answers.specs.declared.DoneAnswer.{DoneAnswer}
-use Rattle.link_answers.specs.Answers.{doneTold}
+use Rattle.link_answers.specs.Answers.{done_told}
 use Rattle.link_answers.specs.contracts.DoneAnswer as R
 use Rattle.link_answers.proofs.DoneAnswer.TheLaws as R'
 use Rattle.link_slices.specs.Writing.{packed_from, WrittenFor}
@@ -144,7 +144,7 @@ module _ {M : Type 1} {𝓤 : Ura M} (𝓛 : Logic 𝓤) (mem : Memory → SProp
   abbrev OwnR : Fml
   OwnR = (ShrSlice (named 3) κ''' T.the_row).own_val rows (rowsVal ∷ [])
 
-  exits : (a : DoneAnswer) (w : Val) (cs : List ℕ) → (doneTold a ≡ link_answer (write_links directory.now date.now xs) bs) × (cs ≡ link_after (write_links directory.now date.now xs) bs) → length cs ≡ length bs
+  exits : (a : DoneAnswer) (w : Val) (cs : List ℕ) → (done_told a ≡ link_answer (write_links directory.now date.now xs) bs) × (cs ≡ link_after (write_links directory.now date.now xs) bs) → length cs ≡ length bs
       → ent 𝓤 (⋆ 𝓛 (‵ (flft κ q) ∷ ‵ (flft κ' q') ∷ ‵ (flft κ'' q'') ∷ ‵ (flft κ''' q''') ∷ ‵ (finally u8 γ cs) ∷ ‵ OwnD ∷ ‵ OwnE ∷ ‵ OwnR ∷ ‵ ((R.the_row).own_val a (w ∷ [])) ∷ [])) (Post w)
   exits a w cs e l =
       qed 𝓛 (‵ (flft κ q) ∷ ‵ (flft κ' q') ∷ ‵ (flft κ'' q'') ∷ ‵ (flft κ''' q''') ∷ ‵ (finally u8 γ cs) ∷ ‵ OwnD ∷ ‵ OwnE ∷ ‵ OwnR ∷ ‵ ((R.the_row).own_val a (w ∷ [])) ∷ []) ∵
@@ -157,7 +157,7 @@ module _ {M : Type 1} {𝓤 : Ura M} (𝓛 : Logic 𝓤) (mem : Memory → SProp
   abbrev to-judge : (Judge 𝓛 mem run).Ghost
   to-judge = (((κ''', tt), (q''', tt), tt, (rows, tt), (rowsVal ∷ [], tt)), tt)
 
-  asked-judge : ent 𝓤 (sep 𝓤 (sep 𝓤 (A.lft κ''' q''') (sem 𝓛 ftrue)) (sem 𝓛 (owns (ShrSlice (named 0) κ''' T.the_row ∷ []) (rows, tt) (rowsVal ∷ [], tt)))) ((Judge 𝓛 mem run).pre to-judge)
+  asked-judge : ent 𝓤 (sep 𝓤 (sep 𝓤 (A.lft κ''' q''') (sem 𝓛 ftrue)) (sem 𝓛 (owns (ShrSlice (named 0) κ''' T.the_row ∷ []) (rows, tt) (rowsVal ∷ [], tt)))) ((Judge 𝓛 mem run).requires to-judge)
   asked-judge = qed 𝓛 ((‵ (flft κ''' q''') ⊛ ‵ ftrue) ∷ ‵ (owns (ShrSlice (named 0) κ''' T.the_row ∷ []) (rows, tt) (rowsVal ∷ [], tt)) ∷ []) ∵ join ! $ frame ! $ done !
 
   said-judge : (j : Judged) → ent 𝓤 (ensured 𝓛 judging.ended (judging.clauses 𝓛 mem run) (κ''', tt) (rows, tt) tt j) (fact 𝓤 (j ≡ judged_from 0 unjudged xs))
@@ -180,7 +180,7 @@ module _ {M : Type 1} {𝓤 : Ura M} (𝓛 : Logic 𝓤) (mem : Memory → SProp
   OwnF α l δ zs = (MutSlice (named 1) (α ∷ []) u8).own_val (file l δ zs) (slice_val (l, 0) (length zs) ∷ [])
 
   asked-pack : (α l : ℕ) (δ : GName) (zs : List ℕ)
-      → ent 𝓤 (sep 𝓤 (sep 𝓤 (A.lft κ''' q''') (sep 𝓤 (A.lft (α ∷ []) full_share) (sem 𝓛 ftrue))) (sem 𝓛 (owns (ShrSlice (named 0) κ''' T.the_row ∷ MutSlice (named 1) (α ∷ []) u8 ∷ []) (asks l δ zs) (passed l zs)))) ((Pack 𝓛 mem run).pre (to-pack α l δ zs))
+      → ent 𝓤 (sep 𝓤 (sep 𝓤 (A.lft κ''' q''') (sep 𝓤 (A.lft (α ∷ []) full_share) (sem 𝓛 ftrue))) (sem 𝓛 (owns (ShrSlice (named 0) κ''' T.the_row ∷ MutSlice (named 1) (α ∷ []) u8 ∷ []) (asks l δ zs) (passed l zs)))) ((Pack 𝓛 mem run).requires (to-pack α l δ zs))
   asked-pack α l δ zs = qed 𝓛 ((‵ (flft κ''' q''') ⊛ (‵ (flft (α ∷ []) full_share) ⊛ ‵ ftrue)) ∷ ‵ (owns (ShrSlice (named 0) κ''' T.the_row ∷ MutSlice (named 1) (α ∷ []) u8 ∷ []) (asks l δ zs) (passed l zs)) ∷ []) ∵ join ! $ frame ! $ done !
 
   -- ---- the writing
@@ -207,7 +207,7 @@ module _ {M : Type 1} {𝓤 : Ura M} (𝓛 : Logic 𝓤) (mem : Memory → SProp
 
   module _ {Γ : List (Item 𝓤)} {G : Goal 𝓤 H} where
     lends-write : (β l : ℕ) (δ : GName) (k : ℕ) (zs : List ℕ) (j : Judged) → Is J.the_row j (mach j ∷ [])
-        → Sq 𝓛 (raw ((Write 𝓛 mem run).pre (to_write β l δ k zs j)) ∷ ‵ OwnD ∷ ‵ OwnE ∷ Γ) G
+        → Sq 𝓛 (raw ((Write 𝓛 mem run).requires (to_write β l δ k zs j)) ∷ ‵ OwnD ∷ ‵ OwnE ∷ Γ) G
         → Sq 𝓛 (‵ (flft κ q) ∷ ‵ (flft κ' q') ∷ ‵ (flft κ'' q'') ∷ ‵ (flft (β ∷ []) full_share) ∷ ‵ OwnI ∷ ‵ OwnD ∷ ‵ OwnE ∷ ‵ (OwnP β l δ k zs) ∷ Γ) G
     lends-write β l δ k zs j is go =
         move ! (5 ∷ []) $ use1 𝓛 (‵ OwnD ⊛ ‵ OwnD) ((shr_slice_copy 𝓛 (named 1) κ' u8).twice directory (directoryVal ∷ [])) $ split ! $
@@ -217,7 +217,7 @@ module _ {M : Type 1} {𝓤 : Ura M} (𝓛 : Logic 𝓤) (mem : Memory → SProp
         move ! (1 ∷ 0 ∷ []) $ fjoin ! $ move ! (2 ∷ 0 ∷ []) $ fjoin ! $ move ! (7 ∷ 0 ∷ []) $ fjoin ! $
         -- [what is handed over; the date; the directory; the tokens]
         nothing ! $ move ! (7 ∷ 0 ∷ []) $ join ! $ move ! (6 ∷ 0 ∷ []) $ join ! $ move ! (5 ∷ 0 ∷ []) $ join ! $ move ! (4 ∷ 0 ∷ []) $ join ! $
-        use2 𝓛 (raw ((Write 𝓛 mem run).pre (to_write β l δ k zs j))) (qed 𝓛 (Tokens β ∷ ‵ (Handed β l δ k zs j) ∷ []) ∵ join ! $ frame ! $ done !) $ move ! (0 ∷ 2 ∷ 1 ∷ []) $ go
+        use2 𝓛 (raw ((Write 𝓛 mem run).requires (to_write β l δ k zs j))) (qed 𝓛 (Tokens β ∷ ‵ (Handed β l δ k zs j) ∷ []) ∵ join ! $ frame ! $ done !) $ move ! (0 ∷ 2 ∷ 1 ∷ []) $ go
 
   module _ (𝓣 : Tables 𝓤 H) (fm : FmC 𝓤 H 𝓛.laws 𝓣.C) (known-judge : Triple 𝓤 (𝓣.C #link-slices·judge-rows) (Judge 𝓛 mem run)) (known-pack : Triple 𝓤 (𝓣.C #link-slices·pack-rows) (Pack 𝓛 mem run))
       (known-write : Triple 𝓤 (𝓣.C #link-slices·write-judged) (Write 𝓛 mem run)) where
@@ -235,7 +235,7 @@ module _ {M : Type 1} {𝓤 : Ura M} (𝓛 : Logic 𝓤) (mem : Memory → SProp
         move ! (16 ∷ []) $ use1 𝓛 (some (λ (zs : List ℕ). given (length zs ≡ 65536) (‵ (cells (in_mem u8) zs l₅ 0)))) (zeros_some 𝓛 65536 l₅) $ pick ! (λ zs. learn ! (λ long.
         -- `judge_rows`
         move ! (28 ∷ []) $ use1 𝓛 (‵ OwnR ⊛ ‵ OwnR) ((shr_slice_copy 𝓛 (named 3) κ''' T.the_row).twice rows (rowsVal ∷ [])) $ split ! $
-        nothing ! $ move ! (1 ∷ 0 ∷ []) $ fjoin ! $ nothing ! $ move ! (34 ∷ 0 ∷ []) $ join ! $ use2 𝓛 (raw ((Judge 𝓛 mem run).pre to-judge)) asked-judge $
+        nothing ! $ move ! (1 ∷ 0 ∷ []) $ fjoin ! $ nothing ! $ move ! (34 ∷ 0 ∷ []) $ join ! $ use2 𝓛 (raw ((Judge 𝓛 mem run).requires to-judge)) asked-judge $
         calls_at ! fm (Judge 𝓛 mem run) known-judge to-judge (and_then ! (load ! (from ! (stop !)) (look ! 20 refl)) (no_more !)) (λ u.
         use1 𝓛 (later (some (λ (j : Judged). ((‵ (flft κ''' q''') ⊛ ‵ ftrue) ⊛ ‵ ((J.the_row).own_val j (u ∷ []))) ⊛ raw (ensured 𝓛 judging.ended (judging.clauses 𝓛 mem run) (κ''', tt) (rows, tt) tt j)))) (id⊢ 𝓤 _) $ await ! tt $ pick ! (λ j. split ! $
         move ! (1 ∷ []) $ use1 𝓛 (raw (fact 𝓤 (j ≡ judged_from 0 unjudged xs))) (said-judge j) $ heard ! (j ≡ judged_from 0 unjudged xs) (λ ej. split ! $ split ! $ move ! (1 ∷ []) $ drop ! $
@@ -249,7 +249,7 @@ module _ {M : Type 1} {𝓤 : Ura M} (𝓛 : Logic 𝓤) (mem : Memory → SProp
         lft_new ! tt (λ α. move ! (3 ∷ []) $
         use1 𝓛 (later (some (λ (δ : GName). ‵ (OwnF α l₅ δ zs) ⊛ ‵ (flent (α ∷ []) (Held u8 (length zs) l₅ 0 δ))))) (lends_slice 𝓛 u8 (named 1) (α ∷ []) zs l₅ 0 (subst (Room u8) (sym long) (lit< tt, lit< tt))) $ await ! tt $ pick ! (λ δ. split ! $
         move ! (4 ∷ []) $ use1 𝓛 (‵ OwnR ⊛ ‵ OwnR) ((shr_slice_copy 𝓛 (named 3) κ''' T.the_row).twice rows (rowsVal ∷ [])) $ split ! $
-        nothing ! $ move ! (3 ∷ 0 ∷ []) $ fjoin ! $ move ! (1 ∷ 0 ∷ []) $ fjoin ! $ nothing ! $ move ! (4 ∷ 0 ∷ []) $ join ! $ move ! (4 ∷ 0 ∷ []) $ join ! $ use2 𝓛 (raw ((Pack 𝓛 mem run).pre (to-pack α l₅ δ zs))) (asked-pack α l₅ δ zs) $
+        nothing ! $ move ! (3 ∷ 0 ∷ []) $ fjoin ! $ move ! (1 ∷ 0 ∷ []) $ fjoin ! $ nothing ! $ move ! (4 ∷ 0 ∷ []) $ join ! $ move ! (4 ∷ 0 ∷ []) $ join ! $ use2 𝓛 (raw ((Pack 𝓛 mem run).requires (to-pack α l₅ δ zs))) (asked-pack α l₅ δ zs) $
         calls_at ! fm (Pack 𝓛 mem run) known-pack (to-pack α l₅ δ zs) (and_then ! (load ! (from ! (stop !)) (look ! 20 refl)) (and_then ! (load ! (from ! (stop !)) (look ! 11 refl)) (no_more !))) (λ v.
         use1 𝓛 (later (some (λ (n : ℕ). ((‵ (flft κ''' q''') ⊛ (‵ (flft (α ∷ []) full_share) ⊛ ‵ ftrue)) ⊛ ‵ (usize.own_val n (v ∷ []))) ⊛ raw (ensured 𝓛 packing.ended (packing.clauses 𝓛 mem run) (κ''', (α ∷ [], tt)) (asks l₅ δ zs) tt n)))) (id⊢ 𝓤 _) $ await ! tt $ pick ! (λ n. split ! $
         move ! (1 ∷ []) $ use1 𝓛 (some (λ (ws : Unit {0} × (List ℕ × Unit {0})). ‵ (lasts packing.ended (κ''', (α ∷ [], tt)) (asks l₅ δ zs) ws) ⊛ raw (fact 𝓤 ((n, ws.1.0) ≡ packed_from 0 zs xs)))) (id⊢ 𝓤 _) $ pick ! (λ ws. split ! $
@@ -276,8 +276,8 @@ module _ {M : Type 1} {𝓤 : Ura M} (𝓛 : Logic 𝓤) (mem : Memory → SProp
         calls_at ! fm (Write 𝓛 mem run) known-write (to_write β l₅ δ' n ys j)
         (and_then ! (load ! (from ! (stop !)) (look ! 10 refl)) (and_then ! (load ! (from ! (stop !)) (look ! 27 refl)) (and_then ! (load ! (from ! (stop !)) (look ! 25 refl)) (and_then ! (load ! (from ! (stop !)) (look ! 20 refl)) (and_then ! (load ! (from ! (stop !)) (look ! 6 refl)) (no_more !)))))) (λ w.
         use1 𝓛 (later (some (λ (a : DoneAnswer). (Tokens β ⊛ ‵ ((R.the_row).own_val a (w ∷ []))) ⊛ raw (ensured 𝓛 writing.ended (writing.clauses 𝓛 mem run) (κ, (κ', (κ'', (β ∷ [], tt)))) (wants l₅ δ' n ys j) tt a)))) (id⊢ 𝓤 _) $ await ! tt $ pick ! (λ a. split ! $
-        move ! (1 ∷ []) $ use1 𝓛 (some (λ (vs : List ℕ × (Unit {0} × (Unit {0} × (Unit {0} × (Unit {0} × Unit {0}))))). ‵ (lasts writing.ended (κ, (κ', (κ'', (β ∷ [], tt)))) (wants l₅ δ' n ys j) vs) ⊛ raw (fact 𝓤 (WrittenFor j (take n ys) directory.now date.now bs (doneTold a) vs.0)))) (id⊢ 𝓤 _) $ pick ! (λ vs. split ! $
-        move ! (1 ∷ []) $ heard ! (WrittenFor j (take n ys) directory.now date.now bs (doneTold a) vs.0) (λ ew.
+        move ! (1 ∷ []) $ use1 𝓛 (some (λ (vs : List ℕ × (Unit {0} × (Unit {0} × (Unit {0} × (Unit {0} × Unit {0}))))). ‵ (lasts writing.ended (κ, (κ', (κ'', (β ∷ [], tt)))) (wants l₅ δ' n ys j) vs) ⊛ raw (fact 𝓤 (WrittenFor j (take n ys) directory.now date.now bs (done_told a) vs.0)))) (id⊢ 𝓤 _) $ pick ! (λ vs. split ! $
+        move ! (1 ∷ []) $ heard ! (WrittenFor j (take n ys) directory.now date.now bs (done_told a) vs.0) (λ ew.
         fsplit ! $ fsplit ! $ move ! (1 ∷ []) $ feq_l ! (λ same'. move ! (1 ∷ []) $ drop ! $
         move ! (1 ∷ []) $ split ! $ move ! (1 ∷ []) $ peeks ! R.the_row (Is R.the_row) (shows 𝓛 R.the_row) a (w ∷ []) (λ isa.
         land ! (from ! (stop !)) (init ! 33 refl ((EL.lawful R.the_type R'.the_laws 𝓛 tt).typed a _ isa).0) $
@@ -308,9 +308,9 @@ module _ {M : Type 1} {𝓤 : Ura M} (𝓛 : Logic 𝓤) (mem : Memory → SProp
       )
       (f.clauses 𝓛 mem run) (WpFn 𝓤 H 𝓣.C 𝓣.Λ code.function) (WpFn-mono 𝓤 H 𝓛.laws 𝓣 code.function) write_walks
 
-pub write-rows-spec : {M : Type 1} → stated.statement M
+pub write_rows_spec : {M : Type 1} → stated.statement M
 unfolding code.routine tables_of
-write-rows-spec 𝓤 𝓛 𝓜 𝓡 =
+write_rows_spec 𝓤 𝓛 𝓜 𝓡 =
     entered 𝓤 𝓛.H (triple_of 𝓛 f.signature (f.spec 𝓛 𝓜.mem 𝓡.run))
     (tables 𝓤 𝓛.H 𝓜 𝓡 code.env).C (tables 𝓤 𝓛.H 𝓜 𝓡 code.env).Λ #link-slices·write-rows code.function (code.unfolded 𝓤 𝓛.H 𝓜 𝓡)
     (write_meets 𝓛 𝓜.mem 𝓡.run (tables_of 𝓤 𝓛.H 𝓜 (tables 𝓤 𝓛.H 𝓜 𝓡 code.env))

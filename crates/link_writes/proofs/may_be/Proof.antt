@@ -15,5 +15,5 @@ returns-2 c =
     let said = c.is_path_lem.ensures in
     (λ e. (subst T (sym e ∙ said) tt, omega (arith, c.before.if1.false)), λ e p. absurd (subst T (sym said ∙ e) p))
 
-pub may-be-spec : {M : Type 1} → statement M
-may-be-spec = tie.close (tie.spec returns (λ c κs. search rules) returns-2)
+pub may_be_spec : {M : Type 1} → statement M
+may_be_spec = tie.close (tie.spec returns (λ c κs. search rules) returns-2)

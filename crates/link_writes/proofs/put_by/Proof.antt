@@ -31,8 +31,8 @@ returns c =
     let path = path_read at_path.links-path.result at_path.links-path.new.1.0 _ (onward args.directory.now links_name) at_path.links-path.ensures.0.0 at_path.links-path.ensures.1 in
     (c.before.before.put.ensures.0 ∙ ap (λ (p : Bytes). run_answer (anew p args.date.now args.bytes.now args.image.now) args.image.now) path, c.before.before.put.ensures.1 ∙ ap (λ (p : Bytes). run_whole (anew p args.date.now args.bytes.now args.image.now) args.image.now) path)
 
-pub put-by-spec : {M : Type 1} → statement M
-put-by-spec =
+pub put_by_spec : {M : Type 1} → statement M
+put_by_spec =
     tie.close
     (tie.spec
     links-path-requires

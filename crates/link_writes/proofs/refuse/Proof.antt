@@ -1,6 +1,6 @@
 -- What is asked before the rows leaves the image as it was.
 use Rattle.model.specs.Call.{Answer, refused}
-use Rattle.link_answers.specs.Answers.{linkRefusal}
+use Rattle.link_answers.specs.Answers.{link_refusal}
 use Rattle.link_old.specs.Before.{old_told}
 use Rattle.link_anew.specs.Anew.{then_answer}
 use mathlib.Core.Path.{sym, ap, ◌∙◌}
@@ -13,16 +13,16 @@ returns : tie.Need-returns
 unfolding then_answer
 returns c =
     let said = c.before.before.before.before.old-links.ensures in
-    (ap (λ (a : Answer Bool). then_answer {B = Unit {0}} a (refused (linkRefusal c.before.before.before.before.before.before.before.before.before.args.refusal))) (ap old_told (sym c.enum_told.given.1) ∙ said.0), said.1)
+    (ap (λ (a : Answer Bool). then_answer {B = Unit {0}} a (refused (link_refusal c.before.before.before.before.before.before.before.before.before.args.refusal))) (ap old_told (sym c.enum_told.given.1) ∙ said.0), said.1)
 
 returns-2 : tie.Need-returns-2
 unfolding then_answer
 returns-2 c =
     let said = c.before.before.before.before.before.old-links.ensures in
-    (ap (λ (a : Answer Bool). then_answer {B = Unit {0}} a (refused (linkRefusal c.before.before.before.before.before.before.before.before.before.before.args.refusal))) (ap old_told (sym c.before.r.given.1) ∙ said.0), said.1)
+    (ap (λ (a : Answer Bool). then_answer {B = Unit {0}} a (refused (link_refusal c.before.before.before.before.before.before.before.before.before.before.args.refusal))) (ap old_told (sym c.before.r.given.1) ∙ said.0), said.1)
 
-pub refuse-spec : {M : Type 1} → statement M
-refuse-spec =
+pub refuse_spec : {M : Type 1} → statement M
+refuse_spec =
     tie.close
     (tie.spec
     (λ c κs. search rules)

@@ -1,5 +1,5 @@
 -- The calls in turn are the writing; a path that no directory has is refused before the rows.
-use Rattle.answers.specs.Answers.{changeAnswer}
+use Rattle.answers.specs.Answers.{change_answer}
 use Rattle.link_writes.proofs.Written.{path_refused}
 use Rattle.link_writes.proofs.First.{first_written}
 use mathlib.Core.Path.{sym, ap, ◌∙◌}
@@ -21,16 +21,16 @@ returns-2 : tie.Need-returns-2
 returns-2 c =
     let args = c.before.before.before.before.before.before.before.before.before.before.before.before.args in λ rs good k.
     let w = first_written args.directory.now args.date.now args.bytes.now args.image.now (c.before.before.before.before.before.before.before.may-be.ensures.0 (not-false _ c.before.before.before.before.before.before.if1.false)).0 rs good k in
-    (ap changeAnswer (sym c.enum_told.given.1) ∙ c.before.before.before.before.put_file.ensures.0 ∙ w.0, c.before.before.before.before.put_file.ensures.1 ∙ w.1)
+    (ap change_answer (sym c.enum_told.given.1) ∙ c.before.before.before.before.put_file.ensures.0 ∙ w.0, c.before.before.before.before.put_file.ensures.1 ∙ w.1)
 
 returns-3 : tie.Need-returns-3
 returns-3 c =
     let args = c.before.before.before.before.before.before.before.before.before.before.before.before.before.args in λ rs good k.
     let w = first_written args.directory.now args.date.now args.bytes.now args.image.now (c.before.before.before.before.before.before.before.before.may-be.ensures.0 (not-false _ c.before.before.before.before.before.before.before.if1.false)).0 rs good k in
-    (ap changeAnswer (sym c.before.r.given.1) ∙ c.before.before.before.before.before.put_file.ensures.0 ∙ w.0, c.before.before.before.before.before.put_file.ensures.1 ∙ w.1)
+    (ap change_answer (sym c.before.r.given.1) ∙ c.before.before.before.before.before.put_file.ensures.0 ∙ w.0, c.before.before.before.before.before.put_file.ensures.1 ∙ w.1)
 
-pub write-good-spec : {M : Type 1} → statement M
-write-good-spec =
+pub write_good_spec : {M : Type 1} → statement M
+write_good_spec =
     tie.close
     (tie.spec
     (λ c κs. search rules)

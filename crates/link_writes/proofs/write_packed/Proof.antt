@@ -24,8 +24,8 @@ returns-3 c =
     let w = row_refused args.directory.now args.date.now args.image.now rs _ (ap list_told (sym c.before.before.before.before.before.judged2.given.1) ∙ k.0) in
     (c.before.before.refuse2.ensures.0 ∙ w.0, c.before.before.refuse2.ensures.1 ∙ w.1)
 
-pub write-packed-spec : {M : Type 1} → statement M
-write-packed-spec =
+pub write_packed_spec : {M : Type 1} → statement M
+write_packed_spec =
     tie.close
     (tie.spec
     (λ c. search rules)

@@ -6,20 +6,20 @@ use Rattle.places.proofs.Arrivals.{placed_arrived}
 use Rattle.places.specs.Places.{the_root}
 use Rattle.laws.proofs.Slots.{size}
 use Rattle.answers.proofs.Files.{at_root}
-use Rattle.fields.proofs.Plain.{needs, arith}
+use Rattle.fields.proofs.Plain.{rules, arith}
 use Rattle.listed.proofs.list as fn
 
-pub list-spec : {M : Type 1} → fn.Statement.statement M
-list-spec = fn.Tie.close (fn.Tie.spec
-    (λ c. search needs) (λ c. search needs) (λ c. search needs) (λ c. search needs) (λ c. search needs)
+pub list_spec : {M : Type 1} → fn.Statement.statement M
+list_spec = fn.Tie.close (fn.Tie.spec
+    (λ c. search rules) (λ c. search rules) (λ c. search rules) (λ c. search rules) (λ c. search rules)
     (λ c. blank_refused _ c.unnamed.ensures (list_refused _ _ _ (search stopped_refused)))
-    (λ c. search needs)
+    (λ c. search rules)
     (λ c κs.
     let s = placed_arrived _ _ the_root (rw (c.before.before.before.arrival.given.1, c.enum-told2.given.1) at
     c.before.before.before.before.before.arrive.ensures) in
     let z = size s.facts in
     (omega arith, omega arith))
-    (λ c. search needs) (λ c. search needs) (λ c. search needs)
+    (λ c. search rules) (λ c. search rules) (λ c. search rules)
     (λ c κs.
     let s = placed_arrived _ _ _ (rw (c.before.before.before.before.arrival.given.1, c.before.place2.given.1) at
     c.before.before.before.before.before.before.arrive.ensures) in

@@ -3,8 +3,8 @@ use Rattle.listed2.proofs.Lists.{told_vacant, told_file, told_directory}
 use borrow.Author.Rules.{rules}
 use Rattle.listed2.proofs.entry_told as fn
 
-pub entry-told-spec : {M : Type 1} → fn.Statement.statement M
-entry-told-spec = fn.Tie.close (fn.Tie.spec
+pub entry_told_spec : {M : Type 1} → fn.Statement.statement M
+entry_told_spec = fn.Tie.close (fn.Tie.spec
     (λ c. search rules) (λ c. search rules) (λ c. search rules) (λ c. search rules) (λ c. search rules) (λ c. search rules) (λ c. search rules) (λ c. search rules) (λ c. search rules)
     (λ c. search rules)
     (λ c. told_vacant _ _ _ _ c.unnamed.ensures (rw c.before.enum_told.given.1 at c.before.before.before.entry_at.ensures.0))

@@ -8,8 +8,8 @@ use Rattle.places2.proofs.Held.{reads2, known_at, at_root, at_file, at_directory
 use borrow.Author.Rules.{rules}
 use Rattle.listed2.proofs.list as fn
 
-pub list-spec : {M : Type 1} → fn.Statement.statement M
-list-spec = fn.Tie.close (fn.Tie.spec
+pub list_spec : {M : Type 1} → fn.Statement.statement M
+list_spec = fn.Tie.close (fn.Tie.spec
     (λ c. search rules) (λ c. search rules) (λ c. search rules) (λ c. search rules) (λ c. search rules)
     (λ c. blank_refused _ c.unnamed.ensures (list_refused reads2 _ _ _ (search stopped_refused)))
     (λ c. search rules)

@@ -4,8 +4,8 @@ use Rattle.known2.proofs.Rows.{known_roomy, known_some, housed_lies}
 use borrow.Author.Rules.{rules}
 use Rattle.listed2.proofs.list_entry as fn
 
-pub list-entry-spec : {M : Type 1} → fn.Statement.statement M
-list-entry-spec = fn.Tie.close (fn.Tie.spec
+pub list_entry_spec : {M : Type 1} → fn.Statement.statement M
+list_entry_spec = fn.Tie.close (fn.Tie.spec
     (λ c κs. let k = c.before.before.requires in (known_roomy k.0, known_some k.0, housed_lies k.0 k.1))
     (λ c. search rules) (λ c. search rules) (λ c. search rules)
     (λ c. blank_refused _ c.unnamed.ensures (search list_past))

@@ -9,8 +9,8 @@ invariant-loop image window₀ window = window ≤ 0x10000000000
 abbrev decreases-loop : fn.Tie.decreases-loop
 decreases-loop image window₀ window = 0x10000000000 - window
 
-pub write-all-parts-spec : {M : Type 1} → fn.Statement.statement M
-write-all-parts-spec = fn.Tie.close (fn.Tie.spec
+pub write_all_parts_spec : {M : Type 1} → fn.Statement.statement M
+write_all_parts_spec = fn.Tie.close (fn.Tie.spec
     invariant-loop decreases-loop
     (λ c. search rules)
     (λ c. search rules)

@@ -6,8 +6,8 @@ use lib.Seq.{length-take-le}
 use borrow.Author.Rules.{rules}
 use Rattle.listing.proofs.write_part as fn
 
-pub write-part-spec : {M : Type 1} → fn.Statement.statement M
-write-part-spec = fn.Tie.close (fn.Tie.spec
+pub write_part_spec : {M : Type 1} → fn.Statement.statement M
+write_part_spec = fn.Tie.close (fn.Tie.spec
     (λ c. search rules)
     (λ c κs. search rules)
     (λ c.

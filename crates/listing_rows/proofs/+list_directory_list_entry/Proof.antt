@@ -5,7 +5,7 @@ use lib.Seq.{length-take-le}
 use borrow.Fn.PlainCycle.{Measures, is, falls, and}
 use Rattle.model.specs.Text.{text}
 use Rattle.fields.proofs as fields
-use Rattle.fields.proofs.Plain.{needs, arith, ◌≡◌, refl, sym, ◌∙◌, ℕ, ◌+◌, ◌*◌, ◌-◌, ◌≤◌, ◌<◌, length}
+use Rattle.fields.proofs.Plain.{rules, arith, ◌≡◌, refl, sym, ◌∙◌, ℕ, ◌+◌, ◌*◌, ◌-◌, ◌≤◌, ◌<◌, length}
 use Rattle.listing_lines.specs.Window.{window}
 use Rattle.listing_lines.proofs as lines
 use Rattle.listing_rows.proofs as listing
@@ -21,9 +21,9 @@ abbrev μ-directory : Measures 3 dps ℕ
 abbrev μ-entry : Measures 3 eps ℕ
 μ-entry κs a = 2 * a.1.1.0 + 1
 
-pub +list-directory-list-entry-spec : {M : Type 1} → statement M
+pub +list_directory_list_entry_spec : {M : Type 1} → statement M
 unfolding text
-+list-directory-list-entry-spec = close μ-directory μ-entry
++list_directory_list_entry_spec = close μ-directory μ-entry
     (λ t. directory (
       fields.entry_count.Reads.Asked,
       fields.entry_count.Reads.Learnt,
@@ -39,18 +39,18 @@ unfolding text
     (λ image directory depth path₀ len out₀ count sink i₀ path out listed i. count - i)
     -- at depth 0 nothing is listed
     (λ c. (search leads_none, refl))
-    (λ c. search needs)
-    (λ c. (search needs, refl, refl, refl, search leads_first))
+    (λ c. search rules)
+    (λ c. (search rules, refl, refl, refl, search leads_first))
     (λ c κs. omega arith)
-    (λ c. search needs)
+    (λ c. search rules)
     (λ c κs. (omega arith, (omega arith, search entry_readable, omega arith)))
-    (λ c. search needs) (λ c. search needs)
+    (λ c. search rules) (λ c. search rules)
     (λ c.
     let test = c.before.before.before.before.before.before.before.before in
     let l = test.before.loop in
     let at = c.before.before.before.before.before.before.before.entry_position in
     let e = c.before.before.before.before.list-entry in (
-      search needs,
+      search rules,
       e.kept.1.1.1.0 ∙ l.inv.1,
       e.kept.1.1.1.1.1.0 ∙ l.inv.2,
       e.ensures.1 ∙ l.inv.3,
@@ -71,27 +71,27 @@ unfolding text
     )
     (and 3 eps (is 3 eps μ-entry t) epre) epost
     (λ c κs. omega arith)
-    (λ c. search needs) (λ c. search needs)
+    (λ c. search rules) (λ c. search rules)
     (λ c κs. omega arith)
-    (λ c. search needs)
+    (λ c. search rules)
     -- a file: its path, and its line
     (λ c.
     let x = c.before.before.before.before.extend in
     sym (length-take-le x.result x.last.1.1.0 (omega (arith, x.kept.1.1.0, x.ensures.high))))
-    (λ c. search needs) (λ c. search needs)
+    (λ c. search rules) (λ c. search rules)
     (λ c κs. omega arith)
-    (λ c. search needs)
+    (λ c. search rules)
     -- a directory: its path, its line, and what is below
     (λ c.
     let x = c.before.before.before.before.extend2 in
     sym (length-take-le x.result x.last.1.1.0 (omega (arith, x.kept.1.1.0, x.ensures.high))))
-    (λ c. search needs)
+    (λ c. search rules)
     (λ c κs.
     let x = c.before.before.before.before.before.before.before.before.before.extend2 in
     (omega arith, (search below_inside, search below_readable, omega (arith, x.kept.1.1.0, x.ensures.high))))
     -- a vacant entry
     (λ c. (search vacant_poured, refl))
-    (λ c. search needs) (λ c. search needs)
+    (λ c. search rules) (λ c. search rules)
     (λ c. (search file_poured, c.before.before.before.before.before.before.before.extend.ensures.front))
-    (λ c. search needs) (λ c. search needs)
+    (λ c. search rules) (λ c. search rules)
     (λ c. (search directory_poured, search front_kept)))

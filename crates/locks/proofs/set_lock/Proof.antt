@@ -5,8 +5,8 @@ use Rattle.answers.proofs.Files.{file_flags}
 use borrow.Author.Rules.{rules}
 use Rattle.locks.proofs.set_lock as fn
 
-pub set-lock-spec : {M : Type 1} → fn.Statement.statement M
-set-lock-spec = fn.Tie.close (fn.Tie.spec
+pub set_lock_spec : {M : Type 1} → fn.Statement.statement M
+set_lock_spec = fn.Tie.close (fn.Tie.spec
     (λ c. search rules) (λ c. search rules) (λ c. search rules) (λ c. search rules) (λ c. search rules)
     (λ c. lock_refused _ _ _ (search stopped_refused))
     (λ c. search rules) (λ c. search rules)

@@ -23,8 +23,8 @@ returns-3 c =
     lock_done _ _ place.before.before.before.arrival.given.1 place.before.before.before.before.before.arrive.ensures
     _ place.place.given.1 c.before.before.lock-entry.ensures
 
-pub set-lock-spec : {M : Type 1} → fn.Statement.statement M
-set-lock-spec = fn.Tie.close (fn.Tie.spec
+pub set_lock_spec : {M : Type 1} → fn.Statement.statement M
+set_lock_spec = fn.Tie.close (fn.Tie.spec
     (λ c κs. search rules) (λ c. search rules) (λ c. search rules) (λ c κs. search rules) (λ c. search rules)
     returns
     (λ c. search rules) (λ c. search rules)

@@ -4,8 +4,8 @@ use Rattle.judge2.specs.Answers.{refused}
 use borrow.Author.Rules.{rules}
 use Rattle.looks2.proofs.verdict as fn
 
-pub verdict-spec : {M : Type 1} → fn.Statement.statement M
-verdict-spec = fn.Tie.close (fn.Tie.spec
+pub verdict_spec : {M : Type 1} → fn.Statement.statement M
+verdict_spec = fn.Tie.close (fn.Tie.spec
     (λ c. search rules) (λ c. search rules) (λ c. search rules) (λ c. search rules) (λ c. search rules) (λ c. search rules)
     (λ c. judged_told _ _ (rw c.before.cartridge.given.1 at c.before.before.before.judge-image.ensures.0))
     (λ c. judged_told _ (refused _) (rw c.enum_told.given.1 at c.before.before.judge-image.ensures.0))

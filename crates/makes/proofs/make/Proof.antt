@@ -5,7 +5,7 @@ use Rattle.openings.specs.Openings.{opening}
 use Rattle.model.specs.Name.{padded}
 use Rattle.model.specs.Call.{granted}
 use lib.ListN.{take}
-use Rattle.fields.proofs.Plain.{◌≡◌, ◌-◌, length, drop, needs, arith}
+use Rattle.fields.proofs.Plain.{◌≡◌, ◌-◌, length, drop, rules, arith}
 use Rattle.makes.proofs.make as fn
 
 -- the entry and the name that were found are those of the model's opening
@@ -20,16 +20,16 @@ opened c = rw c.opening.given.1 at c.before.before.find-opening.ensures.1
 
 pub make_spec : {M : Type 1} → fn.Statement.statement M
 make_spec = fn.Tie.close (fn.Tie.spec
-    (λ c. search needs) (λ c. search needs) (λ c. search needs) (λ c. search needs) (λ c. search needs)
+    (λ c. search rules) (λ c. search rules) (λ c. search rules) (λ c. search rules) (λ c. search rules)
     (λ c. make_refused _ _ _ _ _ _ (search stopped_refused))
     (λ c κs. long _ _ _ 0 (opened c.before.before))
-    (λ c. search needs)
+    (λ c. search rules)
     (λ c. make_lacking _ _ _ _ (opened c.before.before.before.before) _ _ (omega arith))
     (λ c. search begins_inside)
     (λ c. search begins_inside)
-    (λ c. search needs)
+    (λ c. search rules)
     (λ c κs. search name_fits)
-    (λ c. search needs)
-    (λ c κs. can_make _ _ _ _ (opened c.before.before.before.before.before.before.before.before) (omega arith) _ _ (search needs) c.before.before.pad.ensures)
-    (λ c. search needs)
+    (λ c. search rules)
+    (λ c κs. can_make _ _ _ _ (opened c.before.before.before.before.before.before.before.before) (omega arith) _ _ (search rules) c.before.before.pad.ensures)
+    (λ c. search rules)
     (λ c. make_done _ _ _ _ (opened c.before.before.before.before.before.before.before.before.before.before.before) (omega arith) _ _ c.before.before.before.before.before.pad.ensures c.before.before.make-entry.ensures))

@@ -11,5 +11,5 @@ returns c =
       c.before.before.make.ensures.1 ∙ directory_after start.args.image.now start.args.path.now start.args.date.now,
     )
 
-pub make-directory-spec : {M : Type 1} → fn.Statement.statement M
-make-directory-spec = fn.Tie.close (fn.Tie.spec (λ c. search rules) (λ c. search rules) returns)
+pub make_directory_spec : {M : Type 1} → fn.Statement.statement M
+make_directory_spec = fn.Tie.close (fn.Tie.spec (λ c. search rules) (λ c. search rules) returns)

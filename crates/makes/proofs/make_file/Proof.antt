@@ -14,5 +14,5 @@ returns c =
           start.args.path.now start.args.date.now,
     )
 
-pub make-file-spec : {M : Type 1} → fn.Statement.statement M
-make-file-spec = fn.Tie.close (fn.Tie.spec (λ c. search rules) (λ c. search rules) (λ c. search rules) returns)
+pub make_file_spec : {M : Type 1} → fn.Statement.statement M
+make_file_spec = fn.Tie.close (fn.Tie.spec (λ c. search rules) (λ c. search rules) (λ c. search rules) returns)

@@ -3,8 +3,8 @@ use Rattle.makes2.proofs.Rooms.{there_lowest, there_roomy, full_lengthening, ful
 use borrow.Author.Rules.{rules}
 use Rattle.makes2.proofs.entry_in as fn
 
-pub entry-in-spec : {M : Type 1} → fn.Statement.statement M
-entry-in-spec = fn.Tie.close (fn.Tie.spec
+pub entry_in_spec : {M : Type 1} → fn.Statement.statement M
+entry_in_spec = fn.Tie.close (fn.Tie.spec
     (λ c. search rules) (λ c. search rules)
     (λ c κs. search full_lengthening)
     (λ c κs. (search full_known, search full_housed))

@@ -4,8 +4,8 @@ use Rattle.known2.proofs.Rows.{known_roomy, known_some, housed_lies}
 use borrow.Author.Rules.{rules}
 use Rattle.makes2.proofs.lowest_vacant as fn
 
-pub lowest-vacant-spec : {M : Type 1} → fn.Statement.statement M
-lowest-vacant-spec = fn.Tie.close (fn.Tie.spec
+pub lowest_vacant_spec : {M : Type 1} → fn.Statement.statement M
+lowest_vacant_spec = fn.Tie.close (fn.Tie.spec
     (λ c κs. (search known_roomy, search known_some, search housed_lies))
     (λ c. search rules) (λ c. search rules)
     (λ c. search lowest_there)

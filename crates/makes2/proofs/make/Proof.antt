@@ -3,7 +3,7 @@ use Rattle.makes2.proofs.Makes.{Opens, opens, name_fits, size_small, date_long, 
 use Rattle.arrivals.proofs.Makes.{make_refused}
 use Rattle.openings2.proofs.Openings.{stopped_refused}
 use Rattle.judge2.proofs.Image.{count_lies}
-use Rattle.fields.proofs.Plain.{needs, arith}
+use Rattle.fields.proofs.Plain.{rules, arith}
 use Rattle.makes2.proofs.make as fn
 
 -- what was found is the model's opening
@@ -13,22 +13,22 @@ found c = let a = c.before.before.before.before.before.before.before.args in ope
 
 pub make_spec : {M : Type 1} → fn.Statement.statement M
 make_spec = fn.Tie.close (fn.Tie.spec
-    (λ c. search needs) (λ c. search needs) (λ c. search needs) (λ c. search needs) (λ c. search needs)
+    (λ c. search rules) (λ c. search rules) (λ c. search rules) (λ c. search rules) (λ c. search rules)
     (λ c. make_refused _ _ _ _ _ _ _ (search stopped_refused))
-    (λ c. search needs)
+    (λ c. search rules)
     (λ c κs. count_lies (found c.before.before.before.before).known.formed)
-    (λ c. search needs)
+    (λ c. search rules)
     (λ c. make_short (found c.before.before.before.before.before.before) c.before.load.ensures.0 c.before.before.before.pages-wanted.ensures _ _ (omega arith))
     (λ c. (found c.before.before.before.before.before.before).inside)
     (λ c. (found c.before.before.before.before.before.before).inside)
-    (λ c. search needs)
+    (λ c. search rules)
     (λ c κs. name_fits (found c.before.before.before.before.before.before.before))
-    (λ c. omega (arith, size_small (found c.before.before.before.before.before.before.before.before.before) _ c.before.before.before.before.before.before.before.before.before.before.before.before.before.before.before.before.pre))
-    (λ c. search needs)
+    (λ c. omega (arith, size_small (found c.before.before.before.before.before.before.before.before.before) _ c.before.before.before.before.before.before.before.before.before.before.before.before.before.before.before.before.requires))
+    (λ c. search rules)
     (λ c κs.
     let o = found c.before.before.before.before.before.before.before.before.before.before.before in
     let free = c.before.before.before.before.before.before.load.ensures.0 in
     let wants = c.before.before.before.before.before.before.before.before.pages-wanted.ensures in
-    (make_fillable o free wants (omega arith), name_long o free wants (omega arith) c.before.before.before.pad.ensures, date_long o, size_small o _ c.before.before.before.before.before.before.before.before.before.before.before.before.before.before.before.before.before.before.pre))
-    (λ c. search needs)
+    (make_fillable o free wants (omega arith), name_long o free wants (omega arith) c.before.before.before.pad.ensures, date_long o, size_small o _ c.before.before.before.before.before.before.before.before.before.before.before.before.before.before.before.before.before.before.requires))
+    (λ c. search rules)
     (λ c. make_filled (found c.before.before.before.before.before.before.before.before.before.before.before.before.before.before) c.before.before.before.before.before.before.before.before.before.load.ensures.0 c.before.before.before.before.before.before.before.before.before.before.before.pages-wanted.ensures (omega arith) c.before.before.before.before.before.before.pad.ensures _ _ c.before.before.fill.ensures))

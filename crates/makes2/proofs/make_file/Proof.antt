@@ -1,6 +1,6 @@
 -- A file of no byte, on one page: what `make` ensures of these is the model's answer.
 use Rattle.makes2.proofs.Makes.{file_answer, file_after}
-use Rattle.fields.proofs.Plain.{◌∙◌, needs, arith}
+use Rattle.fields.proofs.Plain.{◌∙◌, rules, arith}
 use Rattle.makes2.proofs.make_file as fn
 
 returns : fn.Tie.Need-returns
@@ -10,5 +10,5 @@ returns c =
       c.before.before.make.ensures.1 ∙ file_after start.args.image.now start.args.path.now start.args.date.now,
     )
 
-pub make-file-spec : {M : Type 1} → fn.Statement.statement M
-make-file-spec = fn.Tie.close (fn.Tie.spec (λ c κs. omega arith) (λ c. search needs) returns)
+pub make_file_spec : {M : Type 1} → fn.Statement.statement M
+make_file_spec = fn.Tie.close (fn.Tie.spec (λ c κs. omega arith) (λ c. search rules) returns)

@@ -13,8 +13,8 @@ returns c =
     let start = first_byte.before.before.before in
     copied _ _ _ _ _ _ first_byte.first_byte.ensures refl (omega arith) start.requires.1 copy-in.copy-in.ensures
 
-pub copy-page-spec : {M : Type 1} → statement M
-copy-page-spec =
+pub copy_page_spec : {M : Type 1} → statement M
+copy_page_spec =
     tie.close
     (tie.spec
     (λ c κs. search rules)

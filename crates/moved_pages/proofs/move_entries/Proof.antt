@@ -59,8 +59,8 @@ returns c =
     let u : turn.loop.i ≤ entry_count start.args.directory.0 = omega arith in
     entries_last _ _ _ _ _ _ l u turn.loop.invariant.1
 
-pub move-entries-spec : {M : Type 1} → statement M
-move-entries-spec =
+pub move_entries_spec : {M : Type 1} → statement M
+move_entries_spec =
     tie.close
     (tie.spec
     invariant-loop

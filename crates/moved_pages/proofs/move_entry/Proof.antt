@@ -18,8 +18,8 @@ returns-2 c =
     let start = copy-entry.before.before.before.before.before.before in
     entry_stays _ _ _ _ _ _ _ refl start.requires.0 start.requires.1 copy-entry.copy-entry.ensures c.if1.false
 
-pub move-entry-spec : {M : Type 1} → statement M
-move-entry-spec =
+pub move_entry_spec : {M : Type 1} → statement M
+move_entry_spec =
     tie.close
     (tie.spec
     (λ c. search rules)

@@ -82,8 +82,8 @@ same-length-3 c = search rules
 returns-3 : tie.Need-returns-3
 returns-3 c = page_directory _ _ _ _ _ _ _ _ _ (kind _ _ _ c.before.before.before.before.before.before.before.owner_entry_lem.ensures.0 c.before.before.before.before.before.start2.given.1) c.before.before.before.before.before.before.before.before.before.before.before.before.requires.1 c.before.before.move-entries.ensures
 
-pub move-page-spec : {M : Type 1} → statement M
-move-page-spec =
+pub move_page_spec : {M : Type 1} → statement M
+move_page_spec =
     tie.close
     (tie.spec
     owner-entry-requires

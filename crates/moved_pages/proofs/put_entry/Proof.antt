@@ -1,15 +1,15 @@
 -- `put_entry` stores one byte of the entry a turn, and so pastes a byte more.
-use Rattle.fields.proofs.Plain.{needs, ◌≡◌, refl, ◌-◌, ◌≤◌, arith, length, length-set}
+use Rattle.fields.proofs.Plain.{rules, ◌≡◌, refl, ◌-◌, ◌≤◌, arith, length, length-set}
 use lib.Seq.{paste, paste-zero}
 use Rattle.volume.proofs.Fills.{paste_turn, paste_all}
 use Rattle.moved_pages.proofs.put_entry.{Statement.statement, Tie.close, Tie.spec}
 
-pub put-entry-spec : {M : Type 1} → statement M
-put-entry-spec = close (spec
+pub put_entry_spec : {M : Type 1} → statement M
+put_entry_spec = close (spec
     (λ stretch₀ offset entry k₀ stretch k. (k ≤ 32) × (length stretch ≡ length stretch₀) × (stretch ≡ paste stretch₀ offset entry k))
     (λ stretch₀ offset entry k₀ stretch k. 32 - k)
     (λ c. (omega arith, refl, paste-zero _ c.args.offset c.args.entry.now))
-    (λ c. search needs) (λ c. search needs) (λ c. search needs) (λ c. search needs) (λ c. search needs)
+    (λ c. search rules) (λ c. search rules) (λ c. search rules) (λ c. search rules) (λ c. search rules)
     (λ c.
     let s = c.before.before.before.args in
     let inv = c.before.before.loop.inv in

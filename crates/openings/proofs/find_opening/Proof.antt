@@ -4,8 +4,8 @@ use Rattle.places.proofs.Places.{judged_sound}
 use borrow.Author.Rules.{rules}
 use Rattle.openings.proofs.find_opening as fn
 
-pub find-opening-spec : {M : Type 1} → fn.Statement.statement M
-find-opening-spec = fn.Tie.close (fn.Tie.spec
+pub find_opening_spec : {M : Type 1} → fn.Statement.statement M
+find_opening_spec = fn.Tie.close (fn.Tie.spec
     (λ c. search rules) (λ c. search rules)
     (λ c κs. search judged_sound)
     (λ c. search rules) (λ c. search rules) (λ c. search rules)

@@ -4,8 +4,8 @@ use Rattle.known2.proofs.Rows.{known_roomy, known_some, housed_lies}
 use borrow.Author.Rules.{rules}
 use Rattle.openings2.proofs.opening_named as fn
 
-pub opening-named-spec : {M : Type 1} → fn.Statement.statement M
-opening-named-spec = fn.Tie.close (fn.Tie.spec
+pub opening_named_spec : {M : Type 1} → fn.Statement.statement M
+opening_named_spec = fn.Tie.close (fn.Tie.spec
     (λ c. search rules) (λ c. search rules) (λ c. search rules) (λ c. search rules) (λ c. search rules) (λ c. search rules) (λ c. search rules)
     (λ c. (tt, search name_taken))
     (λ c. search rules)

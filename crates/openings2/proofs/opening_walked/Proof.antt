@@ -1,22 +1,22 @@
 -- Each test is a line of the call, in the lines' order; past them the walk of the parents leads to the last name's directory.
 use Rattle.openings2.proofs.Openings.{no_path_lem, bad_date, root_taken, parent_in, parent_missing, parent_blocked}
 use Rattle.places2.proofs.Places.{two}
-use Rattle.fields.proofs.Plain.{needs, told}
+use Rattle.fields.proofs.Plain.{rules, told}
 use Rattle.openings2.proofs.opening_walked as fn
 
-pub opening-walked-spec : {M : Type 1} → fn.Statement.statement M
-opening-walked-spec = fn.Tie.close (fn.Tie.spec
-    (λ c. search needs)
+pub opening_walked_spec : {M : Type 1} → fn.Statement.statement M
+opening_walked_spec = fn.Tie.close (fn.Tie.spec
+    (λ c. search rules)
     (λ c. (tt, search no_path_lem))
-    (λ c. search needs)
+    (λ c. search rules)
     (λ c. (tt, search bad_date))
     (λ c. (tt, search root_taken))
-    (λ c κs. (search needs, search two, search told))
-    (λ c. search needs)
+    (λ c κs. (search rules, search two, search told))
+    (λ c. search rules)
     (λ c κs.
     let s = rw c.before.walk.given.1 at c.before.before.before.walk-parents.ensures.0 in
-    (search needs, s.0, s.1, s.2))
-    (λ c. search needs) (λ c. search needs)
+    (search rules, s.0, s.1, s.2))
+    (λ c. search rules) (λ c. search rules)
     (λ c. (c.opening-named.ensures.0, search parent_in))
     (λ c. (tt, search parent_missing))
     (λ c. (tt, search parent_blocked)))

@@ -1,26 +1,26 @@
 -- `give_directories` visits one directory a turn. Each that is found has its page, so the list has room and the loop ends.
-use Rattle.fields.proofs.Plain.{needs, ◌≡◌, ◌-◌, length}
+use Rattle.fields.proofs.Plain.{rules, ◌≡◌, ◌-◌, length}
 use Rattle.audit.proofs.Stands.{Stands, stands_first, as_long, stands_last}
 use Rattle.owner_rows.proofs.Gives.{directory_asked, stands_turn}
 use Rattle.owner_rows.proofs.give_directories as fn
 
-pub give-directories-spec : {M : Type 1} → fn.Statement.statement M
-give-directories-spec = fn.Tie.close (fn.Tie.spec
+pub give_directories_spec : {M : Type 1} → fn.Statement.statement M
+give_directories_spec = fn.Tie.close (fn.Tie.spec
     (λ image row₀ list₀ found₀ done₀ row list found done. (length list ≡ length list₀) × (length row ≡ length row₀) × Stands image row₀ list row found done)
     (λ image row₀ list₀ found₀ done₀ row list found done. length row₀ - done)
-    (λ c. search needs)
+    (λ c. search rules)
     (λ c. search stands_first)
-    (λ c. search needs) (λ c κs. search needs)
-    (λ c κs. directory_asked _ _ _ _ _ _ c.before.before.before.before.before.loop.inv.2 (search needs) c.before.before.before.before.loop-test.taken c.before.before.wide.ensures.0)
-    (λ c. search needs) (λ c. search needs)
+    (λ c. search rules) (λ c κs. search rules)
+    (λ c κs. directory_asked _ _ _ _ _ _ c.before.before.before.before.before.loop.inv.2 (search rules) c.before.before.before.before.loop-test.taken c.before.before.wide.ensures.0)
+    (λ c. search rules) (λ c. search rules)
     (λ c.
     let given = c.before.before.before.before in
     let page = given.before.before.before in
     let turn = page.before.before in (
-      search needs,
-      search needs,
-      stands_turn _ _ _ _ _ _ turn.before.loop.inv.2 (search needs) turn.loop-test.taken page.wide.ensures.0 given.give-entries.ensures.0 (search needs) given.give-entries.ensures.1,
+      search rules,
+      search rules,
+      stands_turn _ _ _ _ _ _ turn.before.loop.inv.2 (search rules) turn.loop-test.taken page.wide.ensures.0 given.give-entries.ensures.0 (search rules) given.give-entries.ensures.1,
     ))
-    (λ c. search needs)
+    (λ c. search rules)
     (λ c. search as_long)
     (λ c. search stands_last))

@@ -3,8 +3,8 @@ use Rattle.places.proofs.Places.{judged_whole, placed_sound, placed_length, plac
 use borrow.Author.Rules.{rules}
 use Rattle.places.proofs.arrive as fn
 
-pub arrive-spec : {M : Type 1} → fn.Statement.statement M
-arrive-spec = fn.Tie.close (fn.Tie.spec
+pub arrive_spec : {M : Type 1} → fn.Statement.statement M
+arrive_spec = fn.Tie.close (fn.Tie.spec
     (λ c. search rules) (λ c. search rules)
     (λ c κs. search judged_whole)
     (λ c. search rules) (λ c. search rules) (λ c. search rules)

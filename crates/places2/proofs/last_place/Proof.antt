@@ -4,8 +4,8 @@ use Rattle.walk2.proofs.Entries.{inside_at}
 use borrow.Author.Rules.{rules}
 use Rattle.places2.proofs.last_place as fn
 
-pub last-place-spec : {M : Type 1} → fn.Statement.statement M
-last-place-spec = fn.Tie.close (fn.Tie.spec
+pub last_place_spec : {M : Type 1} → fn.Statement.statement M
+last_place_spec = fn.Tie.close (fn.Tie.spec
     (λ c. search rules) (λ c. search rules) (λ c. search rules) (λ c. search rules) (λ c. search rules) (λ c. search rules) (λ c. search rules) (λ c. search rules)
     (λ c. (tt, search not_named))
     (λ c κs. search inside_at)

@@ -55,8 +55,8 @@ returns-2 c =
     let l : page_count start.args.image.now ≤ turn.loop.p = omega arith in
     sym (turn.loop.invariant.2 ∙ all_pages _ _ _ l)
 
-pub all-lead-on-spec : {M : Type 1} → statement M
-all-lead-on-spec =
+pub all_lead_on_spec : {M : Type 1} → statement M
+all_lead_on_spec =
     tie.close
     (tie.spec
     invariant-loop

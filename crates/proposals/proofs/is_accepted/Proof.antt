@@ -53,8 +53,8 @@ returns-4 c =
     (ap (takes start.args.places.now) (sym (marks_fresh start.args.image.now _ page-count.page-count.ensures (true_of (fits start.requires))).1) ∙ told
     takes-places.takes-places.ensures if2.if2.false) if3.if3.false
 
-pub is-accepted-spec : {M : Type 1} → statement M
-is-accepted-spec =
+pub is_accepted_spec : {M : Type 1} → statement M
+is_accepted_spec =
     tie.close
     (tie.spec
     (λ c κs. search rules)

@@ -17,8 +17,8 @@ returns-2 c =
 returns-3 : tie.Need-returns-3
 returns-3 c = leads_of _ _ _ (kind _ _ _ c.before.before.before.owner_entry_lem.ensures.0 c.before.start2.given.1)
 
-pub leads-on-spec : {M : Type 1} → statement M
-leads-on-spec =
+pub leads_on_spec : {M : Type 1} → statement M
+leads_on_spec =
     tie.close
     (tie.spec
     (λ c κs. search rules)

@@ -27,8 +27,8 @@ returns-3 c =
     ap₂ (λ (x y : ℕ). eqb x (y + 1)) (wide.wide.ensures.0 ∙ ap (λ (i : ℕ). get_or start.args.places.now i 0)
     link.link.ensures.0) c.wide2.ensures.0 ∙ leads_next _ _ _ (λ e. if1.if1.false (link.link.ensures.0 ∙ e))
 
-pub link-leads-on-spec : {M : Type 1} → statement M
-link-leads-on-spec =
+pub link_leads_on_spec : {M : Type 1} → statement M
+link_leads_on_spec =
     tie.close
     (tie.spec
     (λ c κs. search rules)

@@ -17,5 +17,5 @@ returns c =
 returns-2 : tie.Need-returns-2
 returns-2 c = ap (λ (i : ℕ). get_or c.before.before.before.before.args.places.now i 0) c.before.before.wide.ensures.0
 
-pub new-place-spec : {M : Type 1} → statement M
-new-place-spec = tie.close (tie.spec (λ c κs. search rules) returns (λ c. search rules) returns-2)
+pub new_place_spec : {M : Type 1} → statement M
+new_place_spec = tie.close (tie.spec (λ c κs. search rules) returns (λ c. search rules) returns-2)

@@ -24,6 +24,6 @@ returns-2 c =
     let start = if1.before.before.before.before in
     (c.entry_at.ensures.0 ∙ owner_read start.requires.0 start.requires.1 start.requires.2 if1.if1.false, c.entry_at.ensures.1)
 
-pub owner-entry-spec : {M : Type 1} → statement M
-owner-entry-spec =
+pub owner_entry_spec : {M : Type 1} → statement M
+owner_entry_spec =
     tie.close (tie.spec (λ c. search rules) shared-slice-read-at returns entry-at-requires returns-2)

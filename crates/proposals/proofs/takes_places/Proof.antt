@@ -72,8 +72,8 @@ returns-3 c =
     let l : length start.args.places.now ≤ turn.loop.p = omega arith in
     sym (takes_end _ _ _ l) ∙ turn.loop.invariant.1
 
-pub takes-places-spec : {M : Type 1} → statement M
-takes-places-spec =
+pub takes_places_spec : {M : Type 1} → statement M
+takes_places_spec =
     tie.close
     (tie.spec
     invariant-loop

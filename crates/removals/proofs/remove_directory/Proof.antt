@@ -5,8 +5,8 @@ use Rattle.answers.proofs.Files.{at_root}
 use borrow.Author.Rules.{rules}
 use Rattle.removals.proofs.remove_directory as fn
 
-pub remove-directory-spec : {M : Type 1} → fn.Statement.statement M
-remove-directory-spec = fn.Tie.close (fn.Tie.spec
+pub remove_directory_spec : {M : Type 1} → fn.Statement.statement M
+remove_directory_spec = fn.Tie.close (fn.Tie.spec
     (λ c. search rules) (λ c. search rules) (λ c. search rules) (λ c. search rules) (λ c. search rules)
     (λ c. directory_refused _ _ (search stopped_refused))
     (λ c. search rules) (λ c. search rules) (λ c. search rules)

@@ -5,8 +5,8 @@ use Rattle.answers.proofs.Files.{at_root, file_entry}
 use borrow.Author.Rules.{rules}
 use Rattle.removals.proofs.remove_file as fn
 
-pub remove-file-spec : {M : Type 1} → fn.Statement.statement M
-remove-file-spec = fn.Tie.close (fn.Tie.spec
+pub remove_file_spec : {M : Type 1} → fn.Statement.statement M
+remove_file_spec = fn.Tie.close (fn.Tie.spec
     (λ c. search rules) (λ c. search rules) (λ c. search rules) (λ c. search rules) (λ c. search rules)
     (λ c. file_refused _ _ (search stopped_refused))
     (λ c. search rules) (λ c. search rules)

@@ -46,8 +46,8 @@ returns-5 c =
     directory_done _ _ place.before.before.before.arrival.given.1 place.before.before.before.before.before.arrive.ensures place.place2.given.1
     {r = empty.before.holds-nothing.result} empty.before.holds-nothing.ensures c.before.before.before.before.directory-length.ensures empty.if1.false c.before.before.remove_entry.ensures
 
-pub remove-directory-spec : {M : Type 1} → fn.Statement.statement M
-remove-directory-spec = fn.Tie.close (fn.Tie.spec
+pub remove_directory_spec : {M : Type 1} → fn.Statement.statement M
+remove_directory_spec = fn.Tie.close (fn.Tie.spec
     (λ c κs. search rules) (λ c. search rules) (λ c. search rules) (λ c κs. search rules) (λ c. search rules)
     returns
     (λ c. search rules) (λ c. search rules) (λ c. search rules)

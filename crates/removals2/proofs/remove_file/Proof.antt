@@ -44,8 +44,8 @@ returns-4 c =
 returns-5 : fn.Tie.Need-returns-5
 returns-5 c = file_is_directory _ _ c.before.before.before.arrival.given.1 c.before.before.before.before.before.arrive.ensures c.enum-told3.given.1
 
-pub remove-file-spec : {M : Type 1} → fn.Statement.statement M
-remove-file-spec = fn.Tie.close (fn.Tie.spec
+pub remove_file_spec : {M : Type 1} → fn.Statement.statement M
+remove_file_spec = fn.Tie.close (fn.Tie.spec
     (λ c κs. search rules) (λ c. search rules) (λ c. search rules) (λ c κs. search rules) (λ c. search rules)
     returns
     (λ c. search rules) (λ c. search rules)

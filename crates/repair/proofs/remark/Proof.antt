@@ -1,5 +1,5 @@
 -- `remark` sets one bit a turn, as `remarked` does, or passes over pages whose bits are right, and then stores the count.
-use Rattle.fields.proofs.Plain.{needs, arith, ◌≡◌, refl, ap, ◌∙◌, ⊎_elim, ◌+◌, ◌-◌, ◌≤◌, ◌<◌, length, length-set}
+use Rattle.fields.proofs.Plain.{rules, arith, ◌≡◌, refl, ap, ◌∙◌, ⊎_elim, ◌+◌, ◌-◌, ◌≤◌, ◌<◌, length, length-set}
 use Prim.Native.Nat.{min}
 use Rattle.model.specs.Layout.{version1}
 use Rattle.repair.specs.Remark.{remarked}
@@ -17,20 +17,20 @@ abbrev μ-loop : fn.Tie.MeasureT-loop
 fits : (c : fn.Tie.After-zero-bits Inv-loop μ-loop) → c.zero-bits.result < 256
 fits c =
     let inv = c.before.before.before.loop.inv in
-    let pre = c.before.before.before.before.before.before.pre in
+    let pre = c.before.before.before.before.before.before.requires in
     count_fits _ _ _ _ _ _ inv.2 (omega arith) inv.0 c.zero-bits.ensures pre.0 pre.1 (omega arith)
 
-pub remark-spec : {M : Type 1} → fn.Statement.statement M
-remark-spec = fn.Tie.close (fn.Tie.spec
+pub remark_spec : {M : Type 1} → fn.Statement.statement M
+remark_spec = fn.Tie.close (fn.Tie.spec
     Inv-loop μ-loop
     (λ c. (refl, refl, none_yet _ _ _))
     (λ c κs.
     let inv = c.before.before.loop.inv in
-    let pre = c.before.before.before.before.before.pre in
+    let pre = c.before.before.before.before.before.requires in
     (omega arith, omega arith, omega arith, still_shown _ _ _ _ _ inv.2 (omega arith) inv.0 pre.1 (omega arith) pre.3))
     (λ c κs. omega arith)
     (λ c κs. omega arith)
-    (λ c κs. search needs)
+    (λ c κs. search rules)
     (λ c. omega arith)
     (λ c. omega arith)
     (λ c.

@@ -1,22 +1,22 @@
 -- `repair` asks for the length, then for the header, and lends a mark of 0 for each page.
-use Rattle.fields.proofs.Plain.{arith, needs}
+use Rattle.fields.proofs.Plain.{arith, rules}
 use Rattle.fields.proofs.Plain.{told, untold}
 use Rattle.judge.proofs.Image.{allowed, few, marks_length, marks_fresh}
 use Rattle.repair.proofs.Mending.{refused_length, refused_header}
 use Rattle.repair.proofs.repair as fn
 
-pub repair-spec : {M : Type 1} → fn.Statement.statement M
-repair-spec = fn.Tie.close (fn.Tie.spec
-    (λ c κs. search needs)
+pub repair_spec : {M : Type 1} → fn.Statement.statement M
+repair_spec = fn.Tie.close (fn.Tie.spec
+    (λ c κs. search rules)
     (λ c. refused_length _ (untold c.before.length-is-allowed.ensures c.if1.taken))
     (λ c κs.
     let h = allowed _ (told c.before.before.length-is-allowed.ensures c.before.if1.left) in
     omega arith)
-    (λ c. search needs)
+    (λ c. search rules)
     (λ c.
     refused_header _ (told c.before.before.before.before.length-is-allowed.ensures c.before.before.before.if1.left)
     (untold c.before.header-is-right.ensures c.if2.taken))
-    (λ c κs. search needs)
+    (λ c κs. search rules)
     (λ c. search (few, told))
     (λ c. search (marks_length, told))
     (λ c κs.
@@ -24,4 +24,4 @@ repair-spec = fn.Tie.close (fn.Tie.spec
     let v = told test2.before.before.before.before.length-is-allowed.ensures test2.before.before.before.if1.left in
     let m = marks_fresh _ _ c.before.before.page-count.ensures v in
     (v, told test2.before.header-is-right.ensures test2.if2.left, m.0, m.1))
-    (λ c. search needs) (λ c. search needs))
+    (λ c. search rules) (λ c. search rules))

@@ -12,8 +12,8 @@ resized c =
     resize held.before.before.before.before.before.before.requires held.before.before.before.page-count.ensures held.before.larger.ensures held.pages-for.ensures
     add.before.before.pages-for2.ensures add.add-pages.ensures c.before.before.before.before.before.before.before.size-bytes.ensures c.before.before.before.before.put.ensures c.start_of.ensures.0
 
-pub write-entry-spec : {M : Type 1} → fn.Statement.statement M
-write-entry-spec = fn.Tie.close (fn.Tie.spec
+pub write_entry_spec : {M : Type 1} → fn.Statement.statement M
+write_entry_spec = fn.Tie.close (fn.Tie.spec
     (λ c. search rules) (λ c. search rules) (λ c. search rules) (λ c. search rules) (λ c. search rules)
     (λ c. search no_fewer) (λ c κs. search write_adding)
     (λ c. search rules) (λ c. search rules) (λ c. search rules) (λ c. search rules) (λ c. search rules)

@@ -10,8 +10,8 @@ invariant-loop bytes i₀ i = i ≤ length bytes
 abbrev decreases-loop : fn.Tie.decreases-loop
 decreases-loop bytes i₀ i = length bytes - i
 
-pub hex-row-spec : {M : Type 1} → fn.Statement.statement M
-hex-row-spec = fn.Tie.close (fn.Tie.spec
+pub hex_row_spec : {M : Type 1} → fn.Statement.statement M
+hex_row_spec = fn.Tie.close (fn.Tie.spec
     invariant-loop decreases-loop
     (λ c. search rules)
     (λ c. search rules)

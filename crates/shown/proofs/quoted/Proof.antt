@@ -10,8 +10,8 @@ invariant-loop bytes i₀ t4 i = i ≤ length bytes
 abbrev decreases-loop : fn.Tie.decreases-loop
 decreases-loop bytes i₀ t4 i = length bytes - i
 
-pub quoted-spec : {M : Type 1} → fn.Statement.statement M
-quoted-spec = fn.Tie.close (fn.Tie.spec
+pub quoted_spec : {M : Type 1} → fn.Statement.statement M
+quoted_spec = fn.Tie.close (fn.Tie.spec
     invariant-loop decreases-loop
     (λ c. search rules)
     (λ c κs. search rules)

@@ -5,8 +5,8 @@ use mathlib.Core.Path.{sym}
 use borrow.Author.Rules.{rules}
 use Rattle.shown.proofs.write_digits as fn
 
-pub write-digits-spec : {M : Type 1} → fn.Statement.statement M
-write-digits-spec = fn.Tie.close (fn.Tie.spec
+pub write_digits_spec : {M : Type 1} → fn.Statement.statement M
+write_digits_spec = fn.Tie.close (fn.Tie.spec
     (λ c κs. search rules)
     (λ c. search rules)
     (λ c. sym (length-take-le c.before.before.before.before.before.args.count c.before.before.digits.result (omega arith)))

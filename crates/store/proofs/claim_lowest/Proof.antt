@@ -16,8 +16,8 @@ sub-header c = omega (arith, count_kept _ _ _ c.before.before.before.mark.ensure
 returns : tie.Need-returns
 returns c = (search rules, search claim_stored)
 
-pub claim-lowest-spec : {M : Type 1} → statement M
-claim-lowest-spec =
+pub claim_lowest_spec : {M : Type 1} → statement M
+claim_lowest_spec =
     tie.close
     (tie.spec
     (λ c κs. search rules)

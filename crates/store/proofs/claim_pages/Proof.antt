@@ -15,8 +15,8 @@ decreases-loop header₀ n k counter₀ header counter = k - counter
 loop-again : tie.Need-loop-preserved invariant-loop decreases-loop
 loop-again c = search claiming_turn
 
-pub claim-pages-spec : {M : Type 1} → statement M
-claim-pages-spec =
+pub claim_pages_spec : {M : Type 1} → statement M
+claim_pages_spec =
     tie.close
     (tie.spec
     invariant-loop

@@ -7,8 +7,8 @@ use Rattle.store.proofs.copy_page.Tie as tie
 returns : tie.Need-returns
 returns c = search page_copied
 
-pub copy-page-spec : {M : Type 1} → statement M
-copy-page-spec =
+pub copy_page_spec : {M : Type 1} → statement M
+copy_page_spec =
     tie.close
     (tie.spec
     (λ c κs. search rules)

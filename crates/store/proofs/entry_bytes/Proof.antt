@@ -10,8 +10,8 @@ cast-entry c = search start_small
 returns : tie.Need-returns
 returns c = search entry_started
 
-pub entry-bytes-spec : {M : Type 1} → statement M
-entry-bytes-spec =
+pub entry_bytes_spec : {M : Type 1} → statement M
+entry_bytes_spec =
     tie.close
     (tie.spec
     (λ c κs. search rules)

@@ -13,8 +13,8 @@ same_length c = search fill_long
 returns : tie.Need-returns
 returns c = search fill_is
 
-pub fill-content-spec : {M : Type 1} → statement M
-fill-content-spec =
+pub fill_content_spec : {M : Type 1} → statement M
+fill_content_spec =
     tie.close
     (tie.spec
     (λ c κs. search rules)

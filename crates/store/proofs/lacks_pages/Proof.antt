@@ -7,5 +7,5 @@ use Rattle.store.proofs.lacks_pages.Tie as tie
 returns : tie.Need-returns
 returns c = λ i. ltb (c.before.free-count.ensures.0 i) (c.pages-for.ensures i)
 
-pub lacks-pages-spec : {M : Type 1} → statement M
-lacks-pages-spec = tie.close (tie.spec (λ c κs. search rules) (λ c κs. search rules) returns)
+pub lacks_pages_spec : {M : Type 1} → statement M
+lacks_pages_spec = tie.close (tie.spec (λ c κs. search rules) (λ c κs. search rules) returns)

@@ -11,5 +11,5 @@ returns c = ap (number_of _) (sym c.before.page.given.1) ∙ c.before.before.bef
 returns-2 : tie.Need-returns-2
 returns-2 c = ap (number_of _) (sym c.enum_told.given.1) ∙ c.before.before.lowest_free_lem.ensures.number
 
-pub lowest-spec : {M : Type 1} → statement M
-lowest-spec = tie.close (tie.spec (λ c κs. search rules) (λ c. search rules) (λ c. search rules) returns returns-2)
+pub lowest_spec : {M : Type 1} → statement M
+lowest_spec = tie.close (tie.spec (λ c κs. search rules) (λ c. search rules) (λ c. search rules) returns returns-2)

@@ -6,5 +6,5 @@ use Rattle.store.proofs.next_link.Tie as tie
 returns : tie.Need-returns
 returns c = rw c.before.if1.true c.lowest.ensures
 
-pub next-link-spec : {M : Type 1} → statement M
-next-link-spec = tie.close (tie.spec (λ c κs. search rules) returns (λ c. search rules))
+pub next_link_spec : {M : Type 1} → statement M
+next_link_spec = tie.close (tie.spec (λ c κs. search rules) returns (λ c. search rules))

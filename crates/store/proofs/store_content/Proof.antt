@@ -32,8 +32,8 @@ fill-content-requires c κs = (paged c.before.before.before.before.before, link_
 returns : tie.Need-returns
 returns c = (found c.before.before.before.before.before.before.before.before, content_linked _ _ c.before.before.fill-content.ensures (linked c.before.before.before.before))
 
-pub store-content-spec : {M : Type 1} → statement M
-store-content-spec =
+pub store_content_spec : {M : Type 1} → statement M
+store_content_spec =
     tie.close
     (tie.spec
     (λ c κs. search rules)

@@ -10,5 +10,5 @@ returns c = rw (lt-ltb _ 256 c.if1.true)
 returns-2 : tie.Need-returns-2
 returns-2 c = rw (le-ltb _ 256 c.if1.false)
 
-pub store-count-spec : {M : Type 1} → statement M
-store-count-spec = tie.close (tie.spec (λ c. search rules) returns (λ c. search rules) returns-2)
+pub store_count_spec : {M : Type 1} → statement M
+store_count_spec = tie.close (tie.spec (λ c. search rules) returns (λ c. search rules) returns-2)

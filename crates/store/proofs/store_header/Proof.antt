@@ -23,8 +23,8 @@ returns c = search header_root
 returns-2 : tie.Need-returns-2
 returns-2 c = search header_below
 
-pub store-header-spec : {M : Type 1} → statement M
-store-header-spec =
+pub store_header_spec : {M : Type 1} → statement M
+store_header_spec =
     tie.close
     (tie.spec
     (λ c κs. search rules)

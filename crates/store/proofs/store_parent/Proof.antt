@@ -8,7 +8,7 @@ use Rattle.store.proofs.store_parent.Tie as tie
 returns : tie.Need-returns
 returns c = (refl, search parent_put)
 
-pub store-parent-spec : {M : Type 1} → statement M
-store-parent-spec =
+pub store_parent_spec : {M : Type 1} → statement M
+store_parent_spec =
     tie.close
     (tie.spec (λ c κs. search rules) (λ c. search rules) (λ c. search rules) (λ c κs. search rules) (λ c. search rules) returns)

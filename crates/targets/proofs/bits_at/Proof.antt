@@ -23,8 +23,8 @@ returns c =
     place-bit3.place-bit3.ensures place-bit4.place-bit4.ensures place-bit5.place-bit5.ensures
     place-bit6.place-bit6.ensures place-bit7.place-bit7.ensures c.place-bit8.ensures
 
-pub bits-at-spec : {M : Type 1} → statement M
-bits-at-spec =
+pub bits_at_spec : {M : Type 1} → statement M
+bits_at_spec =
     tie.close
     (tie.spec
     (λ c. search rules)

@@ -51,8 +51,8 @@ returns c =
     let l : length start.args.places.now ≤ turn.loop.p = omega arith in
     turned_last _ _ _ _ l turn.loop.invariant
 
-pub invert-spec : {M : Type 1} → statement M
-invert-spec =
+pub invert_spec : {M : Type 1} → statement M
+invert_spec =
     tie.close
     (tie.spec
     invariant-loop

@@ -39,7 +39,7 @@ returns c =
     (entries 0)) (write-bits.write-bits.ensures ∙ ap (λ (v : Bytes). put 4 (map (bits_at start.args.image.now start.args.pages.now) (up_to (page_count start.args.image.now / 8))) v)
     copy-page.copy-page.ensures)
 
-pub move-header-spec : {M : Type 1} → statement M
-move-header-spec =
+pub move_header_spec : {M : Type 1} → statement M
+move_header_spec =
     tie.close
     (tie.spec copy-page-requires (λ c κs. search rules) move-entries-requires (λ c. search rules) returns)

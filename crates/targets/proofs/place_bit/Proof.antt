@@ -19,5 +19,5 @@ returns c =
     let start = c.before.before.before.before.before in
     (c.bit.ensures ∙ ap (page_bit start.args.image.now) c.before.wide.ensures.0, omega (arith, c.bit.ensures, bit_low version1 start.args.image.now c.before.wide.result))
 
-pub place-bit-spec : {M : Type 1} → statement M
-place-bit-spec = tie.close (tie.spec (λ c. search rules) (λ c. search rules) bit-requires returns)
+pub place_bit_spec : {M : Type 1} → statement M
+place_bit_spec = tie.close (tie.spec (λ c. search rules) (λ c. search rules) bit-requires returns)

@@ -69,8 +69,8 @@ returns c =
     bits_last _ _ _ _ turn.loop.k _ (omega arith) turn.loop.invariant.2 ∙ ap (λ (n : ℕ). put 4
     (map (bits_at start.args.image.now start.args.pages.now) (up_to n)) start.args.stretch.now) turn.loop.invariant.1
 
-pub write-bits-spec : {M : Type 1} → statement M
-write-bits-spec =
+pub write_bits_spec : {M : Type 1} → statement M
+write_bits_spec =
     tie.close
     (tie.spec
     invariant-loop

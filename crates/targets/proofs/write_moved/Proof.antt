@@ -160,8 +160,8 @@ returns c =
     let l : page_count start.args.image.now ≤ turn.loop.q = omega (arith, turn.loop.invariant.1, c.loop-test.false, invert.invert.auto.1.0, start.requires.2) in
     laid_last _ _ start.requires.0.is_sound start.requires.1 _ _ l turn.loop.invariant.2
 
-pub write-moved-spec : {M : Type 1} → statement M
-write-moved-spec =
+pub write_moved_spec : {M : Type 1} → statement M
+write_moved_spec =
     tie.close
     (tie.spec
     invariant-loop

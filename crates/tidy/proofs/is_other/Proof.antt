@@ -13,8 +13,8 @@ returns-2 c = other_of _ _ (kind _ _ _ c.before.before.before.owner_entry_lem.en
 returns-3 : tie.Need-returns-3
 returns-3 c = other_of _ _ (kind _ _ _ c.before.before.before.owner_entry_lem.ensures.0 c.before.start2.given.1)
 
-pub is-other-spec : {M : Type 1} → statement M
-is-other-spec =
+pub is_other_spec : {M : Type 1} → statement M
+is_other_spec =
     tie.close
     (tie.spec
     (λ c κs. search rules)

@@ -45,8 +45,8 @@ same_length c = c.before.loop.invariant.long
 returns : tie.Need-returns invariant-loop decreases-loop
 returns c = chain_last _ _ _ _ _ _ _ c.before.loop.left _ (omega arith) c.before.loop.invariant
 
-pub number-chain-spec : {M : Type 1} → statement M
-number-chain-spec =
+pub number_chain_spec : {M : Type 1} → statement M
+number_chain_spec =
     tie.close
     (tie.spec
     invariant-loop

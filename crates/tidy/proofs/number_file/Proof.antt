@@ -48,8 +48,8 @@ returns-3 c =
 returns-4 : tie.Need-returns-4
 returns-4 c = file_none _ _ _ _ (kind _ _ _ c.before.before.before.owner_entry_lem.ensures.0 c.before.start2.given.1) refl
 
-pub number-file-spec : {M : Type 1} → statement M
-number-file-spec =
+pub number_file_spec : {M : Type 1} → statement M
+number_file_spec =
     tie.close
     (tie.spec
     (λ c κs. search rules)

@@ -18,7 +18,7 @@ cast-row c =
 returns-2 : tie.Need-returns-2
 returns-2 c = other_here _ _ _ _ (told c.before.is-other.ensures c.if1.false)
 
-pub number-other-spec : {M : Type 1} → statement M
-number-other-spec =
+pub number_other_spec : {M : Type 1} → statement M
+number_other_spec =
     tie.close
     (tie.spec (λ c κs. search rules) returns cast-row (λ c. search rules) (λ c. search rules) (λ c. search rules) returns-2)

@@ -55,8 +55,8 @@ returns c =
     let l : page_count start.args.image.now ≤ turn.loop.p = omega (arith, start.requires.1, c.loop-test.false) in
     (left_last _ _ _ _ _ _ _ (others_none _) l turn.loop.invariant.2).1
 
-pub number-others-spec : {M : Type 1} → statement M
-number-others-spec =
+pub number_others_spec : {M : Type 1} → statement M
+number_others_spec =
     tie.close
     (tie.spec
     invariant-loop

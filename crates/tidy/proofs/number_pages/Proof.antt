@@ -36,7 +36,7 @@ returns c =
     let number-files = number-others.before.before.before.before in
     order_numbered _ _ _ _ _ number-files.number-files.ensures.0 number-files.number-files.ensures.1 number-others.number-others.ensures
 
-pub number-pages-spec : {M : Type 1} → statement M
-number-pages-spec =
+pub number_pages_spec : {M : Type 1} → statement M
+number_pages_spec =
     tie.close
     (tie.spec slice-write-row (λ c κs. search rules) number-others-requires same_length returns)

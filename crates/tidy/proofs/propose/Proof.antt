@@ -1,15 +1,15 @@
 -- `propose` asks the verdict, and passes on what it refuses an image that is not sound with.
-use Rattle.answers.specs.Answers.{verdictAnswer}
-use Rattle.moves.proofs.Answers.{propose-stops}
+use Rattle.answers.specs.Answers.{verdict_answer}
+use Rattle.moves.proofs.Answers.{propose_stops}
 use mathlib.Core.Path.{sym, ap, ◌∙◌}
 use borrow.Author.Rules.{rules}
 use Rattle.tidy.proofs.Told.{unnamed}
 use Rattle.tidy.proofs.propose.{Statement.statement, Tie.close, Tie.spec}
 
-pub propose-spec : {M : Type 1} → statement M
-propose-spec = close (spec
+pub propose_spec : {M : Type 1} → statement M
+propose_spec = close (spec
     (λ c κs. search rules)
     (λ c. search rules) (λ c. search rules)
     (λ c κs. search unnamed)
     (λ c. search rules) (λ c. search rules) (λ c. search rules)
-    (λ c. propose-stops _ _ (sym c.before.before.before.verdict.ensures ∙ ap verdictAnswer c.before.r.given.1)))
+    (λ c. propose_stops _ _ (sym c.before.before.before.verdict.ensures ∙ ap verdict_answer c.before.r.given.1)))

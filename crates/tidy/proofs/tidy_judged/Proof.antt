@@ -2,7 +2,7 @@
 use Rattle.model.specs.Layout.{page_count}
 use Rattle.judge.proofs.Image.{marks_length}
 use Rattle.claims.proofs.Claims.{told, untold}
-use Rattle.moves.proofs.Answers.{tidy-unaccepted, tidy-accepted}
+use Rattle.moves.proofs.Answers.{tidy_unaccepted, tidy_accepted}
 use Rattle.moves.proofs.Places.{accepted_is}
 use Rattle.proposals.proofs.Owned.{fits, sized}
 use Rattle.proposals.proofs.Check.{true_of, of_true}
@@ -17,7 +17,7 @@ returns : tie.Need-returns
 returns c =
     let is-accepted = c.before in
     let start = is-accepted.before.before.before.before.before in
-    tidy-unaccepted _ _ _ start.requires.0.is_sound start.requires.1 (untold is-accepted.is-accepted.ensures c.if1.true)
+    tidy_unaccepted _ _ _ start.requires.0.is_sound start.requires.1 (untold is-accepted.is-accepted.ensures c.if1.true)
 
 array-borrow-prefix-pages : tie.Need-array-borrow-prefix-pages
 array-borrow-prefix-pages c =
@@ -52,12 +52,12 @@ returns-2 c =
     let if1 = write-moved.before.before.before in
     let is-accepted = if1.before in
     let start = is-accepted.before.before.before.before.before in
-    let r = tidy-accepted start.args.image.now start.args.places.now start.args.target.now
+    let r = tidy_accepted start.args.image.now start.args.places.now start.args.target.now
     start.requires.0.is_sound start.requires.1 (told is-accepted.is-accepted.ensures if1.if1.false) in
     (r.0, write-moved.write-moved.ensures ∙ r.1)
 
-pub tidy-judged-spec : {M : Type 1} → statement M
-tidy-judged-spec =
+pub tidy_judged_spec : {M : Type 1} → statement M
+tidy_judged_spec =
     tie.close
     (tie.spec
     (λ c κs. search rules)

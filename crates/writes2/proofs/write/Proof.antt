@@ -3,7 +3,7 @@ use Rattle.writes2.proofs.Writings.{write_directory, write_counted, write_locked
 use Rattle.arrivals.proofs.Writings.{write_refused}
 use Rattle.places2.proofs.Places.{stopped_refused}
 use Rattle.places2.proofs.Held.{reads2, file_entry}
-use Rattle.fields.proofs.Plain.{needs, arith}
+use Rattle.fields.proofs.Plain.{rules, arith}
 use Rattle.writes2.proofs.write as fn
 
 returns : fn.Tie.Need-returns
@@ -55,28 +55,28 @@ write-entry-requires c κs =
     let unlocked = c.before.before.before.before.before.before.before.before in
     let place = unlocked.before.before.before.before in
     writable _ _ place.before.before.before.arrival.given.1 place.before.before.before.before.before.arrive.ensures place.place.given.1
-    _ _ unlocked.before.is-locked.ensures unlocked.if1.left (omega arith) c.before.before.before.lacks-pages.ensures (search needs)
+    _ _ unlocked.before.is-locked.ensures unlocked.if1.left (omega arith) c.before.before.before.lacks-pages.ensures (search rules)
 
 returns-7 : fn.Tie.Need-returns-7
 returns-7 c =
     let unlocked = c.before.before.before.before.before.before.before.before.before.before.before in
     let place = unlocked.before.before.before.before in
     write_done _ _ place.before.before.before.arrival.given.1 place.before.before.before.before.before.arrive.ensures place.place.given.1
-    _ _ unlocked.before.is-locked.ensures unlocked.if1.left (omega arith) c.before.before.before.before.before.before.lacks-pages.ensures (search needs) (search needs) c.before.before.write-entry.ensures
+    _ _ unlocked.before.is-locked.ensures unlocked.if1.left (omega arith) c.before.before.before.before.before.before.lacks-pages.ensures (search rules) (search rules) c.before.before.write-entry.ensures
 
 pub write_spec : {M : Type 1} → fn.Statement.statement M
 write_spec = fn.Tie.close (fn.Tie.spec
-    (λ c κs. search needs) (λ c. search needs) (λ c. search needs) (λ c κs. search needs) (λ c. search needs)
+    (λ c κs. search rules) (λ c. search rules) (λ c. search rules) (λ c κs. search rules) (λ c. search rules)
     returns
-    (λ c. search needs) (λ c. search needs)
+    (λ c. search rules) (λ c. search rules)
     returns-2 is-locked-requires
-    (λ c. search needs)
+    (λ c. search rules)
     returns-3
-    (λ c. search needs)
+    (λ c. search rules)
     returns-4 lacks-pages-requires
-    (λ c. search needs)
+    (λ c. search rules)
     returns-5
-    (λ c. search needs)
+    (λ c. search rules)
     returns-6 write-entry-requires
-    (λ c. search needs)
+    (λ c. search rules)
     returns-7)

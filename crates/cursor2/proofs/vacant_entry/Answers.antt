@@ -1,0 +1,37 @@
+-- `vacant_entry` goes one entry on a turn: what the row that is left has, the whole row has, and it grows shorter.
+use Rattle.fields.proofs.Plain.{arith, refl, sym, ◌∙◌}
+use Rattle.model.specs.Effect.{is_vacant}
+use Rattle.cursor2.proofs.Seeking.{seek_found, seek_next, seek_none, row_shorter}
+use Rattle.cursor2.proofs.vacant_entry.Goals as goal
+
+pub loop-shape-init : goal.loop-shape-init
+loop-shape-init c = record { stands = c.first_entry-cursor.ensures.1; left = refl }
+
+pub position_of-at-requires : goal.position_of-at-requires
+position_of-at-requires c = (c.requires.0, c.loop-shape.invariant.stands)
+
+pub is_vacant-requires : goal.is_vacant-requires
+is_vacant-requires c = omega (arith, c.position_of-at.ensures.1)
+
+pub returns-then-is_vacant : goal.returns-then-is_vacant
+returns-then-is_vacant c =
+    seek_found c.loop-shape.invariant c.position_of-at.ensures.0 c.first_entry-cursor.ensures.0
+    (sym c.is_vacant.ensures ∙ c.if-is_vacant.true)
+
+pub next_entry-requires : goal.next_entry-requires
+next_entry-requires c = (c.requires.0, c.loop-shape.invariant.stands)
+
+pub loop-shape-smaller : goal.loop-shape-smaller
+loop-shape-smaller c = search row_shorter
+
+pub loop-shape-preserved : goal.loop-shape-preserved
+loop-shape-preserved c =
+    seek_next c.loop-shape.invariant c.position_of-at.ensures.0
+    (sym c.is_vacant.ensures ∙ c.if-is_vacant.false)
+    _ c.next_entry.ensures.0 c.in-At.is c.next_entry.ensures.1
+
+pub returns-in-End : goal.returns-in-End
+returns-in-End c =
+    seek_none c.loop-shape.invariant c.position_of-at.ensures.0
+    (sym c.is_vacant.ensures ∙ c.if-is_vacant.false)
+    _ c.next_entry.ensures.0 c.first_entry-cursor.ensures.0 c.in-End.is

@@ -1,0 +1,6 @@
+-- The eight bytes of a copied part are the part.
+use Rattle.fields2.proofs.Dates.{date_copied}
+use Rattle.fields2.proofs.date_of.Goals as goal
+
+pub returns : goal.returns
+returns c = search date_copied

@@ -1,7 +1,0 @@
--- The flag of an occupied entry is bit 7.
-use Rattle.fields.proofs.Plain.{needs, sym}
-use Rattle.cursor2.proofs.Seeking.{vacant_is}
-use Rattle.occupied2.proofs.is_vacant.{Statement.statement, Tie.close, Tie.spec}
-
-pub is-vacant-spec : {M : Type 1} → statement M
-is-vacant-spec = close (spec (λ c. search needs) (λ c. sym (vacant_is _ _)))
