@@ -18,7 +18,7 @@ pub judge_directory-returns-in-Faulty : goal.judge_directory-returns-in-Faulty
 judge_directory-returns-in-Faulty t c =
     let judged = c in
     let test = judged in
-    stands_faulty test.entry_count.ensures test.loop.invariant.1 _ _ test.loop-test.true
+    stands_faulty test.entry_count-count.ensures test.loop-i.invariant.1 _ _ test.loop-i-test.true
     judged.judge_entry-judged.ensures c.in-Faulty.is
 
 pub judge_directory-loop-i-preserved : goal.judge_directory-loop-i-preserved
@@ -26,7 +26,7 @@ judge_directory-loop-i-preserved t c =
     let judged = c in
     let test = judged in (
       search rules,
-      stands_next test.entry_count.ensures test.loop.invariant.1 _ _ test.loop-test.true
+      stands_next test.entry_count-count.ensures test.loop-i.invariant.1 _ _ test.loop-i-test.true
           judged.judge_entry-judged.ensures c.in_default-judged.is,
     )
 
@@ -54,7 +54,7 @@ judge_entry-returns-in-Faulty t c f h = search faulty_page
 pub judge_entry-judge_directory-requires : goal.judge_entry-judge_directory-requires
 judge_entry-judge_directory-requires t c =
     let page = c in
-    let pre = page.requires.1.0 in
+    let pre = page.requires.0 in
     let made = page_made _ _ _ _ _ pre.each (clean_of page.own_page-owned.ensures c.in_default.is) in
     let long = page.own_page-owned.auto.marks in
     omega arith
