@@ -1,6 +1,7 @@
 // Chains of pages in an image of version 1: the functions of `shape_chains` and `shape_growth` at the shape of version 1, with contracts in the
 // model's words. What they ask is that the pages lie in the image; how it gives what the shared functions ask stands in proofs/Asked.antt.
 #![tactic(auto)]
+
 ghost use Rattle.std.specs.Prelude.{◌≡◌, ◌-◌, ◌≤◌, length, take, drop};
 ghost use mathlib.Core.List.{foldl, flat_map};
 ghost use Rattle.volume.specs.Bytes.{put};

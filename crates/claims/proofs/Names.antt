@@ -7,7 +7,6 @@ use mathlib.Core.Bool.{Bool, true, false, not, ◌&&◌}
 use mathlib.Core.List.{List, [], ◌∷◌, ◌++◌, flat_map, append-nil}
 use lib.ListN.{length, set, take, length-set}
 use lib.Seq.{take-suc-set, append_snoc}
-use denote.Enum.Declared.{tag_of}
 use Rattle.volume.specs.Bytes.{Bytes, if◌then◌else◌}
 use Rattle.volume.specs.Lists.{all}
 use Rattle.model.specs.Entry as Model
@@ -15,7 +14,6 @@ use Rattle.model.specs.Entry.{entry_count, entries, is_locked, name_at, date_at,
 use Rattle.model.specs.Version1.{view}
 use Rattle.model.specs.Sound.{is_named, same_name, names_apart, in_directory}
 use Rattle.claims.specs.Claim.{Visited, stops, goes, then_visit, claim_entry, claim_entries, directories_at}
-use Rattle.fields.specs.contracts.Entry.{the_type}
 use Rattle.fields.specs.declared.Entry.{Entry}
 use Rattle.fields.specs.declared.Entry.TheVariants.{Vacant, File, Directory}
 use Rattle.fields.specs.Read.{entry_of}
@@ -24,13 +22,13 @@ use Rattle.fields.specs.declared.Page.{Page}
 use Rattle.claims.proofs.Claims.{told, untold, goes_of, stops_of, rest_all, rest_next, rest_end, entries_next, entries_end, seen}
 
 -- what an occupied entry is named is what stands in its bytes
-pub named_same : (b : Bytes) (at : ℕ) (r : Entry) → entry_of r (is_locked b at) (name_at b at) (date_at b at) ≡ entry_at b at → (tag_of the_type r ≡ 1) ⊎ (tag_of the_type r ≡ 2)
+pub named_same : (b : Bytes) (at : ℕ) (r : Entry) → entry_of r (is_locked b at) (name_at b at) (date_at b at) ≡ entry_at b at → (r ≡ Vacant → ⊥)
     → (e : Model.Entry) → is_named (name_at b at) e ≡ same_name (entry_at b at) e
 unfolding same_name
 named_same b at r read o e = one r o ∙ ap (λ (x : Model.Entry). same_name x e) read
   where
-    one : (r : Entry) → (tag_of the_type r ≡ 1) ⊎ (tag_of the_type r ≡ 2) → is_named (name_at b at) e ≡ same_name (entry_of r (is_locked b at) (name_at b at) (date_at b at)) e
-    one Vacant k = elim k [ inl u ↦ absurd (omega arith) | inr u ↦ absurd (omega arith) ]
+    one : (r : Entry) → (r ≡ Vacant → ⊥) → is_named (name_at b at) e ≡ same_name (entry_of r (is_locked b at) (name_at b at) (date_at b at)) e
+    one Vacant k = absurd (k refl)
     one (File start size) k = refl
     one (Directory start size) k = refl
 
@@ -152,13 +150,13 @@ module _ (b : Bytes) (p found : ℕ) (list₀ : List ℕ) where
       (omega (arith, w.counted, ap length d), sym (append-nil (take end list)) ∙ ap (λ (l : List ℕ). take end list ++ l) (sym d) ∙ w.held)
 
 -- an entry that is no directory
-not_directory : (l : Bool) (n d : Bytes) (r : Entry) → (tag_of the_type r ≡ 0) ⊎ (tag_of the_type r ≡ 1) → in_directory {A = List ℕ} [] (λ s. s ∷ []) (entry_of r l n d) ≡ []
+not_directory : (l : Bool) (n d : Bytes) (r : Entry) → ((start : Page) (size : ℕ) → r ≡ Directory start size → ⊥) → in_directory {A = List ℕ} [] (λ s. s ∷ []) (entry_of r l n d) ≡ []
 not_directory l n d Vacant k = refl
 not_directory l n d (File start size) k = refl
-not_directory l n d (Directory start size) k = elim k [ inl u ↦ absurd (omega arith) | inr u ↦ absurd (omega arith) ]
+not_directory l n d (Directory start size) k = absurd (k start size refl)
 
 not_there : (b : Bytes) (d i : ℕ) (r : Entry) {at : ℕ} → at ≡ position d i → entry_of r (is_locked b at) (name_at b at) (date_at b at) ≡ entry_at b at
-    → (tag_of the_type r ≡ 0) ⊎ (tag_of the_type r ≡ 1) → in_directory {A = List ℕ} [] (λ s. s ∷ []) (entry_at b (position d i)) ≡ []
+    → ((start : Page) (size : ℕ) → r ≡ Directory start size → ⊥) → in_directory {A = List ℕ} [] (λ s. s ∷ []) (entry_at b (position d i)) ≡ []
 not_there b d i r {at} here read k = rw (← here, ← read) (not_directory (is_locked b at) (name_at b at) (date_at b at) r k)
 
 -- as the code goes: r was read of entry i
@@ -171,5 +169,5 @@ module _ (b : Bytes) (p found : ℕ) (list₀ : List ℕ) {end i n : ℕ} {list 
     pub pushes_one : Pushes b p found list₀ (end + 1) (i + 1) (set list end start.0)
     pushes_one = pushes_here b p found list₀ c l (seen b p i here read e) finds_room w
 
-  pub pushes_none : (tag_of the_type r ≡ 0) ⊎ (tag_of the_type r ≡ 1) → Pushes b p found list₀ end (i + 1) list
+  pub pushes_none : ((start : Page) (size : ℕ) → r ≡ Directory start size → ⊥) → Pushes b p found list₀ end (i + 1) list
   pushes_none k = pushes_not b p found list₀ c l (not_there b p i r here read k) w

@@ -1,6 +1,7 @@
 // The judge of a version 2 image (paper 02 §2 and §12): a walk down the tree of directories that gives each page its owner, to the first fault.
 // No function changes the image. The one public function has no `requires`: it says of any bytes what they are.
 #![tactic(auto)]
+
 ghost use Rattle.std.specs.Prelude.{◌≡◌, ℕ, suc, ◌≤◌, false, length, replicate};
 ghost use Rattle.model.specs.Judge.{judge_entry, judge_directory, judge_root, judge_view};
 ghost use Rattle.model2.specs.Layout.{page_count, code_in};

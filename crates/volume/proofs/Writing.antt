@@ -1,6 +1,6 @@
 -- Writing along a chain: what is left of the bytes spread along the pages left is always the same image, and no link changes.
-use mathlib.Core.Path.{◌≡◌, refl, sym, ap, ap₂, ◌∙◌, subst}
-use Prim.Native.Nat.{ℕ, ◌+◌, ◌-◌, ◌*◌, ◌≤◌, ◌<◌, min}
+use mathlib.Core.Path.{◌≡◌, refl, sym, ap, ap₂, ◌∙◌}
+use Prim.Native.Nat.{ℕ, ◌+◌, ◌-◌, ◌≤◌, ◌<◌, min}
 use native.Mathlib.Nat.{sub-zero}
 use native.Mathlib.Omega.{arith}
 use native.Mathlib.Decide.{dec_lt}
@@ -17,7 +17,7 @@ use Rattle.volume.specs.Geometry.{Geometry}
 use Rattle.volume.proofs.Occ.{Mem}
 use Rattle.volume.proofs.Splice.{splice_nil}
 use Rattle.volume.proofs.Puts.{not_inside, put_length, put_out}
-use Rattle.volume.proofs.Fields.{place, wide, Off, load_same}
+use Rattle.volume.proofs.Fields.{Off, load_same}
 use Rattle.volume.proofs.Follow.{Each, Lies, PageLies, Inside, chain_turn, each_next, each_here, each_first}
 use Rattle.volume.proofs.Stretches.{take_min, drop_min}
 

@@ -13,4 +13,4 @@ pub returns : goal.returns
 unfolding same_name
 returns c =
     c.has_name_of.ensures ∙ named_same _ _ c.entry_at-one.result c.entry_at-one.ensures.0
-    c.in_default.not-Vacant
+    c.in_default.not-Vacant _
