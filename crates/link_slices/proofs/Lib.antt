@@ -1,3 +1,3 @@
-pub mod Locals
+pub mod Turns
 pub mod Readings
 pub mod Packs

@@ -1,6 +1,7 @@
 // Where a path leads on an image: what a call does first that takes the path of something that is there.
 // The image is judged, then the path, and then it is walked; whatever the bytes, the answer is a place of the tree or the first refusal.
 #![tactic(auto)]
+
 ghost use Rattle.std.specs.Prelude.{◌≡◌, ◌*◌, ◌-◌, ◌<◌, ◌≤◌, length};
 ghost use Rattle.model.specs.Layout.{page_size, page_count};
 ghost use Rattle.walk.specs.Steps.{name_in};

@@ -1,6 +1,7 @@
 // Where a path leads on an image of version 2 (paper 02 §12): what a call does first that takes the path of something that is there.
 // The image is judged, then the path, and then it is walked; whatever the bytes, the answer is a place of the tree, with the image's shape, or the first refusal.
 #![tactic(auto)]
+
 ghost use Rattle.std.specs.Prelude.{◌≡◌, ◌-◌, ◌≤◌, length};
 ghost use Rattle.model2.specs.Version2.{view2};
 ghost use Rattle.model2.specs.Calls.{v2};

@@ -1,0 +1,40 @@
+-- A turn over a slice of rows: what is left to judge, to pack or to put is that of the rows from i on.
+use mathlib.Core.Path.{◌≡◌, sym, ap, ◌∙◌}
+use Prim.Native.Nat.{ℕ, suc, ◌+◌, ◌≤◌, ◌<◌}
+use native.Mathlib.Omega.{arith}
+use native.Mathlib.Numerals.{add-one}
+use mathlib.Core.List.{List, [], ◌∷◌}
+use lib.ListN.{length, get_or, drop, set, drop_of_length-le}
+use lib.Seq.{drop-cons}
+use Rattle.volume.specs.Bytes.{Bytes}
+use Rattle.link_list.specs.declared.Row.{Row}
+use Rattle.link_judge.specs.declared.Judged.{Judged}
+use Rattle.link_judge.specs.Judged.{judged_next, judged_from}
+use Rattle.link_rows.specs.declared.Step.{Step}
+use Rattle.link_rows.specs.Told.{step_at}
+use Rattle.link_slices.specs.Writing.{packed_at, packed_bytes, packed_from}
+use Rattle.link_slices.proofs.Readings.{filled}
+
+-- row i in front of the rows behind it
+row_first : (xs : List Row) (i : ℕ) (r : Row) → i < length xs → r ≡ get_or xs i r → drop i xs ≡ r ∷ drop (i + 1) xs
+row_first xs i r l e = drop-cons xs i r l ∙ ap (λ (s : Row). s ∷ drop (suc i) xs) (sym e) ∙ ap (λ (k : ℕ). r ∷ drop k xs) (sym (add-one i))
+
+module _ (xs : List Row) (i : ℕ) where
+  module _ (r : Row) (l : i < length xs) (e : r ≡ get_or xs i r) where
+    pub judged_turn : (j n : Judged) → n ≡ judged_next j i r → judged_from (i + 1) n (drop (i + 1) xs) ≡ judged_from i j (drop i xs)
+    unfolding judged_from
+    judged_turn j n h = ap (λ (k : Judged). judged_from (i + 1) k (drop (i + 1) xs)) h ∙ ap (judged_from i j) (sym (row_first xs i r l e))
+
+    pub packed_turn : (at n : ℕ) (b c : Bytes) → n ≡ packed_at (length b) at r → c ≡ packed_bytes at r b → packed_from n c (drop (i + 1) xs) ≡ packed_from at b (drop i xs)
+    unfolding packed_from
+    packed_turn at n b c h k =
+        ap (λ (m : ℕ). packed_from m c (drop (i + 1) xs)) h ∙ ap (λ (d : Bytes). packed_from (packed_at (length b) at r) d (drop (i + 1) xs)) k
+        ∙ ap (packed_from at b) (sym (row_first xs i r l e))
+
+  pub judged_last : length xs ≤ i → (j : Judged) → j ≡ judged_from i j (drop i xs)
+  unfolding judged_from
+  judged_last l j = ap (judged_from i j) (sym (drop_of_length-le xs l))
+
+  pub packed_last : length xs ≤ i → (at : ℕ) (b : Bytes) → (at, b) ≡ packed_from at b (drop i xs)
+  unfolding packed_from
+  packed_last l at b = ap (packed_from at b) (sym (drop_of_length-le xs l))
