@@ -1,6 +1,6 @@
 -- The model's answer for each case of a call's enum.
-use Rattle.std.specs.Prelude.{◌≡◌, ℕ, ◌+◌, ◌*◌, leb}
-use Rattle.volume.specs.Bytes.{Bytes, if◌then◌else◌}
+use Rattle.std.specs.Prelude.{◌≡◌, ℕ, ◌+◌, ◌*◌, leb, if◌then◌else◌}
+use Rattle.volume.specs.Bytes.{Bytes}
 use Rattle.model.specs.Layout.{page_size}
 use Rattle.model.specs.Entry.{entry_count, entries_start, Entry, entry_at}
 use Rattle.model.specs.Call.{is_file, is_directory, Verdict, Found as Finding, Listed as Listing, empty, holds, refusal, Answer, refused, granted}

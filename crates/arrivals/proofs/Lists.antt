@@ -6,7 +6,8 @@ use mathlib.Core.Bool.{Bool, true, false, not}
 use mathlib.Core.List.{List, [], ◌∷◌, ◌++◌}
 use lib.ListN.{length}
 use lib.Dec.{T, leb, leb-zero, leb-suc-zero, leb-suc-suc}
-use Rattle.volume.specs.Bytes.{Bytes, if◌then◌else◌}
+use Rattle.volume.specs.Bytes.{Bytes}
+use Rattle.std.specs.Prelude.{if◌then◌else◌}
 use Rattle.volume.specs.Chain.{chain}
 use Rattle.volume.proofs.Occ.{Mem, mem_head, mem_tail}
 use Rattle.model.specs.Entry.{Entry, vacant, a_file, a_directory}

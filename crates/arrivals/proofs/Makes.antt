@@ -7,7 +7,8 @@ use mathlib.Core.Option.{Option, none, some, get_or, map}
 use mathlib.Core.List.{List, [], ◌∷◌, ◌++◌}
 use lib.ListN.{length}
 use lib.Dec.{T, ltb}
-use Rattle.volume.specs.Bytes.{Bytes, put, if◌then◌else◌}
+use Rattle.volume.specs.Bytes.{Bytes, put}
+use Rattle.std.specs.Prelude.{if◌then◌else◌}
 use Rattle.volume.specs.Geometry as On
 use Rattle.volume.proofs.Tests.{not_not}
 use Rattle.model.specs.Date.{good_date}

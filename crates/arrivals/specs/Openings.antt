@@ -1,8 +1,8 @@
 -- Where a make puts its entry, in the model's words, over any version: the lines 4, 11, 5, 6, 8, and 9 where directories do not grow. Number 10 stands behind
 -- them and counts the page that a full directory gets.
-use Rattle.std.specs.Prelude.{ℕ, suc, Bool, true, false, ◌&&◌, [], ◌∷◌, ◌++◌, ltb}
+use Rattle.std.specs.Prelude.{ℕ, suc, Bool, true, false, ◌&&◌, [], ◌∷◌, ◌++◌, ltb, if◌then◌else◌}
 use Rattle.std.proofs.Math.Option.{Option, none, some}
-use Rattle.volume.specs.Bytes.{Bytes, if◌then◌else◌}
+use Rattle.volume.specs.Bytes.{Bytes}
 use Rattle.volume.specs.Lists.{first}
 use Rattle.model.specs.View.{View}
 use Rattle.model.specs.Path.{Name, Path, path_of, last_name}

@@ -9,7 +9,8 @@ use mathlib.Core.List.{List, [], ◌∷◌, ◌++◌, map, flat_map, append-nil}
 use lib.ListN.{length, get_or, replicate, length-append, length-replicate, get_or-replicate, get_or-append}
 use lib.Seq.{get_or-append-add, ext_get_or}
 use lib.Dec.{T, eqb, eqb→eq, eqb-suc-zero}
-use Rattle.volume.specs.Bytes.{Bytes, if◌then◌else◌}
+use Rattle.volume.specs.Bytes.{Bytes}
+use Rattle.std.specs.Prelude.{if◌then◌else◌}
 use Rattle.volume.specs.Lists.{all, member, count_from, up_to}
 use Rattle.volume.specs.Geometry as On
 use Rattle.volume.proofs.Occ.{occ, Mem, mem_head, mem_cons, mem_or_not, not_mem}

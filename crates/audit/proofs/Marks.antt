@@ -7,7 +7,8 @@ use mathlib.Core.List.{List, [], ◌∷◌, ◌++◌}
 use lib.ListN.{length, take, drop, replicate, length-replicate}
 use lib.Dec.{T, eqb, leb, leb→le}
 use Rattle.volume.proofs.Tests.{conditions_cons}
-use Rattle.volume.specs.Bytes.{Bytes, if◌then◌else◌}
+use Rattle.volume.specs.Bytes.{Bytes}
+use Rattle.std.specs.Prelude.{if◌then◌else◌}
 use Rattle.model.specs.Layout.{page_count, valid_length, valid_header}
 use Rattle.model.specs.Sound.{sound}
 use Rattle.claims.specs.Claim.{stops, goes}

@@ -8,7 +8,8 @@ use mathlib.Core.Bool.{Bool, true, false, not}
 use mathlib.Core.List.{List, [], ◌∷◌, map}
 use lib.ListN.{length, get_or, replicate, length-map, length-replicate, get_or-eq_default}
 use lib.Dec.{T}
-use Rattle.volume.specs.Bytes.{Bytes, if◌then◌else◌}
+use Rattle.volume.specs.Bytes.{Bytes}
+use Rattle.std.specs.Prelude.{if◌then◌else◌}
 use Rattle.volume.specs.Lists.{member, up_to}
 use Rattle.volume.proofs.Occ.{Mem, mem_head, mem_cons}
 use Rattle.volume.proofs.Tests.{if_yes, if_no, member_occ, occ_member}

@@ -8,7 +8,8 @@ use mathlib.Core.Bool.{Bool, true, false}
 use mathlib.Core.List.{List, [], ◌∷◌, ◌++◌, flat_map}
 use lib.ListN.{length, get_or, set, take, drop, length-set}
 use lib.Seq.{length-take-le, get_or-take, drop-cons, drop-append-le, take-suc-set, drop-length}
-use Rattle.volume.specs.Bytes.{Bytes, if◌then◌else◌}
+use Rattle.volume.specs.Bytes.{Bytes}
+use Rattle.std.specs.Prelude.{if◌then◌else◌}
 use Rattle.volume.proofs.Occ.{Mem, occ_append, mem_head, mem_tail, mem_cons, mem_or_not}
 use Rattle.model.specs.Layout.{page_count}
 use Rattle.model.specs.Entry.{entries}

@@ -8,7 +8,8 @@ use mathlib.Core.Bool.{Bool, true, false}
 use mathlib.Core.List.{List, [], ◌∷◌, ◌++◌, flat_map}
 use lib.ListN.{length, length-append}
 use lib.Dec.{T}
-use Rattle.volume.specs.Bytes.{Bytes, if◌then◌else◌}
+use Rattle.volume.specs.Bytes.{Bytes}
+use Rattle.std.specs.Prelude.{if◌then◌else◌}
 use Rattle.volume.proofs.Occ.{occ, Mem, occ_append, mem_head, mem_tail, mem_cons, mem_or_not}
 use Rattle.volume.proofs.Flat.{flat_map_append, flat_map_same, occ_flat_map_le, mem_flat_map}
 use Rattle.model.specs.Entry.{entries, Entry, vacant, a_file, a_directory, entry_at}

@@ -9,7 +9,8 @@ use mathlib.Core.List.{List, [], ◌∷◌, ◌++◌, flat_map}
 use lib.ListN.{length, get_or, set, length-set}
 use lib.Seq.{get_or-set_same, get_or-set_other}
 use lib.Dec.{T, eqb, ltb, eqb→eq, ltb→lt, lt→ltb}
-use Rattle.volume.specs.Bytes.{Bytes, if◌then◌else◌}
+use Rattle.volume.specs.Bytes.{Bytes}
+use Rattle.std.specs.Prelude.{if◌then◌else◌}
 use Rattle.volume.specs.Chain.{chain, beyond}
 use Rattle.volume.proofs.Occ.{hit_refl, occ, Mem, occ_append, mem_head, mem_tail, mem_cons, mem_or_not}
 use Rattle.volume.proofs.Tests.{and_both, both_and, eq-eqb}

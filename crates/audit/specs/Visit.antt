@@ -1,7 +1,7 @@
 -- The second judge's way (paper 02 §8), for the contracts of its parts; no public contract cites it. It keeps the directories still to be
 -- visited and a row of owners, one a page: 0 nobody, 1 the header, else the position of the owner's entry. It shares no definition with `Judge`.
-use Rattle.std.specs.Prelude.{ℕ, zero, suc, ◌+◌, ◌-◌, ◌&&◌, List, [], ◌∷◌, ◌++◌, length, replicate}
-use Rattle.volume.specs.Bytes.{Bytes, if◌then◌else◌}
+use Rattle.std.specs.Prelude.{ℕ, zero, suc, ◌+◌, ◌-◌, ◌&&◌, List, [], ◌∷◌, ◌++◌, length, replicate, if◌then◌else◌}
+use Rattle.volume.specs.Bytes.{Bytes}
 use Rattle.model.specs.Layout.{page_count, valid_length, valid_header}
 use Rattle.model.specs.Entry.{entries}
 use Rattle.model.specs.Version1.{view}

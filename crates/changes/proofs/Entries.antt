@@ -6,7 +6,8 @@ use mathlib.Core.Bool.{Bool, true, false}
 use mathlib.Core.List.{List}
 use lib.ListN.{length}
 use lib.Dec.{T}
-use Rattle.volume.specs.Bytes.{Bytes, if◌then◌else◌}
+use Rattle.volume.specs.Bytes.{Bytes}
+use Rattle.std.specs.Prelude.{if◌then◌else◌}
 use Rattle.model.specs.Layout.{page_count, zero_bits}
 use Rattle.model.specs.Entry.{vacant, a_file, a_directory, occupied, is_directory, is_locked, name_at, start_at, size_at, date_at, entry_at}
 use Rattle.model.specs.Version1.{view}

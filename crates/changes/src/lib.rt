@@ -1,6 +1,7 @@
 // What make and remove do to the bytes of an image once they are granted: an entry is put or cleared, and its chain grows or goes.
 // Nothing is judged here. What a function asks of the image holds on every sound one, and its contract is the model's effect, byte for byte.
 #![tactic(auto)]
+
 ghost use Rattle.std.specs.Prelude.{◌≡◌, ◌+◌, ◌<◌, ◌≤◌, length, set};
 ghost use mathlib.Core.List.{foldl};
 ghost use Rattle.volume.specs.Bytes.{put, le16};

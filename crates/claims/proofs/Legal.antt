@@ -8,7 +8,8 @@ use mathlib.Core.List.{[], ◌∷◌}
 use lib.ListN.{length, get_or, drop}
 use lib.Seq.{drop-length}
 use lib.Dec.{eqb}
-use Rattle.volume.specs.Bytes.{Bytes, byte_at, if◌then◌else◌}
+use Rattle.volume.specs.Bytes.{Bytes, byte_at}
+use Rattle.std.specs.Prelude.{if◌then◌else◌}
 use Rattle.volume.specs.Lists.{all}
 use Rattle.volume.proofs.Puts.{byte_part, part_length}
 use Rattle.model.specs.Entry.{name_at}

@@ -7,7 +7,8 @@ use mathlib.Core.Bool.{Bool, true, false, not, ◌&&◌}
 use mathlib.Core.List.{List, [], ◌∷◌, ◌++◌, flat_map, append-nil}
 use lib.ListN.{length, set, take, length-set}
 use lib.Seq.{take-suc-set, append_snoc}
-use Rattle.volume.specs.Bytes.{Bytes, if◌then◌else◌}
+use Rattle.volume.specs.Bytes.{Bytes}
+use Rattle.std.specs.Prelude.{if◌then◌else◌}
 use Rattle.volume.specs.Lists.{all}
 use Rattle.model.specs.Entry as Model
 use Rattle.model.specs.Entry.{entry_count, entries, is_locked, name_at, date_at, entry_at}

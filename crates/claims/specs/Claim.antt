@@ -1,8 +1,8 @@
 -- What an entry of a directory claims (paper 02 §8), for the contracts of the second judge's parts; no public contract cites it. A row has an owner
 -- for each page: 0 nobody, 1 the header, else the position of the owner's entry. It shares no definition with `Judge`.
-use Rattle.std.specs.Prelude.{ℕ, zero, suc, ◌&&◌, length, get_or, set, eqb, ltb}
+use Rattle.std.specs.Prelude.{ℕ, zero, suc, ◌&&◌, length, get_or, set, eqb, ltb, if◌then◌else◌}
 use mathlib.Core.List.{List, [], ◌∷◌, flat_map}
-use Rattle.volume.specs.Bytes.{Bytes, if◌then◌else◌}
+use Rattle.volume.specs.Bytes.{Bytes}
 use Rattle.model.specs.Layout.{pages_for, link}
 use Rattle.model.specs.Name.{legal_name}
 use Rattle.model.specs.Entry.{Entry, vacant, a_file, a_directory, entry_at}

@@ -1,6 +1,6 @@
 -- What the parts of the second judge that claim pages are lent, and what their answers mean.
-use Rattle.std.specs.Prelude.{◌≡◌, ℕ, ◌+◌, ◌-◌, ◌*◌, ◌≤◌, Bool, true, false, not, List, map, length}
-use Rattle.volume.specs.Bytes.{Bytes, if◌then◌else◌}
+use Rattle.std.specs.Prelude.{◌≡◌, ℕ, ◌+◌, ◌-◌, ◌*◌, ◌≤◌, Bool, true, false, not, List, map, length, if◌then◌else◌}
+use Rattle.volume.specs.Bytes.{Bytes}
 use Rattle.volume.specs.Lists.{all, count_from}
 use Rattle.model.specs.Layout.{page_count}
 use Rattle.model.specs.Entry.{entry_count, entries_start, Entry, entry_at}

@@ -3,7 +3,7 @@
 #![tactic(auto)]
 
 ghost use Rattle.std.specs.Prelude.{◌≡◌, ◌+◌, ◌≤◌, ◌<◌, ◌++◌, length, take, ◌&&◌, eqb};
-ghost use Rattle.volume.specs.Bytes.{if◌then◌else◌};
+ghost use Rattle.std.specs.Prelude.{if◌then◌else◌};
 ghost use Rattle.model.specs.Layout.{page_count};
 ghost use Rattle.model.specs.Name.{legal_byte, legal_name};
 ghost use Rattle.model.specs.Entry.{entry_count, entries, name_at, entry_at};

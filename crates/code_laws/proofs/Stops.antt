@@ -8,7 +8,8 @@ use mathlib.Core.Option.{Option, none, some}
 use mathlib.Core.List.{List, [], ◌∷◌, ◌++◌, drop_last}
 use lib.ListN.{length}
 use lib.Dec.{T, eqb}
-use Rattle.volume.specs.Bytes.{Bytes, same, if◌then◌else◌}
+use Rattle.volume.specs.Bytes.{Bytes, same}
+use Rattle.std.specs.Prelude.{if◌then◌else◌}
 use Rattle.volume.specs.Lists.{all, last_or}
 use Rattle.volume.proofs.Tests.{and_both}
 use Rattle.model.specs.Name.{legal_text}

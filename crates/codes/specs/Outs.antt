@@ -1,7 +1,6 @@
 -- The numbers that a C caller gets in the out arrays, of a model's answer. Beside a refusal they are zeros.
-use Rattle.std.specs.Prelude.{ℕ, Bool, List, [], ◌∷◌}
+use Rattle.std.specs.Prelude.{ℕ, Bool, List, [], ◌∷◌, if◌then◌else◌}
 use Rattle.std.proofs.Math.Option.{Option, none, some}
-use Rattle.volume.specs.Bytes.{if◌then◌else◌}
 use Rattle.model.specs.Call.{Kind, is_file, is_directory, Verdict, Found, Listed, empty, holds, Answer, refused, granted}
 
 unfoldable pub kind_number : Kind → ℕ

@@ -9,7 +9,8 @@ use mathlib.Core.List.{List, [], ◌∷◌, flat_map}
 use lib.ListN.{length, length-append}
 use lib.Dec.{eqb}
 use borrow.Author.Tests.{lt-ltb, le-ltb}
-use Rattle.volume.specs.Bytes.{Bytes, if◌then◌else◌}
+use Rattle.volume.specs.Bytes.{Bytes}
+use Rattle.std.specs.Prelude.{if◌then◌else◌}
 use Rattle.volume.specs.Lists.{all}
 use Rattle.volume.proofs.Occ.{Mem, mem_head, mem_tail}
 use Rattle.model.specs.Judge.{Fault, fault, judge_view}

@@ -8,7 +8,8 @@ use mathlib.Core.Option.{none, some}
 use mathlib.Core.List.{List, ◌∷◌}
 use lib.ListN.{length}
 use lib.Dec.{eqb}
-use Rattle.volume.specs.Bytes.{Bytes, byte_at, bit, if◌then◌else◌}
+use Rattle.volume.specs.Bytes.{Bytes, byte_at, bit}
+use Rattle.std.specs.Prelude.{if◌then◌else◌}
 use Rattle.volume.specs.Lists.{first}
 use Rattle.volume.specs.Geometry as On
 use Rattle.volume.proofs.Occ.{mem_head}

@@ -1,8 +1,8 @@
 -- What is left of a directory's row from a cursor on. The whole row is `entries` of a view; the first cursor has all of it left.
-use Rattle.std.specs.Prelude.{ℕ, ◌+◌, ◌-◌, ◌*◌, ◌<◌, eqb}
+use Rattle.std.specs.Prelude.{ℕ, ◌+◌, ◌-◌, ◌*◌, ◌<◌, eqb, if◌then◌else◌}
 use Rattle.std.proofs.Math.Option.{Option, none, some}
 use mathlib.Core.List.{List, [], ◌∷◌, ◌++◌, map, flat_map}
-use Rattle.volume.specs.Bytes.{Bytes, if◌then◌else◌}
+use Rattle.volume.specs.Bytes.{Bytes}
 use Rattle.volume.specs.Lists.{count_from}
 use Rattle.volume.specs.Geometry as On
 use Rattle.volume.proofs.Follow.{Each, PageLies, Lies}

@@ -5,7 +5,8 @@ use native.Mathlib.Omega.{arith}
 use mathlib.Core.Bool.{Bool, true, false}
 use mathlib.Core.List.{[], ◌∷◌, ◌++◌, append_assoc, append-nil}
 use lib.ListN.{length, set, drop, replicate, length-append}
-use Rattle.volume.specs.Bytes.{Bytes, put, zeros, if◌then◌else◌}
+use Rattle.volume.specs.Bytes.{Bytes, put, zeros}
+use Rattle.std.specs.Prelude.{if◌then◌else◌}
 use Rattle.volume.proofs.Puts.{part_length}
 use Rattle.model.specs.Entry.{Entry, vacant, a_file, a_directory}
 use Rattle.model2.specs.Entry.{occupied, is_directory, is_locked, name_at, date_at, start_at, size_at, entry_at, size_bytes}

@@ -1,6 +1,6 @@
 -- Paper 02 §14: what can be noticed from one directory of an image, whatever the others hold.
-use Rattle.std.specs.Prelude.{◌≡◌, ℕ, List, [], ◌∷◌, ◌++◌, Bool, not, T}
-use Rattle.volume.specs.Bytes.{Bytes, if◌then◌else◌}
+use Rattle.std.specs.Prelude.{◌≡◌, ℕ, List, [], ◌∷◌, ◌++◌, Bool, not, T, if◌then◌else◌}
+use Rattle.volume.specs.Bytes.{Bytes}
 use Rattle.model.specs.Layout.{free_count}
 use Rattle.model.specs.Sound.{sound}
 use Rattle.model.specs.Tree.{Row}

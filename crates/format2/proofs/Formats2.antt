@@ -8,7 +8,8 @@ use native.Mathlib.Omega.{arith}
 use mathlib.Core.Bool.{Bool, true, false}
 use mathlib.Core.List.{[], ◌∷◌, ◌++◌}
 use lib.ListN.{length, replicate, replicate-append-replicate}
-use Rattle.volume.specs.Bytes.{Bytes, put, zeros, le16, if◌then◌else◌}
+use Rattle.volume.specs.Bytes.{Bytes, put, zeros, le16}
+use Rattle.std.specs.Prelude.{if◌then◌else◌}
 use Rattle.volume.specs.Geometry.{Geometry}
 use Rattle.volume.proofs.Fills.{length_zeros}
 use Rattle.volume.proofs.Splice.{splice_splice}

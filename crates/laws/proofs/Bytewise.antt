@@ -7,7 +7,8 @@ use mathlib.Core.Bool.{Bool, true, false, ◌&&◌}
 use mathlib.Core.List.{List, [], ◌∷◌, ◌++◌, foldl}
 use lib.ListN.{length, set, replicate}
 use lib.Dec.{T, eqb, leb, eqb→eq, leb→le}
-use Rattle.volume.specs.Bytes.{Bytes, byte_at, put, le16, if◌then◌else◌}
+use Rattle.volume.specs.Bytes.{Bytes, byte_at, put, le16}
+use Rattle.std.specs.Prelude.{if◌then◌else◌}
 use Rattle.volume.specs.Lists.{all}
 use Rattle.volume.specs.Field.{byte}
 use Rattle.volume.specs.Geometry as On

@@ -10,7 +10,8 @@ use mathlib.Core.Option.{Option, none, some, get_or, some-ne-none}
 use mathlib.Core.List.{List, [], ◌∷◌, ◌++◌, drop_last, map, map-append}
 use lib.ListN.{length, replicate}
 use lib.Dec.{T, eqb, eqb→eq}
-use Rattle.volume.specs.Bytes.{Bytes, same, if◌then◌else◌}
+use Rattle.volume.specs.Bytes.{Bytes, same}
+use Rattle.std.specs.Prelude.{if◌then◌else◌}
 use Rattle.volume.specs.Lists.{all, last_or}
 use Rattle.volume.proofs.Occ.{occ, hit, hit_refl}
 use Rattle.volume.proofs.Tests.{and_both, same_true}

@@ -9,7 +9,8 @@ use mathlib.Core.List.{List, [], ◌∷◌, ◌++◌, map, foldl}
 use lib.ListN.{length, set}
 use lib.Dec.{T, eqb, T_not}
 use lib.Seq.{get_or-set_other}
-use Rattle.volume.specs.Bytes.{Bytes, byte_at, bit, if◌then◌else◌}
+use Rattle.volume.specs.Bytes.{Bytes, byte_at, bit}
+use Rattle.std.specs.Prelude.{if◌then◌else◌}
 use Rattle.volume.specs.Lists.{member, count_from, last_or}
 use Rattle.volume.specs.Chain.{chain, along}
 use Rattle.volume.specs.Field.{Field, byte}

@@ -8,7 +8,8 @@ use mathlib.Core.Option.{some, none, some-ne-none}
 use mathlib.Core.List.{List, [], ◌∷◌, ◌++◌}
 use lib.ListN.{length}
 use lib.Dec.{T, eqb}
-use Rattle.volume.specs.Bytes.{Bytes, same, if◌then◌else◌}
+use Rattle.volume.specs.Bytes.{Bytes, same}
+use Rattle.std.specs.Prelude.{if◌then◌else◌}
 use Rattle.volume.proofs.Tests.{not_not_of, same_true}
 use Rattle.model.specs.Layout.{page_size, page_count, valid_length, valid_header}
 use Rattle.model.specs.Sound.{sound}

@@ -10,7 +10,8 @@ use mathlib.Core.List.{List, [], ◌∷◌}
 use lib.ListN.{set}
 use lib.Dec.{T}
 use lib.Seq.{set-set}
-use Rattle.volume.specs.Bytes.{Bytes, byte_at, bit, if◌then◌else◌}
+use Rattle.volume.specs.Bytes.{Bytes, byte_at, bit}
+use Rattle.std.specs.Prelude.{if◌then◌else◌}
 use Rattle.volume.specs.Lists.{first}
 use Rattle.volume.proofs.Occ.{Mem, mem_head, mem_tail, hit_cases}
 use Rattle.model.specs.Entry.{entries, is_locked, name_at, start_at, size_at, date_at, Entry, vacant, a_file, a_directory, entry_at}

@@ -8,7 +8,8 @@ use mathlib.Core.Bool.{not}
 use mathlib.Core.List.{List, ◌++◌}
 use lib.ListN.{length, length-append}
 use lib.Dec.{T, eqb}
-use Rattle.volume.specs.Bytes.{Bytes, byte_at, put, le16, if◌then◌else◌}
+use Rattle.volume.specs.Bytes.{Bytes, byte_at, put, le16}
+use Rattle.std.specs.Prelude.{if◌then◌else◌}
 use Rattle.volume.specs.Chain.{chain, beyond, along}
 use Rattle.volume.specs.Field.{byte}
 use Rattle.volume.specs.Geometry as On

@@ -10,7 +10,8 @@ use mathlib.Core.List.{List, [], ◌∷◌, ◌++◌, flat_map, tail, append-nil
 use lib.ListN.{length, take, replicate, length-replicate, get_or-replicate}
 use lib.Seq.{get_or-append-add}
 use lib.Dec.{T}
-use Rattle.volume.specs.Bytes.{Bytes, byte_at, bit, le16, if◌then◌else◌}
+use Rattle.volume.specs.Bytes.{Bytes, byte_at, bit, le16}
+use Rattle.std.specs.Prelude.{if◌then◌else◌}
 use Rattle.volume.specs.Field.{load, pair}
 use Rattle.volume.specs.Chain.{chain, beyond, linked}
 use Rattle.volume.specs.Geometry as On

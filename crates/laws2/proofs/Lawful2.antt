@@ -7,7 +7,7 @@ use native.Mathlib.Numerals.{add-one}
 use native.Mathlib.Omega.{arith}
 use mathlib.Core.Bool.{Bool, true, false, not}
 use lib.Dec.{T, ltb, lt→ltb, ltb→lt, not_T}
-use Rattle.volume.specs.Bytes.{if◌then◌else◌}
+use Rattle.std.specs.Prelude.{if◌then◌else◌}
 use Rattle.volume.proofs.Tests.{if_yes, if_no}
 use Rattle.volume.proofs.Fields.{place, wide}
 use Rattle.volume.proofs.Lawful.{Lawful, Kept}

@@ -9,7 +9,8 @@ use mathlib.Core.Option.{Option, some, get_or}
 use mathlib.Core.List.{List, [], ◌∷◌, ◌++◌, flat_map, append-nil, tail}
 use lib.ListN.{length, length-append}
 use lib.Dec.{T, eqb, eqb_refl}
-use Rattle.volume.specs.Bytes.{Bytes, byte_at, put, if◌then◌else◌}
+use Rattle.volume.specs.Bytes.{Bytes, byte_at, put}
+use Rattle.std.specs.Prelude.{if◌then◌else◌}
 use Rattle.volume.specs.Lists.{first}
 use Rattle.volume.specs.Chain.{chain, beyond, linked}
 use Rattle.volume.specs.Field.{load}

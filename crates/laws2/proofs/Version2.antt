@@ -7,7 +7,8 @@ use mathlib.Core.Bool.{Bool, true, false}
 use mathlib.Core.List.{List, [], ◌∷◌, flat_map, append-nil}
 use lib.ListN.{length, length-map}
 use lib.Dec.{T, eqb-suc-zero}
-use Rattle.volume.specs.Bytes.{Bytes, if◌then◌else◌}
+use Rattle.volume.specs.Bytes.{Bytes}
+use Rattle.std.specs.Prelude.{if◌then◌else◌}
 use Rattle.volume.specs.Lists.{count_from, up_to}
 use Rattle.volume.specs.Chain.{beyond, linked}
 use Rattle.volume.specs.Geometry as On

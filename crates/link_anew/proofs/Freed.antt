@@ -8,7 +8,8 @@ use mathlib.Core.List.{List}
 use lib.ListN.{length}
 use lib.Dec.{T}
 use borrow.Author.Tests.{ne_eqb}
-use Rattle.volume.specs.Bytes.{Bytes, same, if◌then◌else◌}
+use Rattle.volume.specs.Bytes.{Bytes, same}
+use Rattle.std.specs.Prelude.{if◌then◌else◌}
 use Rattle.model.specs.Layout.{pages_for}
 use Rattle.model.specs.Date.{good_date}
 use Rattle.model.specs.Sound.{sound}

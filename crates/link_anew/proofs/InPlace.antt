@@ -8,7 +8,8 @@ use mathlib.Core.List.{List, [], ◌∷◌}
 use lib.ListN.{length, replicate, length-replicate}
 use lib.Dec.{T, ltb, leb, leb→le, leb-suc-zero, nltb→le}
 use borrow.Author.Tests.{le-ltb}
-use Rattle.volume.specs.Bytes.{Bytes, if◌then◌else◌}
+use Rattle.volume.specs.Bytes.{Bytes}
+use Rattle.std.specs.Prelude.{if◌then◌else◌}
 use Rattle.model.specs.Layout.{pages_for, free_count}
 use Rattle.model.specs.Sound.{sound}
 use Rattle.model.specs.Tree.{free_number}

@@ -9,7 +9,8 @@ use lib.ListN.{length, take, replicate, length-replicate, drop_of_length-le}
 use lib.Seq.{length-take-le}
 use lib.Dec.{eqb}
 use borrow.Author.Tests.{ne_eqb}
-use Rattle.volume.specs.Bytes.{Bytes, put, if◌then◌else◌}
+use Rattle.volume.specs.Bytes.{Bytes, put}
+use Rattle.std.specs.Prelude.{if◌then◌else◌}
 use Rattle.model.specs.Call.{Call, make_file, write, remove_file, Told, Refusal, Answer, refused, granted}
 use Rattle.model.specs.Meaning.{answer, after}
 use Rattle.laws.proofs.Lines.{not_granted}

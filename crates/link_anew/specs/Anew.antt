@@ -1,6 +1,6 @@
 -- The base's calls that make a file anew with its content, in turn (paper 02 §4), of which the first refusal ends it.
-use Rattle.std.specs.Prelude.{◌≡◌, ℕ, ◌≤◌, max, Bool, false, List, [], ◌∷◌, ◌++◌, T, eqb}
-use Rattle.volume.specs.Bytes.{Bytes, if◌then◌else◌}
+use Rattle.std.specs.Prelude.{◌≡◌, ℕ, ◌≤◌, max, Bool, false, List, [], ◌∷◌, ◌++◌, T, eqb, if◌then◌else◌}
+use Rattle.volume.specs.Bytes.{Bytes}
 use Rattle.model.specs.Layout.{pages_for, free_count}
 use Rattle.model.specs.Sound.{sound}
 use Rattle.model.specs.Call.{Call, make_file, write, remove_file, Refusal, Answer, refused, granted}

@@ -1,7 +1,6 @@
 -- What a caller in C is told of an answer of the link list (paper 02 §4): a code as for the base's calls, but that 21, 22 and 23 have one number for a
 -- place, which is the byte of the file or the row's number.
-use Rattle.std.specs.Prelude.{◌≡◌, ℕ, ◌+◌, ◌*◌, ◌-◌, ◌/◌, ◌%◌, ◌^◌, ◌≤◌, min, Bool, not, ◌||◌, T, eqb}
-use Rattle.volume.specs.Bytes.{if◌then◌else◌}
+use Rattle.std.specs.Prelude.{◌≡◌, ℕ, ◌+◌, ◌*◌, ◌-◌, ◌/◌, ◌%◌, ◌^◌, ◌≤◌, min, Bool, not, ◌||◌, T, eqb, if◌then◌else◌}
 use Rattle.model.specs.Call.{Refusal, Answer, refused, granted}
 use Rattle.codes.specs.Codes.{refusal_code, Apart, Fits}
 

@@ -11,7 +11,8 @@ use lib.ListN.{length, take, drop, length-take}
 use lib.Seq.{take_all, take-append_seam}
 use lib.Dec.{T, eqb, leb, leb-suc-zero}
 use borrow.Author.Tests.{not-true}
-use Rattle.volume.specs.Bytes.{Bytes, put, if◌then◌else◌}
+use Rattle.volume.specs.Bytes.{Bytes, put}
+use Rattle.std.specs.Prelude.{if◌then◌else◌}
 use Rattle.volume.specs.Lists.{count_from}
 use Rattle.model.specs.Entry.{entries_start, entries, Entry, vacant, a_file, a_directory, entry_at}
 use Rattle.model.specs.Version1.{view}

@@ -1,7 +1,6 @@
 -- How far a list is judged that is to be written (02 §4), a row at a time, and the list as numbers.
-use Rattle.std.specs.Prelude.{ℕ, zero, suc, ◌+◌, ◌*◌, ◌/◌, Bool, true, false, not, ◌||◌, List, [], ◌∷◌, length, get_or, eqb}
+use Rattle.std.specs.Prelude.{ℕ, zero, suc, ◌+◌, ◌*◌, ◌/◌, Bool, true, false, not, ◌||◌, List, [], ◌∷◌, length, get_or, eqb, if◌then◌else◌}
 use Rattle.std.proofs.Math.Option.{Option, none, some}
-use Rattle.volume.specs.Bytes.{if◌then◌else◌}
 use Rattle.model.specs.Call.{Refusal, refusal_at}
 use Rattle.link_list.specs.declared.Row.{Row}
 use Rattle.link_list.specs.Coding.{in_range, above}

@@ -9,7 +9,8 @@ use mathlib.Core.List.{List, [], ◌∷◌, ◌++◌}
 use lib.ListN.{length, length-append}
 use lib.Dec.{eqb, ltb, T}
 use borrow.Author.Tests.{ne_eqb, eqb-true, eqb-false, lt-ltb, le-ltb}
-use Rattle.volume.specs.Bytes.{Bytes, if◌then◌else◌}
+use Rattle.volume.specs.Bytes.{Bytes}
+use Rattle.std.specs.Prelude.{if◌then◌else◌}
 use Rattle.volume.proofs.Small.{Small}
 use Rattle.model.specs.Call.{Refusal, refusal_at}
 use Rattle.link_list.specs.declared.Row.{Row}

@@ -7,7 +7,8 @@ use mathlib.Core.List.{List, [], ◌∷◌, ◌++◌}
 use lib.ListN.{length, drop}
 use lib.Dec.{T, ltb}
 use borrow.Author.Tests.{le-ltb, not-true}
-use Rattle.volume.specs.Bytes.{Bytes, if◌then◌else◌}
+use Rattle.volume.specs.Bytes.{Bytes}
+use Rattle.std.specs.Prelude.{if◌then◌else◌}
 use Rattle.model.specs.Sound.{sound}
 use Rattle.model.specs.Tree.{Tree, Node, file_node, directory_node, lookup}
 use Rattle.model.specs.Image.{tree_of}

@@ -6,7 +6,8 @@ use mathlib.Core.Option.{Option, none, some, none-ne-some, some-ne-none}
 use mathlib.Core.List.{List, [], ◌∷◌, ◌++◌}
 use lib.ListN.{length}
 use lib.Dec.{T, eqb, eqb→eq}
-use Rattle.volume.specs.Bytes.{Bytes, if◌then◌else◌}
+use Rattle.volume.specs.Bytes.{Bytes}
+use Rattle.std.specs.Prelude.{if◌then◌else◌}
 use Rattle.volume.specs.Lists.{all, any, member}
 use Rattle.volume.proofs.Tests.{and_both, both_and}
 use Rattle.model.specs.Sound.{sound}

@@ -12,7 +12,8 @@ use mathlib.Core.List.{append_assoc}
 use lib.Seq.{get_or-append-add}
 use lib.Dec.{eqb, leb, ltb, T, leb→le, ltb→lt}
 use borrow.Author.Tests.{lt-ltb, leb-true, ltb-true, eq-eqb, ne_eqb}
-use Rattle.volume.specs.Bytes.{Bytes, if◌then◌else◌}
+use Rattle.volume.specs.Bytes.{Bytes}
+use Rattle.std.specs.Prelude.{if◌then◌else◌}
 use Rattle.volume.specs.Lists.{all}
 use Rattle.volume.proofs.Small.{Small}
 use Rattle.volume.proofs.Tests.{conditions_cons}

@@ -5,7 +5,8 @@ use mathlib.Core.Bool.{Bool, true, false, not, ◌&&◌}
 use mathlib.Core.Option.{Option, none, some}
 use mathlib.Core.List.{List, [], ◌∷◌}
 use lib.Dec.{T}
-use Rattle.volume.specs.Bytes.{Bytes, same, if◌then◌else◌}
+use Rattle.volume.specs.Bytes.{Bytes, same}
+use Rattle.std.specs.Prelude.{if◌then◌else◌}
 use Rattle.volume.specs.Lists.{all, conditions}
 use Rattle.volume.proofs.Tests.{and_both, both_and, conditions_cons, same_true}
 use Rattle.model.specs.Layout.{page_count}

@@ -10,7 +10,8 @@ use lib.ListN.{length, drop}
 use lib.Seq.{drop-nil}
 use lib.Dec.{T, eqb, ltb, leb-suc-zero}
 use borrow.Author.Tests.{eqb-false, not-true}
-use Rattle.volume.specs.Bytes.{Bytes, same, put, if◌then◌else◌}
+use Rattle.volume.specs.Bytes.{Bytes, same, put}
+use Rattle.std.specs.Prelude.{if◌then◌else◌}
 use Rattle.volume.specs.Lists.{all, any}
 use Rattle.volume.proofs.Tests.{not_not, same_refl}
 use Rattle.model.specs.Name.{legal_byte, legal_text, padded}

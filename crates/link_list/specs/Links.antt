@@ -1,8 +1,8 @@
 -- Paper 02 §4: the calls on the file LINKS of a directory, what each answers and what it does, on the plain tree and on the bytes of any image.
 -- The base's refusals are the base's own lines.
-use Rattle.std.specs.Prelude.{ℕ, zero, suc, ◌+◌, Bool, true, false, not, ◌&&◌, List, [], ◌∷◌, ◌++◌, length, drop, eqb, ltb}
+use Rattle.std.specs.Prelude.{ℕ, zero, suc, ◌+◌, Bool, true, false, not, ◌&&◌, List, [], ◌∷◌, ◌++◌, length, drop, eqb, ltb, if◌then◌else◌}
 use Rattle.std.proofs.Math.Option.{Option, none, some}
-use Rattle.volume.specs.Bytes.{Bytes, if◌then◌else◌}
+use Rattle.volume.specs.Bytes.{Bytes}
 use Rattle.model.specs.Date.{good_date}
 use Rattle.model.specs.Name.{padded}
 use Rattle.model.specs.Tree.{Tree, Node, lookup}

@@ -9,7 +9,8 @@ use lib.ListN.{length, set, length-set}
 use lib.Seq.{drop-nil, set_comm}
 use lib.Dec.{ltb}
 use borrow.Author.Tests.{lt-ltb, le-ltb}
-use Rattle.volume.specs.Bytes.{Bytes, put, if◌then◌else◌}
+use Rattle.volume.specs.Bytes.{Bytes, put}
+use Rattle.std.specs.Prelude.{if◌then◌else◌}
 use Rattle.link_list.specs.Coding.{groups}
 
 -- ---- bytes put one after another

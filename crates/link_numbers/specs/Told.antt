@@ -1,7 +1,7 @@
 -- What a number that was read says of the bytes v.
-use Rattle.std.specs.Prelude.{ℕ, ◌+◌, ◌*◌, ◌%◌, ◌≤◌, ◌<◌, ◌^◌, length, drop, eqb}
+use Rattle.std.specs.Prelude.{ℕ, ◌+◌, ◌*◌, ◌%◌, ◌≤◌, ◌<◌, ◌^◌, length, drop, eqb, if◌then◌else◌}
 use Rattle.std.proofs.Math.Option.{none, some}
-use Rattle.volume.specs.Bytes.{Bytes, if◌then◌else◌}
+use Rattle.volume.specs.Bytes.{Bytes}
 use Rattle.link_list.specs.Coding.{Taken}
 use Rattle.link_numbers.specs.declared.NumberAt.{NumberAt}
 use Rattle.link_numbers.specs.declared.NumberAt.TheVariants as number

@@ -7,7 +7,8 @@ use mathlib.Core.Option.{Option, none, some}
 use mathlib.Core.List.{[], ◌∷◌, ◌++◌}
 use lib.Dec.{T, eqb, leb-suc-zero}
 use borrow.Author.Tests.{not-true, ne_eqb}
-use Rattle.volume.specs.Bytes.{Bytes, if◌then◌else◌}
+use Rattle.volume.specs.Bytes.{Bytes}
+use Rattle.std.specs.Prelude.{if◌then◌else◌}
 use Rattle.model.specs.Sound.{sound}
 use Rattle.model.specs.Judge.{Judged, fault, clean, bad_entry, bad_chain, owned_twice, marked_free, lost_page, bad_count, judge}
 use Rattle.model.specs.Date.{good_date}

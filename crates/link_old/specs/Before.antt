@@ -1,6 +1,6 @@
 -- What a writing asks before the rows (paper 02 §4): the date, the directory and the old file.
-use Rattle.std.specs.Prelude.{◌≡◌, Bool, not, ◌&&◌, ◌||◌, List, [], ◌∷◌, ◌++◌, T, eqb}
-use Rattle.volume.specs.Bytes.{Bytes, if◌then◌else◌}
+use Rattle.std.specs.Prelude.{◌≡◌, Bool, not, ◌&&◌, ◌||◌, List, [], ◌∷◌, ◌++◌, T, eqb, if◌then◌else◌}
+use Rattle.volume.specs.Bytes.{Bytes}
 use Rattle.model.specs.Date.{good_date}
 use Rattle.model.specs.Sound.{sound}
 use Rattle.model.specs.Tree.{Tree}

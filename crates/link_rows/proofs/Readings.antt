@@ -10,7 +10,8 @@ use lib.ListN.{length, drop, length-drop, drop_of_length-le}
 use lib.Seq.{drop-drop}
 use lib.Dec.{T, eqb, ltb}
 use borrow.Author.Tests.{ne_eqb, not-true, not-false}
-use Rattle.volume.specs.Bytes.{Bytes, if◌then◌else◌}
+use Rattle.volume.specs.Bytes.{Bytes}
+use Rattle.std.specs.Prelude.{if◌then◌else◌}
 use Rattle.model.specs.Call.{Refusal, refusal_at, Answer, refused, granted}
 use Rattle.laws.proofs.Lines.{not_granted}
 use Rattle.link_list.specs.declared.Row.{Row}

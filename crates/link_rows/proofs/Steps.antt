@@ -8,7 +8,8 @@ use mathlib.Core.List.{List, ◌∷◌}
 use lib.ListN.{length, set, length-set}
 use lib.Dec.{eqb}
 use borrow.Author.Tests.{eq-eqb, ne_eqb}
-use Rattle.volume.specs.Bytes.{Bytes, put, if◌then◌else◌}
+use Rattle.volume.specs.Bytes.{Bytes, put}
+use Rattle.std.specs.Prelude.{if◌then◌else◌}
 use Rattle.link_list.specs.declared.Row.{Row}
 use Rattle.link_list.specs.Links.{is_accession, figure_of}
 use Rattle.link_numbers.proofs.Puts.{put_cons, put_nil}

@@ -1,7 +1,7 @@
 -- The file of a list as it is put into bytes, a row at a time, and a writing by it (paper 02 §4).
-use Rattle.std.specs.Prelude.{◌≡◌, ℕ, ◌+◌, ◌&&◌, List, [], ◌∷◌, length, leb}
+use Rattle.std.specs.Prelude.{◌≡◌, ℕ, ◌+◌, ◌&&◌, List, [], ◌∷◌, length, leb, if◌then◌else◌}
 use Rattle.std.proofs.Math.Option.{none}
-use Rattle.volume.specs.Bytes.{Bytes, put, if◌then◌else◌}
+use Rattle.volume.specs.Bytes.{Bytes, put}
 use Rattle.link_list.specs.declared.Row.{Row}
 use Rattle.model.specs.Call.{Answer}
 use Rattle.link_list.specs.Coding.{in_range, row_bytes, file_of}

@@ -6,7 +6,8 @@ use mathlib.Core.Bool.{Bool}
 use mathlib.Core.List.{map}
 use lib.ListN.{replicate}
 use lib.Dec.{leb, leb-zero, leb-suc-zero, leb-suc-suc}
-use Rattle.volume.specs.Bytes.{Bytes, if◌then◌else◌}
+use Rattle.volume.specs.Bytes.{Bytes}
+use Rattle.std.specs.Prelude.{if◌then◌else◌}
 use Rattle.volume.specs.Lists.{count_from}
 use Rattle.model.specs.Layout.{page_size}
 use Rattle.model.specs.Entry.{entry_count, entries_start, entries, is_locked, name_at, date_at, Entry, vacant, a_file, a_directory, entry_at}

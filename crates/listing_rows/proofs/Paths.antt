@@ -8,7 +8,8 @@ use mathlib.Core.List.{[], ◌∷◌, ◌++◌, append_assoc}
 use lib.ListN.{length, take, drop, set, length-drop, length-set}
 use lib.Seq.{length-take-le, take-take, take-suc-set, take_at}
 use lib.Dec.{eqb}
-use Rattle.volume.specs.Bytes.{Bytes, put, if◌then◌else◌}
+use Rattle.volume.specs.Bytes.{Bytes, put}
+use Rattle.std.specs.Prelude.{if◌then◌else◌}
 use Rattle.volume.proofs.Splice.{take_splice_head, drop_take}
 use Rattle.model.specs.Entry.{name_at}
 use Rattle.model.specs.Name.{unpadded}

@@ -8,7 +8,8 @@ use lib.ListN.{length, take, drop, length-take}
 use lib.Dec.{ltb}
 use lib.Pow.{pow_pos}
 use borrow.Author.Tests.{lt-ltb, le-ltb}
-use Rattle.volume.specs.Bytes.{Bytes, if◌then◌else◌}
+use Rattle.volume.specs.Bytes.{Bytes}
+use Rattle.std.specs.Prelude.{if◌then◌else◌}
 use Rattle.volume.specs.Field.{load}
 use Rattle.volume.specs.Geometry as On
 use Rattle.volume.specs.Geometry.{Geometry}

@@ -8,7 +8,8 @@ use mathlib.Core.Option.{Option, some, get_or}
 use mathlib.Core.List.{List}
 use lib.ListN.{length}
 use lib.Dec.{T}
-use Rattle.volume.specs.Bytes.{Bytes, put, if◌then◌else◌}
+use Rattle.volume.specs.Bytes.{Bytes, put}
+use Rattle.std.specs.Prelude.{if◌then◌else◌}
 use Rattle.volume.specs.Lists.{first}
 use Rattle.volume.specs.Geometry as On
 use Rattle.model.specs.View.{View}

@@ -1,7 +1,7 @@
 -- What a make asks of an image once it is granted: of one on which it finds its opening and the free pages are enough.
-use Rattle.std.specs.Prelude.{◌≡◌, ℕ, suc, ◌≤◌, List}
+use Rattle.std.specs.Prelude.{◌≡◌, ℕ, suc, ◌≤◌, List, if◌then◌else◌}
 use Rattle.std.proofs.Math.Option.{Option}
-use Rattle.volume.specs.Bytes.{Bytes, if◌then◌else◌}
+use Rattle.volume.specs.Bytes.{Bytes}
 use Rattle.volume.specs.Geometry as On
 use Rattle.model.specs.Path.{Name}
 use Rattle.model.specs.Walk.{arrived, walk_on}

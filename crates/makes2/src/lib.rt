@@ -2,7 +2,7 @@
 // what the model's `answer` says, and leaves the image as `after` says. A refused call changes no byte.
 #![tactic(auto)]
 ghost use Rattle.std.specs.Prelude.{◌≡◌, ◌*◌, ◌≤◌, ◌<◌, length};
-ghost use Rattle.volume.specs.Bytes.{if◌then◌else◌};
+ghost use Rattle.std.specs.Prelude.{if◌then◌else◌};
 ghost use Rattle.model.specs.EffectOf.{lowest_vacant, roomy, made_in};
 ghost use Rattle.model.specs.Call.{format_as, make_file, make_directory};
 ghost use Rattle.model.specs.MeaningOf.{answer, after};

@@ -9,7 +9,8 @@ use mathlib.Core.Bool.{true, false}
 use mathlib.Core.List.{List, [], ◌∷◌, ◌++◌, flat_map, map}
 use lib.ListN.{replicate, set}
 use lib.Dec.{eqb}
-use Rattle.volume.specs.Bytes.{Bytes, byte_at, put, bit, if◌then◌else◌}
+use Rattle.volume.specs.Bytes.{Bytes, byte_at, put, bit}
+use Rattle.std.specs.Prelude.{if◌then◌else◌}
 use Rattle.volume.specs.Chain.{chain, beyond, linked}
 use Rattle.volume.specs.Field.{byte}
 use Rattle.volume.specs.Geometry as On

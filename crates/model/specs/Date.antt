@@ -1,7 +1,7 @@
 -- Document 01, "A slot": dates. Century, year in century, month, day, weekday, hour, minute, second: a byte of two BCD digits each.
 -- Paper 02 §3: the day is one of the Gregorian calendar, in every year from 0000, a leap year, to 9999. Nothing is asked of the weekday.
-use Rattle.std.specs.Prelude.{ℕ, ◌+◌, ◌*◌, ◌/◌, ◌%◌, Bool, not, ◌&&◌, ◌||◌, [], ◌∷◌, length, eqb, leb}
-use Rattle.volume.specs.Bytes.{Bytes, byte_at, if◌then◌else◌}
+use Rattle.std.specs.Prelude.{ℕ, ◌+◌, ◌*◌, ◌/◌, ◌%◌, Bool, not, ◌&&◌, ◌||◌, [], ◌∷◌, length, eqb, leb, if◌then◌else◌}
+use Rattle.volume.specs.Bytes.{Bytes, byte_at}
 use Rattle.volume.specs.Lists.{all, member, conditions}
 
 -- both half bytes are 0 to 9

@@ -1,8 +1,8 @@
 -- The three demands of document 00, as statements about version 1's `answer`, `after` and `bufferAfter`, and those of paper 02 §9 and §10. What is said of any
 -- version stands in `DemandsOf`, and has its names for version 1 here. The crate `laws` proves them.
-use Rattle.std.specs.Prelude.{◌≡◌, ◌↔◌, ◌≢◌, ◌⊎◌, ℕ, ◌+◌, ◌/◌, ◌≤◌, ◌<◌, Bool, false, not, List, [], ◌∷◌, length, T, eqb}
+use Rattle.std.specs.Prelude.{◌≡◌, ◌↔◌, ◌≢◌, ◌⊎◌, ℕ, ◌+◌, ◌/◌, ◌≤◌, ◌<◌, Bool, false, not, List, [], ◌∷◌, length, T, eqb, if◌then◌else◌}
 use Rattle.std.proofs.Math.Option.{some}
-use Rattle.volume.specs.Bytes.{Bytes, byte_at, same, if◌then◌else◌}
+use Rattle.volume.specs.Bytes.{Bytes, byte_at, same}
 use Rattle.volume.specs.Lists.{all, member}
 use Rattle.volume.specs.Chain.{chain, beyond}
 use Rattle.model.specs.Layout.{page_size, page_count, pages_for, valid_length, valid_header, free_count, page_bit, zero_bits, link}

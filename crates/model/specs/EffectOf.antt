@@ -1,9 +1,9 @@
 -- Document 01, "The plain tree", and paper 02 §12: what a granted call does to the bytes of a sound image, which `see` reads as its version does. Every
 -- byte not named here stays.
-use Rattle.std.specs.Prelude.{ℕ, ◌+◌, ◌-◌, ◌*◌, max, Bool, true, false, length, set, eqb}
+use Rattle.std.specs.Prelude.{ℕ, ◌+◌, ◌-◌, ◌*◌, max, Bool, true, false, length, set, eqb, if◌then◌else◌}
 use Rattle.std.proofs.Math.Option.{Option, none, some, get_or}
 use mathlib.Core.List.{foldl}
-use Rattle.volume.specs.Bytes.{Bytes, byte_at, put, bit, if◌then◌else◌}
+use Rattle.volume.specs.Bytes.{Bytes, byte_at, put, bit}
 use Rattle.volume.specs.Lists.{first}
 use Rattle.volume.specs.Geometry as On
 use Rattle.model.specs.Entry.{Entry, vacant, a_file, a_directory}

@@ -1,6 +1,6 @@
 -- Document 01, "A slot" (000, "Directory and entry structure"): directories and the fields of an entry.
-use Rattle.std.specs.Prelude.{ℕ, ◌+◌, ◌*◌, Bool, List, ◌∷◌, ◌++◌, map, replicate, eqb}
-use Rattle.volume.specs.Bytes.{Bytes, byte_at, part, le16, bit, if◌then◌else◌}
+use Rattle.std.specs.Prelude.{ℕ, ◌+◌, ◌*◌, Bool, List, ◌∷◌, ◌++◌, map, replicate, eqb, if◌then◌else◌}
+use Rattle.volume.specs.Bytes.{Bytes, byte_at, part, le16, bit}
 use Rattle.volume.specs.Lists.{up_to}
 use Rattle.model.specs.Layout.{page_size}
 

@@ -2,10 +2,10 @@
 -- `judge b` judges an image. The walk is depth first, entries in order, with an owner mark for each page (not the bitmap's), 1 once an earlier step
 -- owned it, and it stops at the first fault; then come the lost pages, and last the bits of the pages set aside and the count. `Meaning` gives each
 -- fault its number. Law `judge-sound`: an image of right length and header is judged clean exactly if it is sound.
-use Rattle.std.specs.Prelude.{ℕ, zero, suc, ◌-◌, Bool, true, false, not, ◌&&◌, get_or, set, replicate, eqb}
+use Rattle.std.specs.Prelude.{ℕ, zero, suc, ◌-◌, Bool, true, false, not, ◌&&◌, get_or, set, replicate, eqb, if◌then◌else◌}
 use Rattle.std.proofs.Math.Option.{Option, none, some}
 use mathlib.Core.List.{List, [], ◌∷◌, tail}
-use Rattle.volume.specs.Bytes.{Bytes, if◌then◌else◌}
+use Rattle.volume.specs.Bytes.{Bytes}
 use Rattle.volume.specs.Lists.{all, count_from, first}
 use Rattle.model.specs.Name.{legal_name}
 use Rattle.model.specs.Entry.{Entry, vacant, a_file, a_directory}

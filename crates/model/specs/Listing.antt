@@ -1,6 +1,6 @@
 -- Document 01, "At the bench": the listing. Entries go in order, a directory's contents directly after it; each line ends in one newline.
-use Rattle.std.specs.Prelude.{ℕ, zero, suc, ◌+◌, ◌/◌, ◌%◌, [], ◌∷◌, ◌++◌, length, ltb}
-use Rattle.volume.specs.Bytes.{Bytes, if◌then◌else◌}
+use Rattle.std.specs.Prelude.{ℕ, zero, suc, ◌+◌, ◌/◌, ◌%◌, [], ◌∷◌, ◌++◌, length, ltb, if◌then◌else◌}
+use Rattle.volume.specs.Bytes.{Bytes}
 use Rattle.model.specs.Layout.{page_size}
 use Rattle.model.specs.Name.{unpadded}
 use Rattle.model.specs.Tree.{Row, end, free, file, dir, Tree, free_number}

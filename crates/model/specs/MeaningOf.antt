@@ -1,7 +1,7 @@
 -- Document 01, "The plain tree" and "The numbers that say no", and paper 02 §2 and §12: what each call of a version w answers and does, on the plain tree and
 -- on the bytes of any image. Version 1's names, which its public contracts cite, are in `Meaning`.
-use Rattle.std.specs.Prelude.{ℕ, zero, suc, Bool, true, false, not, List, [], ◌∷◌, ◌++◌, map, length, take, drop}
-use Rattle.volume.specs.Bytes.{Bytes, put, if◌then◌else◌}
+use Rattle.std.specs.Prelude.{ℕ, zero, suc, Bool, true, false, not, List, [], ◌∷◌, ◌++◌, map, length, take, drop, if◌then◌else◌}
+use Rattle.volume.specs.Bytes.{Bytes, put}
 use Rattle.model.specs.Numbers.{Numbers}
 use Rattle.model.specs.Sound.{sound_by}
 use Rattle.model.specs.Judge.{Fault, bad_entry, bad_chain, owned_twice, marked_free, lost_page, bad_count, Judged, fault, clean, judge_view}

@@ -1,7 +1,7 @@
 -- Document 01, "A slot": legal names. In an entry and in the tree a name is 16 bytes, padded with zeros; in a path it has no padding.
 -- Every byte counts, so case does, and every leading zero; "." and ".." are ordinary names.
-use Rattle.std.specs.Prelude.{ℕ, ◌-◌, Bool, true, false, not, ◌&&◌, [], ◌∷◌, ◌++◌, length, replicate, eqb, leb}
-use Rattle.volume.specs.Bytes.{Bytes, if◌then◌else◌}
+use Rattle.std.specs.Prelude.{ℕ, ◌-◌, Bool, true, false, not, ◌&&◌, [], ◌∷◌, ◌++◌, length, replicate, eqb, leb, if◌then◌else◌}
+use Rattle.volume.specs.Bytes.{Bytes}
 use Rattle.volume.specs.Lists.{all, conditions}
 
 -- 0x20 to 0x7E without `/`

@@ -1,7 +1,7 @@
 -- Document 01, "The plain tree": paths. A path is `/`, or one or more times `/` and a legal name without padding; no other bytes are one.
-use Rattle.std.specs.Prelude.{ℕ, ◌+◌, Bool, true, false, ◌&&◌, length, eqb}
+use Rattle.std.specs.Prelude.{ℕ, ◌+◌, Bool, true, false, ◌&&◌, length, eqb, if◌then◌else◌}
 use mathlib.Core.List.{List, [], ◌∷◌, ◌++◌, drop_last}
-use Rattle.volume.specs.Bytes.{Bytes, if◌then◌else◌}
+use Rattle.volume.specs.Bytes.{Bytes}
 use Rattle.volume.specs.Lists.{all, last_or}
 use Rattle.model.specs.Name.{legal_text, padded}
 

@@ -1,8 +1,8 @@
 -- Document 01, "The numbers that say no", and paper 02 §12, on the plain tree of a version w. Each call's lines stand in the order of the paper's table, and
 -- the first that holds is given. Lines 1, 2 and 26 and the faults of paper 02 §2 ask the bytes and stand in `MeaningOf`. Version 1's names are in `Refusal`.
-use Rattle.std.specs.Prelude.{◌≡◌, ℕ, suc, ◌+◌, ◌-◌, ◌*◌, max, Bool, true, false, not, ◌&&◌, ◌||◌, List, [], ◌∷◌, ◌++◌, map, length, eqb, leb, ltb}
+use Rattle.std.specs.Prelude.{◌≡◌, ℕ, suc, ◌+◌, ◌-◌, ◌*◌, max, Bool, true, false, not, ◌&&◌, ◌||◌, List, [], ◌∷◌, ◌++◌, map, length, eqb, leb, ltb, if◌then◌else◌}
 use Rattle.std.proofs.Math.Option.{Option, none, some}
-use Rattle.volume.specs.Bytes.{Bytes, if◌then◌else◌}
+use Rattle.volume.specs.Bytes.{Bytes}
 use Rattle.model.specs.Layout.{page_size}
 use Rattle.model.specs.Numbers.{Numbers}
 use Rattle.model.specs.Date.{good_date}

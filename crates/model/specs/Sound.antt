@@ -1,10 +1,10 @@
 -- Document 01, "A sound image": what is asked of an entry, of a directory and of a whole image by a view v, and paper 02 §12 where a directory has
 -- pages of its own and pages are set aside. Last what is said of an image of version 1 by its bytes b. In version 1 v is `view b`: the link of page p
 -- is `next v p`, a directory is one page, which ends it, `v.geometry.size` is 0x0100 and `v.geometry.aside` is 1.
-use Rattle.std.specs.Prelude.{ℕ, zero, suc, ◌-◌, Bool, true, false, not, ◌&&◌, length, eqb, leb, ltb}
+use Rattle.std.specs.Prelude.{ℕ, zero, suc, ◌-◌, Bool, true, false, not, ◌&&◌, length, eqb, leb, ltb, if◌then◌else◌}
 use Rattle.std.specs.Bool.{beq}
 use mathlib.Core.List.{List, [], ◌∷◌, ◌++◌, flat_map, tail}
-use Rattle.volume.specs.Bytes.{Bytes, same, if◌then◌else◌}
+use Rattle.volume.specs.Bytes.{Bytes, same}
 use Rattle.volume.specs.Lists.{all, keep, conditions, member, distinct, count_from}
 use Rattle.volume.specs.Chain.{chain, beyond}
 use Rattle.model.specs.Layout.{page_count, valid_length, valid_header}

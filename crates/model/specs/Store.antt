@@ -1,7 +1,7 @@
 -- Paper 02 §11: a file is made with its content at once, by whole pages that are stored one after the other: the content's along the chain, then
 -- the header, then the parent's if that is another. Every store is worked out from the image before the first.
-use Rattle.std.specs.Prelude.{ℕ, ◌+◌, ◌*◌, Bool, true, false, List, [], ◌∷◌, ◌++◌, map, length, get_or, eqb}
-use Rattle.volume.specs.Bytes.{Bytes, part, if◌then◌else◌}
+use Rattle.std.specs.Prelude.{ℕ, ◌+◌, ◌*◌, Bool, true, false, List, [], ◌∷◌, ◌++◌, map, length, get_or, eqb, if◌then◌else◌}
+use Rattle.volume.specs.Bytes.{Bytes, part}
 use Rattle.model.specs.Layout.{page_size, pages_for}
 use Rattle.model.specs.Version1.{view}
 use Rattle.model.specs.Sound.{pages_at}

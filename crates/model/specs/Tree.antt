@@ -1,7 +1,7 @@
 -- Document 01, "The plain tree". It knows no page numbers, but N and the page code (paper 02 §12) stand beside it.
-use Rattle.std.specs.Prelude.{ℕ, zero, suc, ◌+◌, ◌-◌, ◌/◌, Bool, length, eqb}
+use Rattle.std.specs.Prelude.{ℕ, zero, suc, ◌+◌, ◌-◌, ◌/◌, Bool, length, eqb, if◌then◌else◌}
 use Rattle.std.proofs.Math.Option.{Option, none, some}
-use Rattle.volume.specs.Bytes.{Bytes, same, if◌then◌else◌}
+use Rattle.volume.specs.Bytes.{Bytes, same}
 use Rattle.model.specs.Numbers.{Numbers, numbers1}
 
 -- A directory is its row of entries, each free, or holding a name, a date and either a byte string, locked or not (paper 02 §10), or a directory.

@@ -1,7 +1,7 @@
 -- Paper 02 §12, "Slots have a 16-bit start page and a 32-bit size", and document 001, second edition: flags 0, name 1 to 16, start page 17 and 18, size
 -- 19 to 22, date 23 to 30, reserved 31. An entry as a value is `Entry` of the crate `model`.
-use Rattle.std.specs.Prelude.{ℕ, ◌+◌, ◌*◌, ◌/◌, ◌%◌, Bool, [], ◌∷◌, ◌++◌, eqb}
-use Rattle.volume.specs.Bytes.{Bytes, byte_at, part, le16, bit, if◌then◌else◌}
+use Rattle.std.specs.Prelude.{ℕ, ◌+◌, ◌*◌, ◌/◌, ◌%◌, Bool, [], ◌∷◌, ◌++◌, eqb, if◌then◌else◌}
+use Rattle.volume.specs.Bytes.{Bytes, byte_at, part, le16, bit}
 use Rattle.volume.specs.Field.{Field, pair, load}
 use Rattle.model.specs.Entry.{Entry, vacant, a_file, a_directory}
 

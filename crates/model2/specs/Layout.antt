@@ -1,7 +1,7 @@
 -- Paper 02 §12, and document 001, second edition (header, FAT, smallest page sizes): where an image of version 2 keeps things. All of it hangs on two
 -- numbers, the image's length and its page code.
-use Rattle.std.specs.Prelude.{ℕ, ◌+◌, ◌-◌, ◌*◌, ◌/◌, ◌%◌, ◌^◌, max, Bool, true, false, not, ◌||◌, List, [], ◌∷◌, length, eqb, leb, ltb}
-use Rattle.volume.specs.Bytes.{Bytes, byte_at, if◌then◌else◌}
+use Rattle.std.specs.Prelude.{ℕ, ◌+◌, ◌-◌, ◌*◌, ◌/◌, ◌%◌, ◌^◌, max, Bool, true, false, not, ◌||◌, List, [], ◌∷◌, length, eqb, leb, ltb, if◌then◌else◌}
+use Rattle.volume.specs.Bytes.{Bytes, byte_at}
 use Rattle.volume.specs.Lists.{conditions}
 use Rattle.volume.specs.Field.{Field, byte, pair, load}
 use Rattle.volume.specs.Geometry.{Geometry}

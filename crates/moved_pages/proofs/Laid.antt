@@ -10,7 +10,8 @@ use lib.ListN.{length, take, drop, set, length-set, length-append, drop_of_lengt
 use lib.Seq.{drop-cons, set-append_left, take_all, length-take-le}
 use lib.Dec.{eqb, eqb→eq, eqb-suc-zero}
 use borrow.Rule.Slice.PartMut.{mid_of}
-use Rattle.volume.specs.Bytes.{Bytes, byte_at, part, put, if◌then◌else◌}
+use Rattle.volume.specs.Bytes.{Bytes, byte_at, part, put}
+use Rattle.std.specs.Prelude.{if◌then◌else◌}
 use Rattle.volume.specs.Lists.{count_from}
 use Rattle.volume.proofs.Splice.{take_splice_head}
 use Rattle.volume.proofs.Puts.{byte_part, part_length}

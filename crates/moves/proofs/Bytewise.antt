@@ -9,7 +9,8 @@ use mathlib.Core.List.{List, [], ◌∷◌, ◌++◌, map, flat_map}
 use lib.ListN.{length, get_or, take, drop, set, length-set}
 use lib.Seq.{get_or-set_same, get_or-set_other, drop-append-add, take_at}
 use lib.Dec.{eqb-suc-zero}
-use Rattle.volume.specs.Bytes.{Bytes, byte_at, part, if◌then◌else◌}
+use Rattle.volume.specs.Bytes.{Bytes, byte_at, part}
+use Rattle.std.specs.Prelude.{if◌then◌else◌}
 use Rattle.volume.specs.Lists.{up_to}
 use Rattle.volume.proofs.Occ.{Mem, mem_head, mem_tail}
 use Rattle.volume.proofs.Puts.{byte_part, part_part, part_length, part_bytes}

@@ -10,7 +10,8 @@ use mathlib.Core.List.{List, [], ◌∷◌, ◌++◌, map, flat_map}
 use lib.ListN.{length, set}
 use lib.Seq.{get_or-set_other, get_or-append-add}
 use lib.Dec.{T, eqb, leb, ltb, lt→ltb, le→leb}
-use Rattle.volume.specs.Bytes.{Bytes, byte_at, part, if◌then◌else◌}
+use Rattle.volume.specs.Bytes.{Bytes, byte_at, part}
+use Rattle.std.specs.Prelude.{if◌then◌else◌}
 use Rattle.volume.specs.Lists.{any, up_to}
 use Rattle.volume.proofs.Occ.{Mem, mem_cons}
 use Rattle.volume.proofs.Tests.{both_and, occ_count_from, eq-eqb}

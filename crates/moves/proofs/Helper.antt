@@ -8,7 +8,8 @@ use mathlib.Core.Bool.{Bool, true, false, not}
 use mathlib.Core.List.{List, [], ◌∷◌, ◌++◌, flat_map, append_assoc}
 use lib.ListN.{length, get_or}
 use lib.Dec.{T, eqb, eqb→eq}
-use Rattle.volume.specs.Bytes.{Bytes, if◌then◌else◌}
+use Rattle.volume.specs.Bytes.{Bytes}
+use Rattle.std.specs.Prelude.{if◌then◌else◌}
 use Rattle.volume.specs.Lists.{keep, count_from, member}
 use Rattle.volume.specs.Chain.{chain}
 use Rattle.volume.proofs.Occ.{hit, hit_refl, hit_cases, hit_ne, occ, Mem, Nodup, Under, occ_append, mem_head, mem_tail, mem_cons, mem_or_not, not_mem, nodup_head, nodup_tail, under_of_mem}

@@ -1,7 +1,7 @@
 -- Paper 02 §13, "our own helper": the proposal that it makes. Any accepted one would do; this is the one that the contract tells.
-use Rattle.std.specs.Prelude.{ℕ, suc, ◌-◌, Bool, true, false, not, length, set, eqb}
+use Rattle.std.specs.Prelude.{ℕ, suc, ◌-◌, Bool, true, false, not, length, set, eqb, if◌then◌else◌}
 use mathlib.Core.List.{List, [], ◌∷◌, ◌++◌, flat_map}
-use Rattle.volume.specs.Bytes.{Bytes, if◌then◌else◌}
+use Rattle.volume.specs.Bytes.{Bytes}
 use Rattle.volume.specs.Lists.{keep, count_from}
 use Rattle.model.specs.Layout.{page_count}
 use Rattle.model.specs.Entry.{Entry, vacant, a_file, a_directory}

@@ -1,8 +1,8 @@
 -- Paper 02 §13, "Tidy pages": an image with its pages at new places. A proposal `places` has a number for each page of the image: its new place.
-use Rattle.std.specs.Prelude.{ℕ, suc, ◌+◌, ◌-◌, ◌*◌, ◌/◌, Bool, true, not, length, get_or, set, eqb}
+use Rattle.std.specs.Prelude.{ℕ, suc, ◌+◌, ◌-◌, ◌*◌, ◌/◌, Bool, true, not, length, get_or, set, eqb, if◌then◌else◌}
 use Rattle.std.proofs.Math.Option
 use mathlib.Core.List.{List, [], ◌∷◌, ◌++◌, map, flat_map}
-use Rattle.volume.specs.Bytes.{Bytes, part, same, if◌then◌else◌}
+use Rattle.volume.specs.Bytes.{Bytes, part, same}
 use Rattle.volume.specs.Lists.{all, conditions, member, distinct, count_from, up_to, first}
 use Rattle.model.specs.Layout.{page_size, page_count, page_bit, link}
 use Rattle.model.specs.Entry.{occupied, start_at, entries, Entry, vacant, a_file, a_directory, entry_at}

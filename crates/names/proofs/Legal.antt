@@ -10,7 +10,8 @@ use mathlib.Core.List.{[], ◌∷◌}
 use lib.ListN.{length, get_or, take, drop}
 use lib.Dec.{eqb, leb}
 use borrow.Author.Tests.{eq-eqb, ne_eqb}
-use Rattle.volume.specs.Bytes.{Bytes, byte_at, if◌then◌else◌}
+use Rattle.volume.specs.Bytes.{Bytes, byte_at}
+use Rattle.std.specs.Prelude.{if◌then◌else◌}
 use Rattle.volume.specs.Lists.{all}
 use Rattle.model.specs.Entry.{name_at}
 use Rattle.model.specs.Name.{legal_byte, legal_rest, legal_name}

@@ -1,7 +1,7 @@
 -- A row without the entries before its first occupied one, and where a walk that passes over them stands.
-use Rattle.std.specs.Prelude.{◌≡◌, ℕ, zero, suc, ◌+◌, ◌-◌, ◌*◌, ◌≤◌, ◌<◌, Bool, ◌&&◌, length}
+use Rattle.std.specs.Prelude.{◌≡◌, ℕ, zero, suc, ◌+◌, ◌-◌, ◌*◌, ◌≤◌, ◌<◌, Bool, ◌&&◌, length, if◌then◌else◌}
 use mathlib.Core.List.{List, [], ◌∷◌, flat_map}
-use Rattle.volume.specs.Bytes.{Bytes, if◌then◌else◌}
+use Rattle.volume.specs.Bytes.{Bytes}
 use Rattle.volume.specs.Geometry as On
 use Rattle.model.specs.Effect.{is_vacant}
 use Rattle.model2.specs.Entry.{entry_at}

@@ -1,6 +1,7 @@
 // Where a new file or directory is made: the lowest vacant entry of the directory that its path names it in, or why there is none.
 // All that a make is judged by but the free pages, in the paper's order: the image, the path, the date, the walk, the name, the entry.
 #![tactic(auto)]
+
 ghost use Rattle.std.specs.Prelude.{◌≡◌, ◌*◌, ◌-◌, ◌<◌, ◌≤◌, length, T};
 ghost use Rattle.model.specs.Layout.{page_size, page_count};
 ghost use Rattle.model.specs.Sound.{sound};

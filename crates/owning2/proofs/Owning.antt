@@ -11,7 +11,8 @@ use mathlib.Core.List.{List, [], ◌∷◌, tail}
 use lib.ListN.{length}
 use lib.Dec.{eqb}
 use borrow.Author.Tests.{ne_eqb}
-use Rattle.volume.specs.Bytes.{Bytes, if◌then◌else◌}
+use Rattle.volume.specs.Bytes.{Bytes}
+use Rattle.std.specs.Prelude.{if◌then◌else◌}
 use Rattle.volume.specs.Chain.{chain, linked}
 use Rattle.volume.specs.Geometry as On
 use Rattle.volume.proofs.Follow.{Lies}

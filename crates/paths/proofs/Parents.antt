@@ -8,7 +8,8 @@ use mathlib.Core.Option.{Option, none, some, map}
 use mathlib.Core.List.{List, [], ◌∷◌, drop_last}
 use lib.ListN.{length, take, drop, length-take, length-drop}
 use lib.Dec.{T, eqb}
-use Rattle.volume.specs.Bytes.{Bytes, if◌then◌else◌}
+use Rattle.volume.specs.Bytes.{Bytes}
+use Rattle.std.specs.Prelude.{if◌then◌else◌}
 use Rattle.volume.specs.Lists.{all, last_or}
 use Rattle.volume.proofs.Tests.{and_both}
 use Rattle.model.specs.Name.{legal_text, padded}

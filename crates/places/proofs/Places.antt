@@ -6,7 +6,8 @@ use mathlib.Core.Bool.{Bool, true, false, not, true≢false}
 use lib.ListN.{length}
 use lib.Dec.{T}
 use borrow.Author.Tests.{not-true, not-false}
-use Rattle.volume.specs.Bytes.{Bytes, if◌then◌else◌}
+use Rattle.volume.specs.Bytes.{Bytes}
+use Rattle.std.specs.Prelude.{if◌then◌else◌}
 use Rattle.model.specs.Layout.{page_size, page_count, valid_length, valid_header}
 use Rattle.model.specs.Entry.{is_locked, name_at, date_at, entry_at}
 use Rattle.model.specs.Version1.{view}

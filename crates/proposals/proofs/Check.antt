@@ -10,7 +10,8 @@ use mathlib.Core.List.{List, [], ◌∷◌, map}
 use lib.ListN.{length, get_or, drop, set, replicate, length-set, length-replicate, drop_of_length-le, get_or-eq_default}
 use lib.Seq.{drop-cons, get_or-set_same, get_or-set_other}
 use lib.Dec.{T, eqb, ltb, eqb→eq, ltb→lt, lt→ltb}
-use Rattle.volume.specs.Bytes.{Bytes, if◌then◌else◌}
+use Rattle.volume.specs.Bytes.{Bytes}
+use Rattle.std.specs.Prelude.{if◌then◌else◌}
 use Rattle.volume.specs.Lists.{all, member, count_from, up_to}
 use Rattle.volume.proofs.Occ.{occ, Mem, Nodup, Under, mem_head, mem_tail, mem_cons, not_mem, nodup_cons, nodup_head, nodup_tail, under_cons, under_head, under_tail}
 use Rattle.volume.proofs.Tests.{no_conditions, cons_conditions, occ_member, occ_distinct, all_occ, occ_all, occ_count_from, count_from_occ, eq-eqb}

@@ -9,7 +9,8 @@ use mathlib.Core.List.{List, [], ◌∷◌, ◌++◌, flat_map}
 use lib.ListN.{length, get_or, drop, set, length-set, length-append, drop_of_length-le}
 use lib.Seq.{drop-cons}
 use lib.Dec.{T, eqb, eqb→eq}
-use Rattle.volume.specs.Bytes.{Bytes, if◌then◌else◌}
+use Rattle.volume.specs.Bytes.{Bytes}
+use Rattle.std.specs.Prelude.{if◌then◌else◌}
 use Rattle.volume.specs.Lists.{all, keep, count_from}
 use Rattle.volume.specs.Chain.{chain}
 use Rattle.volume.proofs.Occ.{occ_append, occ, Under, under_head, under_tail, under_mem, sum_occ}

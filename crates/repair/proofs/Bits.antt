@@ -8,7 +8,8 @@ use native.Mathlib.Decide.{ℕ_discrete}
 use mathlib.Core.Bool.{Bool, true, false, not}
 use lib.ListN.{length}
 use lib.Dec.{T}
-use Rattle.volume.specs.Bytes.{Bytes, byte_at, if◌then◌else◌}
+use Rattle.volume.specs.Bytes.{Bytes, byte_at}
+use Rattle.std.specs.Prelude.{if◌then◌else◌}
 use Rattle.volume.specs.Geometry.{Geometry, bitmap_byte, page_bit, mark, unmark}
 use Rattle.volume.proofs.Marks.{mark_length, unmark_length, mark_out, unmark_out, mark_here, unmark_here, mark_other, unmark_other, mark_again, unmark_again}
 use Rattle.repair.specs.Remark.{remarked}

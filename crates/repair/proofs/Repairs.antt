@@ -9,7 +9,8 @@ use mathlib.Core.Option.{Option, none, some}
 use mathlib.Core.List.{List, [], ◌∷◌}
 use lib.ListN.{length, get_or}
 use lib.Dec.{T, eqb}
-use Rattle.volume.specs.Bytes.{Bytes, byte_at, if◌then◌else◌}
+use Rattle.volume.specs.Bytes.{Bytes, byte_at}
+use Rattle.std.specs.Prelude.{if◌then◌else◌}
 use Rattle.volume.specs.Lists.{any, member, first, count_from}
 use Rattle.volume.proofs.Occ.{mem_cons}
 use Rattle.volume.proofs.Tests.{not_not_of, member_occ}

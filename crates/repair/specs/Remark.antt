@@ -1,6 +1,6 @@
 -- The bits and the count of an image set anew, in any geometry.
-use Rattle.std.specs.Prelude.{ℕ, zero, suc, Bool}
-use Rattle.volume.specs.Bytes.{Bytes, if◌then◌else◌}
+use Rattle.std.specs.Prelude.{ℕ, zero, suc, Bool, if◌then◌else◌}
+use Rattle.volume.specs.Bytes.{Bytes}
 use Rattle.volume.specs.Field.{store}
 use Rattle.volume.specs.Geometry.{Geometry, mark, unmark, zero_bits}
 

@@ -2,7 +2,7 @@
 // whatever the bytes, it answers what `repairAnswer` says and leaves the image as `repairAfter` says.
 #![tactic(auto)]
 ghost use Rattle.std.specs.Prelude.{◌≡◌, ◌<◌, ◌≤◌, true, length, replicate};
-ghost use Rattle.volume.specs.Bytes.{if◌then◌else◌};
+ghost use Rattle.std.specs.Prelude.{if◌then◌else◌};
 ghost use Rattle.volume.specs.Geometry as On;
 ghost use Rattle.model.specs.Layout.{version1, page_count, valid_length, valid_header};
 ghost use Rattle.owning.specs.Marked.{Marked};

@@ -9,7 +9,8 @@ use lib.ListN.{length, set, take, drop, length-set, length-take, length-drop, le
 use lib.Seq.{ext_get_or, take_all}
 use lib.Dec.{T, ltb, ltb→lt}
 use borrow.Author.Tests.{lt-ltb, le-ltb}
-use Rattle.volume.specs.Bytes.{Bytes, byte_at, part, put, if◌then◌else◌, zeros}
+use Rattle.volume.specs.Bytes.{Bytes, byte_at, part, put, zeros}
+use Rattle.std.specs.Prelude.{if◌then◌else◌}
 use Rattle.volume.specs.Geometry as On
 use Rattle.volume.proofs.Puts.{put_length, put_in, byte_part, part_length}
 use Rattle.volume.proofs.Marks.{zeros_cong, bit_byte, lowest_free_lem}

@@ -11,7 +11,8 @@ use mathlib.Core.List.{List, [], ◌∷◌, ◌++◌}
 use lib.ListN.{length, take, drop, length-set, length-take}
 use lib.Dec.{T, eqb, leb, ltb}
 use borrow.Author.Tests.{lt-ltb, le-ltb, le-leb, lt-leb, eq-eqb, ne_eqb, ltb-true, ltb-false}
-use Rattle.volume.specs.Bytes.{Bytes, part, put, if◌then◌else◌}
+use Rattle.volume.specs.Bytes.{Bytes, part, put}
+use Rattle.std.specs.Prelude.{if◌then◌else◌}
 use Rattle.volume.specs.Geometry as On
 use Rattle.model.specs.Layout.{version1, page_count, pages_for, free_count}
 use Rattle.model.specs.Entry.{new_entry}

@@ -3,7 +3,8 @@
 // the header page, on which the pages are found. The one public call has no `requires`.
 #![tactic(auto)]
 ghost use Rattle.std.specs.Prelude.{◌≡◌, ◌+◌, ◌-◌, ◌*◌, ◌/◌, ◌<◌, ◌≤◌, length, ltb};
-ghost use Rattle.volume.specs.Bytes.{byte_at, part, put, if◌then◌else◌};
+ghost use Rattle.volume.specs.Bytes.{byte_at, part, put};
+ghost use Rattle.std.specs.Prelude.{if◌then◌else◌};
 ghost use Rattle.volume.specs.Geometry as On;
 ghost use Rattle.model.specs.Layout.{version1, page_size, room, page_count, pages_for, free_count};
 ghost use Rattle.model.specs.Call.{store};

@@ -11,7 +11,8 @@ use lib.ListN.{length, length-append, length-map}
 use lib.Dec.{T, T_not, eqb, leb, ltb, eqb→eq, le→leb, nltb→le}
 use native.Mathlib.Decide.{dec_le}
 use borrow.Author.Tests.{lt-ltb, le-ltb, eq-eqb, ne_eqb}
-use Rattle.volume.specs.Bytes.{Bytes, if◌then◌else◌}
+use Rattle.volume.specs.Bytes.{Bytes}
+use Rattle.std.specs.Prelude.{if◌then◌else◌}
 use Rattle.volume.proofs.Occ.{occ, Mem, hit_refl}
 use Rattle.volume.proofs.Tests.{not_not}
 use Rattle.model.specs.Layout.{page_count, pages_for}

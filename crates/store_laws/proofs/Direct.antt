@@ -12,7 +12,8 @@ use lib.ListN.{length, get_or, set, drop, replicate, length-set, length-take, le
 use lib.Seq.{ext_get_or, get_or-append-add, get_or-set_same, get_or-set_other}
 use lib.Dec.{T, eqb, ltb}
 use borrow.Author.Tests.{lt-ltb, le-ltb, eq-eqb, ne_eqb}
-use Rattle.volume.specs.Bytes.{Bytes, byte_at, part, put, if◌then◌else◌, zeros}
+use Rattle.volume.specs.Bytes.{Bytes, byte_at, part, put, zeros}
+use Rattle.std.specs.Prelude.{if◌then◌else◌}
 use Rattle.volume.specs.Chain.{chain, beyond}
 use Rattle.volume.specs.Geometry as On
 use Rattle.volume.proofs.Occ.{occ, Mem, not_mem}

@@ -10,7 +10,8 @@ use lib.ListN.{length, get_or, length-append, get_or-append}
 use lib.Seq.{get_or-append-add}
 use lib.Dec.{eqb}
 use borrow.Author.Tests.{eq-eqb, ne_eqb}
-use Rattle.volume.specs.Bytes.{Bytes, part, put, if◌then◌else◌}
+use Rattle.volume.specs.Bytes.{Bytes, part, put}
+use Rattle.std.specs.Prelude.{if◌then◌else◌}
 use Rattle.volume.specs.Geometry as On
 use Rattle.model.specs.Layout.{version1, page_count, pages_for}
 use Rattle.model.specs.Version1.{view}

@@ -11,7 +11,8 @@ use mathlib.Core.List.{List, ◌∷◌}
 use lib.ListN.{length}
 use lib.Seq.{ext_get_or}
 use lib.Dec.{T}
-use Rattle.volume.specs.Bytes.{Bytes, byte_at, bit, part, put, if◌then◌else◌}
+use Rattle.volume.specs.Bytes.{Bytes, byte_at, bit, part, put}
+use Rattle.std.specs.Prelude.{if◌then◌else◌}
 use Rattle.volume.specs.Lists.{member}
 use Rattle.volume.specs.Geometry as On
 use Rattle.volume.proofs.Occ.{occ, not_mem}

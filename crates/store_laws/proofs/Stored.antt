@@ -7,7 +7,8 @@ use mathlib.Core.Bool.{Bool, true, false}
 use mathlib.Core.List.{List, [], ◌∷◌, ◌++◌, flat_map}
 use lib.ListN.{length, replicate}
 use lib.Dec.{T, eqb, eqb→eq}
-use Rattle.volume.specs.Bytes.{Bytes, byte_at, le16, put, if◌then◌else◌}
+use Rattle.volume.specs.Bytes.{Bytes, byte_at, le16, put}
+use Rattle.std.specs.Prelude.{if◌then◌else◌}
 use Rattle.volume.specs.Chain.{chain}
 use Rattle.volume.specs.Geometry as On
 use Rattle.volume.proofs.Occ.{occ, Mem, not_mem, occ_append}

@@ -11,7 +11,8 @@ use lib.ListN.{length, take, length-append}
 use lib.Seq.{ext_get_or}
 use lib.Dec.{T, eqb, eqb→eq}
 use borrow.Author.Tests.{eqb-false}
-use Rattle.volume.specs.Bytes.{Bytes, byte_at, part, if◌then◌else◌}
+use Rattle.volume.specs.Bytes.{Bytes, byte_at, part}
+use Rattle.std.specs.Prelude.{if◌then◌else◌}
 use Rattle.volume.proofs.Occ.{occ, Mem, hit_refl, hit_ne, hit_cases, mem_head, mem_tail, mem_cons, mem_or_not, occ_append}
 use Rattle.volume.proofs.Puts.{put_length, put_out, put_in, byte_part, part_length}
 use Rattle.volume.proofs.Marks.{bit_byte}

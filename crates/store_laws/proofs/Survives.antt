@@ -7,7 +7,8 @@ use mathlib.Core.Bool.{Bool, true, false, not}
 use mathlib.Core.List.{List, [], ◌∷◌, ◌++◌, map}
 use lib.ListN.{length, take, length-append, length-map}
 use lib.Dec.{T, eqb}
-use Rattle.volume.specs.Bytes.{Bytes, if◌then◌else◌}
+use Rattle.volume.specs.Bytes.{Bytes}
+use Rattle.std.specs.Prelude.{if◌then◌else◌}
 use Rattle.volume.proofs.Tests.{not_not_of}
 use Rattle.model.specs.Layout.{page_count, pages_for, valid_length, valid_header}
 use Rattle.model.specs.Version1.{view}

@@ -1,7 +1,7 @@
 -- The pages to be stored, by the lent buffer and the arguments: what the code of a store works out, with no copy of the image. The laws of proofs/Numbers.antt
 -- say that these are the stores of paper 02 §11.
-use Rattle.std.specs.Prelude.{ℕ, zero, suc, ◌-◌, ◌*◌, Bool, set, ltb}
-use Rattle.volume.specs.Bytes.{Bytes, byte_at, part, put, if◌then◌else◌, zeros}
+use Rattle.std.specs.Prelude.{ℕ, zero, suc, ◌-◌, ◌*◌, Bool, set, ltb, if◌then◌else◌}
+use Rattle.volume.specs.Bytes.{Bytes, byte_at, part, put, zeros}
 use Rattle.volume.specs.Geometry as On
 use Rattle.model.specs.Layout.{version1, room, page_size}
 use Rattle.model.specs.Entry.{new_entry}

@@ -4,7 +4,8 @@ use Prim.Native.Nat.{ℕ, ◌+◌, ◌*◌, ◌<◌}
 use native.Mathlib.Omega.{arith}
 use mathlib.Core.Bool.{Bool, true, false}
 use lib.Dec.{eqb}
-use Rattle.volume.specs.Bytes.{Bytes, if◌then◌else◌}
+use Rattle.volume.specs.Bytes.{Bytes}
+use Rattle.std.specs.Prelude.{if◌then◌else◌}
 use Rattle.volume.proofs.Occ.{Mem, mem_head}
 use Rattle.model.specs.Entry.{entries_start, entries, is_locked, name_at, date_at, entry_at}
 use Rattle.model.specs.Effect.{is_vacant}

@@ -8,7 +8,7 @@ use mathlib.Core.Option.{none, some, some-ne-none}
 use mathlib.Core.List.{List, [], ◌∷◌, ◌++◌, map}
 use lib.Dec.{T, eqb, ltb, eqb→eq}
 use borrow.Author.Tests.{le-ltb}
-use Rattle.volume.specs.Bytes.{if◌then◌else◌}
+use Rattle.std.specs.Prelude.{if◌then◌else◌}
 use Rattle.volume.specs.Lists.{all, any, keep, member}
 use Rattle.volume.proofs.Tests.{and_both, both_and}
 use Rattle.model.specs.Call.{Refusal, refusal, Answer, refused, granted}

@@ -7,7 +7,8 @@ use mathlib.Core.Bool.{Bool, true, false, ◌&&◌}
 use mathlib.Core.List.{List, [], ◌∷◌, ◌++◌, drop_last}
 use lib.ListN.{length, replicate, length-append, length-replicate}
 use lib.Dec.{T, eqb, leb, eqb→eq, leb→le}
-use Rattle.volume.specs.Bytes.{Bytes, if◌then◌else◌}
+use Rattle.volume.specs.Bytes.{Bytes}
+use Rattle.std.specs.Prelude.{if◌then◌else◌}
 use Rattle.volume.specs.Lists.{all, last_or}
 use Rattle.volume.proofs.Tests.{and_both, both_and, conditions_cons}
 use Rattle.model.specs.Name.{legal_byte, legal_rest, legal_name, legal_text, padded}

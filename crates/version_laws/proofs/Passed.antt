@@ -7,7 +7,8 @@ use mathlib.Core.Bool.{Bool, true, false, not, ◌&&◌, ◌||◌}
 use mathlib.Core.List.{List, [], ◌∷◌, ◌++◌}
 use lib.ListN.{length}
 use lib.Dec.{T, ltb, nltb→le}
-use Rattle.volume.specs.Bytes.{Bytes, if◌then◌else◌}
+use Rattle.volume.specs.Bytes.{Bytes}
+use Rattle.std.specs.Prelude.{if◌then◌else◌}
 use Rattle.volume.proofs.Tests.{not_not, if_no}
 use Rattle.model.specs.Name.{legal_name}
 use Rattle.model.specs.Date.{good_date}

@@ -8,7 +8,8 @@ use mathlib.Core.Option.{Option, some, none}
 use mathlib.Core.List.{List, [], ◌∷◌, ◌++◌, map}
 use lib.ListN.{length}
 use lib.Dec.{T, eqb, ltb, leb-suc-zero, ltb→lt, lt→ltb}
-use Rattle.volume.specs.Bytes.{Bytes, if◌then◌else◌}
+use Rattle.volume.specs.Bytes.{Bytes}
+use Rattle.std.specs.Prelude.{if◌then◌else◌}
 use Rattle.volume.specs.Lists.{conditions}
 use Rattle.volume.proofs.Tests.{not_not_of, if_no, conditions_cons}
 use Rattle.model.specs.Layout.{page_size}

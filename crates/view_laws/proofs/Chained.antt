@@ -9,7 +9,8 @@ use mathlib.Core.Bool.{Bool, true, false}
 use mathlib.Core.List.{List, [], ◌∷◌, flat_map}
 use lib.ListN.{length}
 use lib.Dec.{eqb, eqb-suc-zero}
-use Rattle.volume.specs.Bytes.{Bytes, byte_at, if◌then◌else◌}
+use Rattle.volume.specs.Bytes.{Bytes, byte_at}
+use Rattle.std.specs.Prelude.{if◌then◌else◌}
 use Rattle.volume.specs.Chain.{chain, beyond, linked}
 use Rattle.volume.specs.Geometry.{Geometry, start, content, next}
 use Rattle.volume.proofs.Occ.{occ, Mem, Nodup, mem_head, mem_tail, nodup_head, nodup_tail, occ_append, not_mem, mem_or_not}

@@ -12,7 +12,7 @@ use mathlib.Core.List.{List, [], ◌∷◌, tail}
 use lib.ListN.{length, get_or, set, replicate, length-set, length-replicate}
 use lib.Dec.{eqb, leb, ltb}
 use borrow.Author.Tests.{eqb-true, ltb-true, leb-true}
-use Rattle.volume.specs.Bytes.{if◌then◌else◌}
+use Rattle.std.specs.Prelude.{if◌then◌else◌}
 use Rattle.volume.specs.Lists.{count_from, first}
 use Rattle.volume.proofs.Occ.{Mem, mem_cons}
 use Rattle.volume.proofs.Tests.{first_found, count_from_occ}

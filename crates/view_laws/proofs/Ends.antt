@@ -8,7 +8,8 @@ use mathlib.Core.Bool.{Bool, true, false}
 use mathlib.Core.List.{List, [], ◌∷◌, tail}
 use lib.ListN.{length}
 use lib.Dec.{T, eqb, eqb→eq, eqb_refl}
-use Rattle.volume.specs.Bytes.{Bytes, if◌then◌else◌}
+use Rattle.volume.specs.Bytes.{Bytes}
+use Rattle.std.specs.Prelude.{if◌then◌else◌}
 use Rattle.volume.specs.Chain.{beyond, linked}
 use Rattle.volume.specs.Geometry.{Geometry, next}
 use Rattle.volume.proofs.Occ.{occ, Mem, Nodup, Under, not_mem, hit_cases, hit_ne, sum_occ, sum_one, under_of_mem, under_cons}

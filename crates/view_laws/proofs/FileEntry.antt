@@ -4,7 +4,8 @@ use Prim.Native.Nat.{ℕ, ◌+◌, ◌-◌, ◌*◌, ◌/◌, ◌%◌, ◌<◌}
 use native.Mathlib.Omega.{arith}
 use mathlib.Core.Bool.{Bool, true, false}
 use lib.Dec.{T, eqb}
-use Rattle.volume.specs.Bytes.{Bytes, bit, if◌then◌else◌}
+use Rattle.volume.specs.Bytes.{Bytes, bit}
+use Rattle.std.specs.Prelude.{if◌then◌else◌}
 use Rattle.model.specs.Entry.{Entry, vacant, a_file, a_directory}
 use Rattle.model.specs.EffectOf.{with_lock}
 

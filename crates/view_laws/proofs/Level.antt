@@ -8,7 +8,7 @@ use mathlib.Core.Bool.{Bool, true, false, not}
 use mathlib.Core.Option.{some, none-ne-some, some-injective}
 use mathlib.Core.List.{List, [], ◌∷◌, flat_map}
 use lib.Dec.{T, T_not}
-use Rattle.volume.specs.Bytes.{if◌then◌else◌}
+use Rattle.std.specs.Prelude.{if◌then◌else◌}
 use Rattle.volume.specs.Lists.{all, first}
 use Rattle.volume.proofs.Occ.{occ, Mem, Nodup, mem_head, mem_tail, mem_cons, nodup_head, nodup_tail}
 use Rattle.volume.proofs.Tests.{and_both, both_and, no_conditions, conditions_cons, cons_conditions, all_occ, occ_all, first_found, same_sym}

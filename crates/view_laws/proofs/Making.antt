@@ -7,7 +7,8 @@ use mathlib.Core.Option.{Option, none, some, get_or, map, none-ne-some}
 use mathlib.Core.List.{List, [], ◌∷◌}
 use lib.ListN.{length}
 use lib.Dec.{T, eqb, eqb→eq, T_not, not_T}
-use Rattle.volume.specs.Bytes.{Bytes, put, if◌then◌else◌}
+use Rattle.volume.specs.Bytes.{Bytes, put}
+use Rattle.std.specs.Prelude.{if◌then◌else◌}
 use Rattle.volume.specs.Lists.{first}
 use Rattle.volume.specs.Field.{Field, load}
 use Rattle.volume.specs.Geometry as On

@@ -6,7 +6,7 @@ use native.Mathlib.Omega.{arith}
 use mathlib.Core.Bool.{Bool, true, false}
 use mathlib.Core.List.{List, [], ◌∷◌, ◌++◌, flat_map, tail}
 use lib.Dec.{T}
-use Rattle.volume.specs.Bytes.{if◌then◌else◌}
+use Rattle.std.specs.Prelude.{if◌then◌else◌}
 use Rattle.volume.specs.Lists.{keep, member}
 use Rattle.volume.proofs.Occ.{occ, not_mem, occ_append, mem_or_not}
 use Rattle.volume.proofs.Tests.{member_occ, occ_member}

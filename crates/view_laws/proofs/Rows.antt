@@ -6,7 +6,8 @@ use mathlib.Core.Bool.{Bool, true, false, not}
 use mathlib.Core.Option.{Option, none, some, none-ne-some}
 use mathlib.Core.List.{List, [], ◌∷◌}
 use lib.Dec.{T, eqb, eqb→eq, not_T}
-use Rattle.volume.specs.Bytes.{Bytes, same, if◌then◌else◌}
+use Rattle.volume.specs.Bytes.{Bytes, same}
+use Rattle.std.specs.Prelude.{if◌then◌else◌}
 use Rattle.model.specs.Tree.{Row, end, free, file, dir, empty_row, width, held, is_full, Node, file_node, directory_node, lookup, extend, inside}
 use Rattle.model.specs.Path.{Name}
 use Rattle.model.specs.Walk.{Walked, arrived, enter, walk, change_at}

@@ -9,7 +9,8 @@ use mathlib.Core.Option.{some}
 use mathlib.Core.List.{List, [], ◌∷◌, ◌++◌, flat_map}
 use lib.ListN.{length, take, length-append}
 use lib.Dec.{T, eqb, eqb→eq}
-use Rattle.volume.specs.Bytes.{Bytes, byte_at, put, same, if◌then◌else◌}
+use Rattle.volume.specs.Bytes.{Bytes, byte_at, put, same}
+use Rattle.std.specs.Prelude.{if◌then◌else◌}
 use Rattle.volume.specs.Field.{Field, load}
 use Rattle.volume.specs.Chain.{chain, beyond}
 use Rattle.volume.specs.Geometry as On

@@ -9,7 +9,8 @@ use mathlib.Core.List.{List, [], ◌∷◌, ◌++◌, foldl}
 use lib.ListN.{length, set, take, drop, replicate, length-take, get_or-replicate, length-replicate, get_or-append, get_or-eq_default}
 use lib.Seq.{get_or-set_same, get_or-set_other, set_out, get_or-append-add, get_or-take, get_or-drop}
 use lib.Dec.{ltb}
-use Rattle.volume.specs.Bytes.{Bytes, byte_at, put, if◌then◌else◌}
+use Rattle.volume.specs.Bytes.{Bytes, byte_at, put}
+use Rattle.std.specs.Prelude.{if◌then◌else◌}
 use Rattle.volume.specs.Lists.{last_or}
 use Rattle.volume.specs.Chain.{spread}
 use Rattle.volume.specs.Field.{Field, byte, pair, load, store}

@@ -12,7 +12,8 @@ use lib.ListN.{length, take, drop, length-take, length-drop, take-append-drop, l
 use lib.Seq.{length-take-le, take_at, drop_at}
 use lib.Dec.{T, ltb, lt→ltb}
 use mir.Facts.{ltb_yes, ltb_no}
-use Rattle.volume.specs.Bytes.{Bytes, byte_at, part, put, if◌then◌else◌}
+use Rattle.volume.specs.Bytes.{Bytes, byte_at, part, put}
+use Rattle.std.specs.Prelude.{if◌then◌else◌}
 use Rattle.volume.specs.Chain.{spread, along}
 use Rattle.volume.proofs.Occ.{occ, Nodup, mem_head, mem_tail, mem_apart, nodup_head, nodup_tail}
 use Rattle.volume.proofs.Tests.{if_yes}

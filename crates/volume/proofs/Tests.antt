@@ -12,7 +12,8 @@ use lib.ListN.{length, get_or, drop, drop_of_length-le}
 use lib.Seq.{drop-cons}
 use lib.Dec.{T, eqb, eqb→eq, eqb_refl, T_not, not_T}
 use borrow.Author.Tests as Of
-use Rattle.volume.specs.Bytes.{Bytes, same, if◌then◌else◌}
+use Rattle.volume.specs.Bytes.{Bytes, same}
+use Rattle.std.specs.Prelude.{cond, if◌then◌else◌}
 use Rattle.volume.specs.Lists.{all, any, conditions, member, distinct, count_from, first}
 use Rattle.volume.proofs.Occ.{hit, hit_refl, hit_ne, hit_cases, occ, Nodup, mem_head, mem_tail, mem_cons, mem_or_not, nodup_head, nodup_tail, nodup_cons}
 
@@ -32,11 +33,11 @@ pub not_not_of : (c : Bool) → T c → T (not (not c))
 not_not_of true h = tt
 not_not_of false h = h
 
-pub if_yes {ℓ} : {A : Type ℓ} (c : Bool) (x y : A) → T c → (if c then x else y) ≡ x
+pub if_yes {ℓ} : {A : Type ℓ} (c : Bool) (x y : A) → T c → cond c x y ≡ x
 if_yes true x y h = refl
 if_yes false x y h = absurd h
 
-pub if_no {ℓ} : {A : Type ℓ} (c : Bool) (x y : A) → T (not c) → (if c then x else y) ≡ y
+pub if_no {ℓ} : {A : Type ℓ} (c : Bool) (x y : A) → T (not c) → cond c x y ≡ y
 if_no true x y h = absurd h
 if_no false x y h = refl
 

@@ -10,7 +10,8 @@ use lib.ListN.{length, take, drop, length-take, length-drop, drop_of_length-le}
 use lib.Seq.{take-nil, drop-nil}
 use lib.Dec.{T, ltb}
 use mir.Facts.{ltb_yes, ltb_no}
-use Rattle.volume.specs.Bytes.{Bytes, byte_at, put, if◌then◌else◌}
+use Rattle.volume.specs.Bytes.{Bytes, byte_at, put}
+use Rattle.std.specs.Prelude.{if◌then◌else◌}
 use Rattle.volume.specs.Chain.{chain, spread}
 use Rattle.volume.specs.Geometry as On
 use Rattle.volume.specs.Geometry.{Geometry}

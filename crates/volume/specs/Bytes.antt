@@ -1,14 +1,9 @@
 -- Lists of bytes, and how a stretch of a list is read and replaced. Assumes nothing.
-use Rattle.std.specs.Prelude.{ℕ, ◌+◌, ◌/◌, ◌%◌, ◌^◌, Bool, true, false, ◌&&◌, List, [], ◌∷◌, ◌++◌, length, get_or, take, drop, replicate, eqb}
+use Rattle.std.specs.Prelude.{ℕ, ◌+◌, ◌/◌, ◌%◌, ◌^◌, Bool, true, false, ◌&&◌, List, [], ◌∷◌, ◌++◌, length, get_or, take, drop, replicate, eqb, if◌then◌else◌}
 
 -- An image, a path, a name, a date and a buffer are lists of bytes.
 abbrev pub Bytes : Type 0
 Bytes = List ℕ
-
-infix 5 if◌then◌else◌
-abbrev pub if◌then◌else◌ {ℓ} : {A : Type ℓ} → Bool → A → A → A
-if◌then◌else◌ true x y = x
-if◌then◌else◌ false x y = y
 
 -- the byte at position i, 0 past the end
 abbrev pub byte_at : Bytes → ℕ → ℕ

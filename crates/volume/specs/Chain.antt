@@ -1,6 +1,6 @@
 -- Chains of pages, over the link of a page and the room on it. Nothing here knows where an image keeps them.
-use Rattle.std.specs.Prelude.{ℕ, zero, suc, ◌+◌, ◌-◌, List, [], ◌∷◌, take, drop, eqb, ltb}
-use Rattle.volume.specs.Bytes.{Bytes, put, if◌then◌else◌}
+use Rattle.std.specs.Prelude.{ℕ, zero, suc, ◌+◌, ◌-◌, List, [], ◌∷◌, take, drop, eqb, ltb, if◌then◌else◌}
+use Rattle.volume.specs.Bytes.{Bytes, put}
 
 -- the k pages from p on by their links
 unfoldable pub chain : (ℕ → ℕ) → ℕ → ℕ → List ℕ

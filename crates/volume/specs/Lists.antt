@@ -1,7 +1,6 @@
 -- Tests on lists. Assumes nothing.
-use Rattle.std.specs.Prelude.{ℕ, zero, suc, Bool, true, false, not, ◌&&◌, ◌||◌, List, [], ◌∷◌, eqb}
+use Rattle.std.specs.Prelude.{ℕ, zero, suc, Bool, true, false, not, ◌&&◌, ◌||◌, List, [], ◌∷◌, eqb, cond, if◌then◌else◌}
 use Rattle.std.proofs.Math.Option.{Option, none, some}
-use Rattle.volume.specs.Bytes.{if◌then◌else◌}
 
 module _ {ℓ} {A : Type ℓ} where
   unfoldable pub all : (A → Bool) → List A → Bool
@@ -15,7 +14,7 @@ module _ {ℓ} {A : Type ℓ} where
   -- the elements that pass the test
   unfoldable pub keep : (A → Bool) → List A → List A
   keep f [] = []
-  keep f (x ∷ xs) = let rest = keep f xs in if f x then x ∷ rest else rest
+  keep f (x ∷ xs) = let rest = keep f xs in cond (f x) (x ∷ rest) rest
 
   -- the last, or d for none
   unfoldable pub last_or : A → List A → A
