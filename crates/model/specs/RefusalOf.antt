@@ -1,6 +1,6 @@
 -- Document 01, "The numbers that say no", and paper 02 §12, on the plain tree of a version w. Each call's lines stand in the order of the paper's table, and
 -- the first that holds is given. Lines 1, 2 and 26 and the faults of paper 02 §2 ask the bytes and stand in `MeaningOf`. Version 1's names are in `Refusal`.
-use Rattle.std.specs.Prelude.{◌≡◌, ℕ, suc, ◌+◌, ◌-◌, ◌*◌, max, Bool, true, false, not, ◌&&◌, ◌||◌, List, [], ◌∷◌, ◌++◌, map, length, eqb, leb, ltb, if◌then◌else◌}
+use Rattle.std.specs.Prelude.{◌≡◌, ℕ, suc, ◌+◌, ◌-◌, ◌*◌, max, Bool, true, false, not, ◌&&◌, ◌||◌, List, [], ◌∷◌, ◌++◌, map, length, eqb, leb, ltb, if◌then◌else◌, cond}
 use Rattle.std.proofs.Math.Option.{Option, none, some}
 use Rattle.volume.specs.Bytes.{Bytes}
 use Rattle.model.specs.Layout.{page_size}
@@ -115,7 +115,7 @@ full_lines n r = if n.grows then [] else ((is_full r, refusal 9) ∷ [])
 -- f of the first line's refusal that holds, or x if none does: then the call is granted
 unfoldable pub settle {ℓ} : {A : Type ℓ} → List Line → (Refusal → A) → A → A
 settle [] f x = x
-settle (l ∷ ls) f x = let rest = settle ls f x in if l.0 then f l.1 else rest
+settle (l ∷ ls) f x = let rest = settle ls f x in cond l.0 (f l.1) rest
 
 -- no line holds
 abbrev pub Passes : List Line → Type 0
