@@ -46,11 +46,11 @@ judge_directory-judge_entry-judged-requires t c =
     let walk = c.loop-at.invariant in
     let going = walk.1.by _ _ formed in
     let met = c.next_occupied.ensures in (
-      omega (arith, pre.0, walk.0.few),
+      omega (arith, walk.0.few),
       (
         formed,
         omega (arith, walk.0.each, formed.count),
-        pre.1.2,
+        pre.2,
         reached_met (paged formed) walk.0 going _ met.0 c.in-Occupied.is met.1,
         occupied_met (paged formed) walk.0 going _ met.0 c.in-Occupied.is met.1,
       ),
@@ -145,11 +145,11 @@ judge_entry-judge_directory-requires t c =
     let pre = c.requires in
     let owned = c.own_directory-owned in
     let clean = c.in_default.is in (
-      omega (arith, pre.0, pages_fewer pre.1.0 _ _ _ _ _ _ pre.1.1 owned.ensures clean),
+      omega (arith, pages_fewer pre.0 _ _ _ _ _ _ pre.1 owned.ensures clean),
       (
-        pre.1.0.allowed,
-        omega (arith, pre.1.1, owned.auto.marks, pre.1.0.count),
-        pages_inside pre.1.0 _ _ _ _ _ _ pre.1.1 owned.ensures clean,
+        pre.0.allowed,
+        omega (arith, pre.1, owned.auto.marks, pre.0.count),
+        pages_inside pre.0 _ _ _ _ _ _ pre.1 owned.ensures clean,
       ),
     )
 

@@ -18,9 +18,8 @@ pub returns-in-BadShape : goal.returns-in-BadShape
 returns-in-BadShape c = (found_refused _ _ _ c.read_header.ensures.0 c.in-BadShape.is _ refl, tt)
 
 pub returns-in-Right : goal.returns-in-Right
-returns-in-Right c =
-    (
-      found_right _ _ _ c.read_header.ensures.0 c.in-Right.is refl
-          _ c.judge_formed.ensures.0,
-      c.judge_formed.ensures.1,
-    )
+returns-in-Right c = (
+  found_right _ _ _ c.read_header.ensures.0 c.in-Right.is refl
+      _ c.judge_formed.ensures.0,
+  c.judge_formed.ensures.1,
+)

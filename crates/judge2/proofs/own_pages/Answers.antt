@@ -11,15 +11,15 @@ pub returns-in-Faulty : goal.returns-in-Faulty
 returns-in-Faulty c =
     let own = c in
     let pre = own.requires in
-    root_faulty pre.0 pre.1 _ _ (own.own_Root.ensures) _ c.in-Faulty.is
+    root_faulty pre.0 pre.1 _ _ (own.own_root-owned.ensures) _ c.in-Faulty.is
 
 pub judge_directory-requires : goal.judge_directory-requires
 judge_directory-requires c =
     let own = c in
     let pre = own.requires in (
       pre.0.allowed,
-      own.own_Root.kept.1.1.0 ∙ marks_each _ pre.1 ∙ pre.0.count,
-      root_inside pre.0 pre.1 _ _ (own.own_Root.ensures) c.in_default.is,
+      own.own_root-owned.auto.marks ∙ marks_each _ pre.1 ∙ pre.0.count,
+      root_inside pre.0 pre.1 _ _ (own.own_root-owned.ensures) c.in_default.is,
     )
 
 pub returns : goal.returns
@@ -27,4 +27,4 @@ returns c =
     let below = c in
     let own = below in
     let pre = own.requires in
-    root_clean pre.0 pre.1 _ _ (own.own_Root.ensures) below.in_default.is _ below.judge_directory.ensures
+    root_clean pre.0 pre.1 _ _ (own.own_root-owned.ensures) below.in_default.is _ below.judge_directory.ensures
