@@ -1,10 +1,9 @@
 -- What a caller knows of an arrival at a place, in the words of `arrivals`: which place it is, and that its entry lies in the image.
-use mathlib.Core.Path.{◌≡◌}
+use mathlib.Core.Path.{refl, ◌≡◌}
 use mathlib.Core.Logic.{◌⊎◌, inl, inr}
 use Prim.Native.Nat.{◌+◌, ◌≤◌, ◌<◌}
 use native.Mathlib.Omega.{arith}
 use lib.ListN.{length}
-use denote.Enum.Declared.{tag_of}
 use Rattle.volume.specs.Bytes.{Bytes}
 use Rattle.model.specs.Path.{path_of}
 use Rattle.model.specs.Call.{Answer, granted}
@@ -15,7 +14,6 @@ use Rattle.places.specs.declared.Arrival.TheVariants.{At}
 use Rattle.places.specs.declared.Target.{Target}
 use Rattle.places.specs.declared.Place.{Place}
 use Rattle.places.specs.declared.Place.TheVariants as place
-use Rattle.places.specs.contracts.Place.{the_type}
 use Rattle.places.proofs.Arrivals.{placed_arrived}
 use Rattle.places.proofs.Entries.{entry_inside}
 
@@ -35,10 +33,10 @@ pub at_directory : {a : Arrival} {p : Place} {t : Target} {x : Answer Spot} → 
 at_directory e is arrives = rw (e, is) at arrives
 
 -- the root and a directory are no file
-pub at_no_file : {a : Arrival} (p : Place) {x : Answer Spot} → a ≡ At p → (tag_of the_type p ≡ 0) ⊎ (tag_of the_type p ≡ 2) → arrival_of a ≡ x
+pub at_no_file : {a : Arrival} (p : Place) {x : Answer Spot} → a ≡ At p → ((t : Target) → p ≡ place.File t → ⊥) → arrival_of a ≡ x
     → NoFile (spot_of p) × (granted (spot_of p) ≡ x)
 at_no_file place.Root e k arrives = (tt, rw e at arrives)
-at_no_file (place.File t) e k arrives = elim k [ inl u ↦ absurd (omega (arith, u)) | inr u ↦ absurd (omega (arith, u)) ]
+at_no_file (place.File t) e k arrives = absurd (k t refl)
 at_no_file (place.Directory t) e k arrives = (tt, rw e at arrives)
 
 -- its entry lies in the image

@@ -1,5 +1,6 @@
 // What the calls answer, as values; specs/Answers.antt says what each stands for, and proofs/Injective.antt that two that differ stand for two answers.
 #![tactic(auto)]
+
 use refusals::Refusal;
 
 // A call that changes an image tells only that it was done.

@@ -1,6 +1,7 @@
 // List of version 2 (paper 02 §12): what entry i of a directory holds. It has no `requires`: whatever the bytes, it answers what the model's `answer` says of
 // version 2. The image is lent for reading.
 #![tactic(auto)]
+
 ghost use Rattle.std.specs.Prelude.{◌≡◌, ◌+◌, ◌≤◌, length, replicate};
 ghost use Rattle.model.specs.Call.{list, granted};
 ghost use Rattle.model.specs.MeaningOf.{answer};

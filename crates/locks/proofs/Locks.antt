@@ -3,7 +3,6 @@ use mathlib.Core.Path.{◌≡◌}
 use mathlib.Core.Logic.{◌⊎◌}
 use mathlib.Core.Bool.{Bool}
 use lib.ListN.{set}
-use denote.Enum.Declared.{tag_of}
 use Rattle.volume.specs.Bytes.{Bytes, byte_at}
 use Rattle.model.specs.Effect.{with_lock}
 use Rattle.model.specs.Call.{set_lock, Refusal, refusal, refused, granted}
@@ -15,7 +14,6 @@ use Rattle.places.specs.declared.Arrival.TheVariants.{At}
 use Rattle.places.specs.declared.Target.{Target}
 use Rattle.places.specs.declared.Place.{Place}
 use Rattle.places.specs.declared.Place.TheVariants as place
-use Rattle.places.specs.contracts.Place.{the_type}
 use Rattle.places.proofs.Arrivals.{reads}
 use Rattle.answers.proofs.Files.{at_file, at_no_file}
 
@@ -27,7 +25,7 @@ module _ (b path : Bytes) (k : Bool) where
   pub lock_refused : {m : Refusal} → refused m ≡ placed b path → Refuses m
   lock_refused e = Any.lock_refused reads b path k e
 
-  pub lock_directory : (a : Arrival) (p : Place) → a ≡ At p → (tag_of the_type p ≡ 0) ⊎ (tag_of the_type p ≡ 2) → arrival_of a ≡ placed b path → Refuses (refusal 7)
+  pub lock_directory : (a : Arrival) (p : Place) → a ≡ At p → ((t : Target) → p ≡ place.File t → ⊥) → arrival_of a ≡ placed b path → Refuses (refusal 7)
   lock_directory a p here t e = let n = at_no_file p here t e in Any.lock_no_file reads b path k (spot_of p) n.0 n.1
 
   pub lock_done : (a : Arrival) (p : Place) (t : Target) → a ≡ At p → p ≡ place.File t → arrival_of a ≡ placed b path

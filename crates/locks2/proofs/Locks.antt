@@ -5,7 +5,6 @@ use Prim.Native.Nat.{◌<◌}
 use native.Mathlib.Omega.{arith}
 use mathlib.Core.Bool.{Bool}
 use lib.ListN.{length, set}
-use denote.Enum.Declared.{tag_of}
 use Rattle.volume.specs.Bytes.{Bytes, byte_at}
 use Rattle.model.specs.EffectOf.{with_lock}
 use Rattle.model.specs.Call.{set_lock, refusal, granted}
@@ -14,7 +13,6 @@ use Rattle.model2.specs.Calls.{v2}
 use Rattle.arrivals.proofs.Settled.{Refuses}
 use Rattle.arrivals.proofs.Locks as Any
 use Rattle.shape2.specs.declared.Cartridge.{Cartridge}
-use Rattle.places2.specs.contracts.Place.{the_type}
 use Rattle.places2.specs.declared.Target.{Target}
 use Rattle.places2.specs.declared.Place.{Place}
 use Rattle.places2.specs.declared.Place.TheVariants as place
@@ -24,7 +22,7 @@ use Rattle.places2.specs.Places.{spot_of, arrival_of}
 use Rattle.places2.proofs.Held.{reads2, Arrives, at_file, file_entry, no_file}
 
 module _ (b path : Bytes) {a : Arrival} {c : Cartridge} {p : Place} (here : a ≡ At c p) (arrives : Arrives b path a) (k : Bool) where
-  pub lock_directory : (tag_of the_type p ≡ 0) ⊎ (tag_of the_type p ≡ 2) → Refuses v2 (set_lock k path) b (refusal 7)
+  pub lock_directory : ((t : Target) → p ≡ place.File t → ⊥) → Refuses v2 (set_lock k path) b (refusal 7)
   lock_directory n = Any.lock_no_file reads2 b path k (spot_of p) (no_file p n) (ap arrival_of (sym here) ∙ arrives.1)
 
   module _ {t : Target} (is : p ≡ place.File t) where

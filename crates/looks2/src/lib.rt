@@ -1,6 +1,7 @@
 // Two calls that look at a cartridge of version 2 (paper 02 §12): verdict and find; list stands in `listed2`, read in `reads2`. Neither has a `requires`: whatever
 // the bytes, a call answers what the model's `answer` says of version 2. The image is lent for reading.
 #![tactic(auto)]
+
 ghost use Rattle.std.specs.Prelude.{◌≡◌, replicate};
 ghost use Rattle.model.specs.Call.{verdict, find};
 ghost use Rattle.model.specs.MeaningOf.{answer};

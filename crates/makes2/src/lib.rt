@@ -1,6 +1,7 @@
 // The calls that make on a cartridge of version 2 (paper 02 §12): format and the two makes. None of the calls has a `requires`: whatever the bytes, it answers
 // what the model's `answer` says, and leaves the image as `after` says. A refused call changes no byte.
 #![tactic(auto)]
+
 ghost use Rattle.std.specs.Prelude.{◌≡◌, ◌*◌, ◌≤◌, ◌<◌, length};
 ghost use Rattle.std.specs.Prelude.{if◌then◌else◌};
 ghost use Rattle.model.specs.EffectOf.{lowest_vacant, roomy, made_in};

@@ -1,6 +1,7 @@
 // Where a new file or directory of a version 2 cartridge is made (paper 02 §12): the directory that its path names it in, with its lowest vacant entry, if it has one.
 // All that a make is judged by but the free pages, in the paper's order: the image, the path, the date, the walk, the name. A full directory grows, so 9 is never given.
 #![tactic(auto)]
+
 ghost use Rattle.std.specs.Prelude.{◌≡◌, true, ◌-◌, ◌≤◌, length, T};
 ghost use Rattle.model.specs.MeaningOf.{sound};
 ghost use Rattle.model2.specs.Version2.{view2};

@@ -4,7 +4,6 @@ use mathlib.Core.Logic.{◌⊎◌}
 use Prim.Native.Nat.{ℕ, ◌-◌, ◌≤◌, ◌<◌, min}
 use mathlib.Core.List.{flat_map}
 use lib.ListN.{length, take, drop}
-use denote.Enum.Declared.{tag_of}
 use Rattle.volume.specs.Bytes.{Bytes, put}
 use Rattle.volume.specs.Chain.{chain}
 use Rattle.model.specs.Layout.{pages_for, link}
@@ -22,7 +21,6 @@ use Rattle.places.specs.declared.Place.{Place}
 use Rattle.places.specs.declared.Place.TheVariants as place
 use Rattle.places.proofs.Arrivals.{reads}
 use Rattle.chains.specs.Asked.{Inside}
-use Rattle.places.specs.contracts.Place.{the_type}
 use Rattle.answers.proofs.Files.{FileAt, at_file, at_no_file}
 
 -- its pages lie in the image
@@ -41,7 +39,7 @@ module _ (b path : Bytes) (at : ℕ) (room : Bytes) where
   pub read_refused : {m : Refusal} → refused m ≡ placed b path → Refuses m
   read_refused e = Any.read_refused reads b path at room e
 
-  pub read_directory : (a : Arrival) (p : Place) → a ≡ At p → (tag_of the_type p ≡ 0) ⊎ (tag_of the_type p ≡ 2) → arrival_of a ≡ placed b path → Refuses (refusal 7)
+  pub read_directory : (a : Arrival) (p : Place) → a ≡ At p → ((t : Target) → p ≡ place.File t → ⊥) → arrival_of a ≡ placed b path → Refuses (refusal 7)
   read_directory a p here k e = let n = at_no_file p here k e in Any.read_no_file reads b path at room (spot_of p) n.0 n.1
 
   module _ (a : Arrival) (p : Place) (t : Target) (here : a ≡ At p) (is : p ≡ place.File t) (arrives : arrival_of a ≡ placed b path) where

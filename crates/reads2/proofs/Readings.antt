@@ -5,7 +5,6 @@ use Prim.Native.Nat.{ℕ, ◌+◌, ◌-◌, ◌≤◌, ◌<◌, ◌^◌, min}
 use native.Mathlib.Omega.{arith}
 use mathlib.Core.List.{flat_map}
 use lib.ListN.{length, take, drop}
-use denote.Enum.Declared.{tag_of}
 use Rattle.volume.specs.Bytes.{Bytes, put}
 use Rattle.volume.specs.Chain.{chain}
 use Rattle.volume.specs.Geometry as On
@@ -20,7 +19,6 @@ use Rattle.arrivals.proofs.Readings.{ReadRefuses}
 use Rattle.shape.specs.Geometry.{geometry_of}
 use Rattle.shape2.specs.declared.Cartridge.{Cartridge}
 use Rattle.known2.proofs.Rows.{known_roomy}
-use Rattle.places2.specs.contracts.Place.{the_type}
 use Rattle.places2.specs.declared.Target.{Target}
 use Rattle.places2.specs.declared.Place.{Place}
 use Rattle.places2.specs.declared.Place.TheVariants as place
@@ -30,7 +28,7 @@ use Rattle.places2.specs.Places.{spot_of, arrival_of}
 use Rattle.places2.proofs.Held.{reads2, Arrives, known_at, at_file, no_file, page_size_lem, page_room, file_lies, file_small}
 
 module _ (b path : Bytes) {a : Arrival} {c : Cartridge} {p : Place} (here : a ≡ At c p) (arrives : Arrives b path a) where
-  pub read_directory : (at : ℕ) (room : Bytes) → (tag_of the_type p ≡ 0) ⊎ (tag_of the_type p ≡ 2) → ReadRefuses v2 b path at room (refusal 7)
+  pub read_directory : (at : ℕ) (room : Bytes) → ((t : Target) → p ≡ place.File t → ⊥) → ReadRefuses v2 b path at room (refusal 7)
   read_directory at room k = Any.read_no_file reads2 b path at room (spot_of p) (no_file p k) (ap arrival_of (sym here) ∙ arrives.1)
 
   pub read_room : (0 < c.shape.room) × (c.shape.room ≤ c.shape.size) × (c.shape.room ≤ 1024)

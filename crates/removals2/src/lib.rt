@@ -1,6 +1,7 @@
 // The calls that remove on a cartridge of version 2 (paper 02 §12). Neither has a `requires`: whatever the bytes, a call answers what the model's `answer v2`
 // says, and leaves the image as `after v2` says. A refused call changes no byte.
 #![tactic(auto)]
+
 ghost use Rattle.std.specs.Prelude.{◌≡◌};
 ghost use Rattle.model.specs.Call.{remove_file, remove_directory};
 ghost use Rattle.model.specs.MeaningOf.{answer, after};

@@ -1,6 +1,7 @@
 // What a write does to the bytes of an image once it is granted: the file's chain grows, its entry gets the size, and the content is written.
 // Nothing is judged here. What a function asks of the image holds on every sound one, and its contract is the model's effect, byte for byte.
 #![tactic(auto)]
+
 ghost use Rattle.std.specs.Prelude.{◌≡◌, ◌+◌, ◌-◌, ◌≤◌, length, take};
 ghost use Rattle.volume.specs.Chain.{chain};
 ghost use Rattle.volume.specs.Field.{byte};

@@ -8,7 +8,6 @@ use mathlib.Core.Bool.{Bool, true, false}
 use lib.ListN.{length}
 use lib.Dec.{ltb}
 use borrow.Author.Tests.{lt-ltb, ltb-false}
-use denote.Enum.Declared.{tag_of}
 use Rattle.volume.specs.Bytes.{Bytes}
 use Rattle.volume.specs.Chain.{chain}
 use Rattle.volume.proofs.Chains.{chain_length}
@@ -32,7 +31,6 @@ use Rattle.places.specs.declared.Arrival.TheVariants.{At}
 use Rattle.places.specs.declared.Target.{Target}
 use Rattle.places.specs.declared.Place.{Place}
 use Rattle.places.specs.declared.Place.TheVariants as place
-use Rattle.places.specs.contracts.Place.{the_type}
 use Rattle.places.proofs.Arrivals.{Arrived, placed_arrived, reads}
 use Rattle.places.proofs.Entries.{file_owned}
 use Rattle.rewrites.specs.Asked.{Writing}
@@ -105,7 +103,7 @@ module _ (b path : Bytes) (from : ℕ) (v : Bytes) where
   pub write_refused : {m : Refusal} → refused m ≡ placed b path → Refuses m
   write_refused e = Any.write_refused reads b path from v e
 
-  pub write_directory : (a : Arrival) (p : Place) → a ≡ At p → (tag_of the_type p ≡ 0) ⊎ (tag_of the_type p ≡ 2) → arrival_of a ≡ placed b path → Refuses (refusal 7)
+  pub write_directory : (a : Arrival) (p : Place) → a ≡ At p → ((t : Target) → p ≡ place.File t → ⊥) → arrival_of a ≡ placed b path → Refuses (refusal 7)
   write_directory a p here k e = let n = at_no_file p here k e in Any.write_no_file reads b path from v (spot_of p) n.0 n.1
 
   module _ (t : Target) (e : FileAt b path t) where

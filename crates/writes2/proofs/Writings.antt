@@ -8,7 +8,6 @@ use mathlib.Core.Bool.{Bool, true, false}
 use lib.ListN.{length}
 use lib.Dec.{ltb}
 use borrow.Author.Tests.{ltb-false}
-use denote.Enum.Declared.{tag_of}
 use Rattle.volume.specs.Bytes.{Bytes}
 use Rattle.volume.specs.Chain.{chain}
 use Rattle.volume.specs.Geometry as On
@@ -37,7 +36,6 @@ use Rattle.shape2.specs.declared.Cartridge.{Cartridge}
 use Rattle.known2.specs.Known.{Known}
 use Rattle.changes2.specs.Asked.{Writing}
 use Rattle.changes2.proofs.Sound2.{file_writing}
-use Rattle.places2.specs.contracts.Place.{the_type}
 use Rattle.places2.specs.declared.Target.{Target}
 use Rattle.places2.specs.declared.Place.{Place}
 use Rattle.places2.specs.declared.Place.TheVariants as place
@@ -48,7 +46,7 @@ use Rattle.places2.proofs.Held.{reads2, Arrives, file_beside, known_at, at_file,
 use Rattle.writes2.specs.Asked.{Counted}
 
 module _ (b path : Bytes) {a : Arrival} {c : Cartridge} {p : Place} (here : a ≡ At c p) (arrives : Arrives b path a) where
-  pub write_directory : (from : ℕ) (v : Bytes) → (tag_of the_type p ≡ 0) ⊎ (tag_of the_type p ≡ 2) → Refuses v2 (write path from v) b (refusal 7)
+  pub write_directory : (from : ℕ) (v : Bytes) → ((t : Target) → p ≡ place.File t → ⊥) → Refuses v2 (write path from v) b (refusal 7)
   write_directory from v n = Any.write_no_file reads2 b path from v (spot_of p) (no_file p n) (ap arrival_of (sym here) ∙ arrives.1)
 
   known : Known b c.shape c.pages

@@ -1,6 +1,7 @@
 // The call that writes, on a cartridge of version 2 (paper 02 §12). It has no `requires`: whatever the bytes, it answers what the model's `answer v2` says,
 // and leaves the image as `after v2` says. A refused call changes no byte.
 #![tactic(auto)]
+
 ghost use Rattle.std.specs.Prelude.{◌≡◌, ◌+◌, ◌-◌, ◌<◌, ◌≤◌, max, length, ltb};
 ghost use Rattle.volume.specs.Geometry as On;
 ghost use Rattle.model.specs.Call.{write};
