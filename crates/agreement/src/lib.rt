@@ -1,5 +1,6 @@
 // The bitmap and byte 3 beside the second judge's row of owners (02 §8). Nothing is changed.
 #![tactic(auto)]
+
 ghost use Rattle.std.specs.Prelude.{◌≡◌, ◌-◌, ◌≤◌, ◌<◌, length};
 ghost use Rattle.volume.specs.Lists.{all, up_to};
 ghost use Rattle.model.specs.Layout.{page_count};

@@ -2,6 +2,7 @@
 // `judge`: only the readers of fields, names and bits are the same. What entries claim is in `claims`, and the marks are asked in `agreement`.
 // No function changes the image. The one public function has no `requires`: it says of any bytes whether they are a sound image.
 #![tactic(auto)]
+
 ghost use Rattle.std.specs.Prelude.{◌≡◌, ◌+◌, ◌≤◌, [], ◌∷◌, length};
 ghost use Rattle.model.specs.Layout.{page_count};
 ghost use Rattle.model.specs.Sound.{sound};

@@ -1,6 +1,7 @@
 // A refusal as one number, for callers that are not Rattle: the paper's number in the low byte, and its place above it. The code says the case, and
 // `refusalCode` in specs/ what it stands for; that every refusal that a call can give has this room is law `place-fits`.
 #![tactic(auto)]
+
 ghost use Rattle.std.specs.Prelude.{◌≡◌};
 ghost use Rattle.model.specs.Call.{is_file};
 ghost use Rattle.model.specs.Meaning.{fault_told};

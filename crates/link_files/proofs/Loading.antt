@@ -34,10 +34,8 @@ use Rattle.family.proofs.Onward.{OneMore}
 use Rattle.link_list.specs.Links.{links_name, links_path, file_lines}
 use Rattle.link_list.proofs.Rows.{holds}
 use Rattle.link_list.proofs.Writing.{links_key, links_named, settle_passed}
-use denote.Enum.Declared.{tag_of}
 use Rattle.answers.specs.declared.ListAnswer.{ListAnswer}
 use Rattle.answers.specs.declared.ListAnswer.TheVariants as variant
-use Rattle.answers.specs.contracts.ListAnswer.{the_type}
 use Rattle.answers.specs.declared.ReadAnswer.{ReadAnswer}
 use Rattle.answers.specs.declared.ReadAnswer.TheVariants as variant-read
 use Rattle.answers.specs.Answers.{list_answer, read_answer}
@@ -243,11 +241,11 @@ module _ (b d : Bytes) where
 pub said : {a c : ListAnswer} (name date : Bytes) {x : Answer Listed} → a ≡ c → list_answer a name date ≡ x → list_answer c name date ≡ x
 said name date e h = ap (λ (k : ListAnswer). list_answer k name date) (sym e) ∙ h
 
-pub listed_there : (a : ListAnswer) (name date : Bytes) → (tag_of the_type a ≡ 0) ⊎ ((tag_of the_type a ≡ 1) ⊎ (tag_of the_type a ≡ 2)) → (x : Listed) × (list_answer a name date ≡ granted x)
+pub listed_there : (a : ListAnswer) (name date : Bytes) → ((r : Base) → a ≡ variant.Refused r → ⊥) → (x : Listed) × (list_answer a name date ≡ granted x)
 listed_there variant.Empty name date k = (_, refl)
 listed_there (variant.File size locked) name date k = (_, refl)
 listed_there variant.Directory name date k = (_, refl)
-listed_there (variant.Refused r) name date k = absurd (elim k [ inl u ↦ omega arith | inr v ↦ elim v [ inl u ↦ omega arith | inr u ↦ omega arith ] ])
+listed_there (variant.Refused r) name date k = absurd (k r refl)
 
 -- ---- what reading's answer says
 

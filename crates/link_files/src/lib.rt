@@ -1,5 +1,6 @@
 // The file LINKS of a directory (02 §4), by the base's calls alone: its path, and its bytes.
 #![tactic(auto)]
+
 ghost use Rattle.std.specs.Prelude.{◌≡◌, ◌+◌, ◌≤◌, not, ◌∷◌, length, T};
 ghost use Rattle.volume.specs.Bytes.{put};
 ghost use Rattle.model.specs.Path.{path_of, is_no_path};

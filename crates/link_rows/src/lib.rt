@@ -1,6 +1,7 @@
 // The rows of the link list as bytes (02 §4): rows read from a file and written to one, and a file judged, over slices of bytes and of numbers, three
 // a row. What each function answers is said by the definitions of `link_list`.
 #![tactic(auto)]
+
 ghost use Rattle.std.specs.Prelude.{◌≡◌, ◌+◌, ◌*◌, ◌≤◌, true, length, drop};
 ghost use Rattle.std.proofs.Math.Option.{none};
 ghost use Rattle.volume.specs.Bytes.{put};

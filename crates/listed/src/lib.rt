@@ -1,6 +1,7 @@
 // List: what entry i of a directory holds. It has no `requires`: whatever the bytes, it answers what the model's `answer` says. The image is lent for
 // reading.
 #![tactic(auto)]
+
 ghost use Rattle.std.specs.Prelude.{◌≡◌, ◌+◌, ◌*◌, ◌<◌, ◌≤◌, length, replicate};
 ghost use Rattle.model.specs.Layout.{page_size};
 ghost use Rattle.model.specs.Call.{list};

@@ -1,5 +1,5 @@
 -- The lines of a directory and of one of its entries, and what is asked for reading them.
-use Rattle.std.specs.Prelude.{◌≡◌, ℕ, ◌+◌, ◌≤◌, List, ◌++◌, take}
+use Rattle.std.specs.Prelude.{◌≡◌, ℕ, ◌+◌, ◌-◌, ◌≤◌, List, ◌++◌, take, drop}
 use Rattle.volume.specs.Bytes.{Bytes}
 use Rattle.model.specs.Entry.{name_at, entry_at}
 use Rattle.model.specs.Name.{unpadded}
@@ -24,6 +24,12 @@ entry_path b at path = path ++ text "/" ++ unpadded (name_at b at)
 -- the pages that are read lie in the image
 pub record Readable (b : Bytes) (pages : List ℕ) : Type 0 where
   pub inside : InImage b pages
+
+-- where the name of an entry ends: what stands before is the name without its zeros
+pub record NameEnds (b : Bytes) (at to : ℕ) : Type 0 where
+  pub low : at + 1 ≤ to
+  pub high : to ≤ at + 17
+  pub name : take (to - (at + 1)) (drop (at + 1) b) ≡ unpadded (name_at b at)
 
 -- the path of an entry behind that of its directory, which stays
 pub record Extended (b : Bytes) (at : ℕ) (path path' : Bytes) (len r : ℕ) : Type 0 where

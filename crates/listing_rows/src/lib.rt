@@ -1,6 +1,7 @@
 // The lines of a directory and of all that is below it, in the listing of an image (01, "At the bench"): an entry that is a directory is listed as
 // one in turn. Its path is written behind that of its directory.
 #![tactic(auto)]
+
 ghost use Rattle.std.specs.Prelude.{◌≡◌, ◌+◌, ◌*◌, ◌≤◌, ◌<◌, length, take};
 ghost use Rattle.model.specs.Layout.{page_count};
 ghost use Rattle.model.specs.Entry.{entry_at};
@@ -8,10 +9,25 @@ ghost use Rattle.model.specs.Version1.{view};
 ghost use Rattle.model.specs.Sound.{owned};
 ghost use Rattle.laws.proofs.Owns.{own};
 ghost use Rattle.listing_lines.specs.Window.{window, poured};
-ghost use Rattle.listing_rows.specs.Lines.{directory_lines, entry_lines, Readable, Extended};
+ghost use Rattle.listing_rows.specs.Lines.{directory_lines, entry_lines, Readable, NameEnds, Extended};
 
 use fields::{Entry, Page};
 use listing_lines::Sink;
+
+// Where the name of the entry at position `at` ends: at its first zero, or behind all of its 16 bytes.
+fn name_end(image: &[u8], at: usize) -> usize
+    requires { at + 32 ≤ length image.now }
+    ensures { NameEnds image.now at result }
+{
+    let mut to = at + 1;
+    while to < at + 17 {
+        if image[to] == 0 {
+            return to;
+        }
+        to += 1;
+    }
+    to
+}
 
 // Writes the path of the entry at position `at` behind that of its directory, which is the first `len` bytes, and answers its length.
 // A name ends at its first zero, or is all of its 16 bytes.
@@ -20,7 +36,7 @@ fn extend(image: &[u8], at: usize, path: &mut [u8], len: usize) -> usize
     ensures { Extended image.now at path.old path.new len result }
 {
     let from = at + 1;
-    let to = bytes::scan::find(image, from, at + 17, 0);
+    let to = name_end(image, at);
     path[len] = b'/';
     pages::copy_in(path, len + 1, &image[from..to]);
     len + 1 + (to - from)

@@ -1,6 +1,7 @@
 // The calls that lock and unlock. Neither has a `requires`: whatever the bytes, a call answers what the model's `answer` says, and leaves the image as
 // `after` says. A refused call changes no byte.
 #![tactic(auto)]
+
 ghost use Rattle.std.specs.Prelude.{◌≡◌, true, false};
 ghost use Rattle.model.specs.Call.{set_lock};
 ghost use Rattle.model.specs.Meaning.{answer, after};

@@ -1,6 +1,7 @@
 // Two calls that look: verdict and find; list stands in `listed`, read in `reads`. Neither has a `requires`: whatever the bytes, a call answers what the
 // model's `answer` says. The image is lent for reading.
 #![tactic(auto)]
+
 ghost use Rattle.std.specs.Prelude.{◌≡◌, replicate};
 ghost use Rattle.model.specs.Call.{verdict, find};
 ghost use Rattle.model.specs.Meaning.{answer};

@@ -2,6 +2,7 @@
 // answered with yes, so each function asks for that yes and sets what the question would have let through.
 // No function changes the image.
 #![tactic(auto)]
+
 ghost use Rattle.std.specs.Prelude.{◌≡◌, ◌+◌, ◌≤◌, ◌<◌, [], ◌∷◌, length};
 ghost use Rattle.model.specs.Layout.{page_count};
 ghost use Rattle.model.specs.Entry.{entries, entry_at};

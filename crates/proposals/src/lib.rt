@@ -1,6 +1,7 @@
 // A proposal of tidy (02 §13): for every page of an image its new place. Here it is read and judged, page by page, by the owners' row of the second
 // judge: there is no walk here and no recursion.
 #![tactic(auto)]
+
 ghost use Rattle.std.specs.Prelude.{◌≡◌, ◌-◌, ◌<◌, ◌≤◌, length, get_or};
 ghost use Rattle.volume.specs.Lists.{all, count_from};
 ghost use Rattle.model.specs.Layout.{page_count};

@@ -1,6 +1,7 @@
 // Read. It has no `requires`: whatever the bytes, it answers what the model's `answer` says, and leaves its buffer as `bufferAfter` says. The image is
 // lent for reading.
 #![tactic(auto)]
+
 ghost use Rattle.std.specs.Prelude.{◌≡◌};
 ghost use Rattle.model.specs.Call.{read};
 ghost use Rattle.model.specs.Meaning.{answer, buffer_after};

@@ -1,6 +1,7 @@
 // The calls that remove. None has a `requires`: whatever the bytes, a call answers what the model's `answer` says, and leaves the image as `after` says.
 // A refused call changes no byte.
 #![tactic(auto)]
+
 ghost use Rattle.std.specs.Prelude.{◌≡◌};
 ghost use Rattle.model.specs.Call.{remove_file, remove_directory};
 ghost use Rattle.model.specs.Meaning.{answer, after};

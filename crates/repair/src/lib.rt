@@ -1,6 +1,7 @@
 // Lost pages won back (02 §7): the judge's walk, and the bits and the count set anew by its owner marks. The one public call has no `requires`:
 // whatever the bytes, it answers what `repairAnswer` says and leaves the image as `repairAfter` says.
 #![tactic(auto)]
+
 ghost use Rattle.std.specs.Prelude.{◌≡◌, ◌<◌, ◌≤◌, true, length, replicate};
 ghost use Rattle.std.specs.Prelude.{if◌then◌else◌};
 ghost use Rattle.volume.specs.Geometry as On;

@@ -1,6 +1,7 @@
 // The call that writes. It has no `requires`: whatever the bytes, it answers what the model's `answer` says, and leaves the image as `after` says. A
 // refused call changes no byte.
 #![tactic(auto)]
+
 ghost use Rattle.std.specs.Prelude.{◌≡◌, ◌+◌, ◌-◌, ◌<◌, ◌≤◌, max, length, ltb};
 ghost use Rattle.model.specs.Layout.{pages_for, free_count};
 ghost use Rattle.model.specs.Call.{write};

@@ -1,0 +1,15 @@
+-- The bytes of a name are looked at one by one, up to its first zero.
+use Rattle.listing_rows.proofs.Paths.{searched_first, searched_zero, searched_next, searched_all}
+use Rattle.listing_rows.proofs.name_end.Goals as goal
+
+pub loop-to-init : goal.loop-to-init
+loop-to-init c = searched_first _ _
+
+pub returns-then-image-eq0 : goal.returns-then-image-eq0
+returns-then-image-eq0 c = ?
+
+pub loop-to-preserved : goal.loop-to-preserved
+loop-to-preserved c = ?
+
+pub returns : goal.returns
+returns c = searched_all _ _ _ c.requires c.loop-to.invariant c.loop-to-test.false
