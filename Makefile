@@ -22,9 +22,9 @@ build: library tool man
 
 archive: $(ARCHIVES)
 
-target/staticlib/lib%.a: crates.txt $(shell find crates -path '*/must-fail' -prune -o \( -name '*.rt' -o -name '*.antt' \) -print)
+target/staticlib/lib%.a: crates.txt $(shell find crates \( -path '*/must-fail' -o -path '*/out' \) -prune -o \( -name '*.rt' -o -name '*.antt' \) -print)
 	@command -v rt > /dev/null || { echo "make: there is no rt: the Rattle toolchain proves and builds the library; a release needs none" >&2; exit 1; }
-	rt staticlib $*
+	tools/build $*
 	touch $@
 
 library: $(ARCHIVES)

@@ -9,7 +9,6 @@ The modules are compiled and linked by the kit's own clang and linker, which hav
 import base64
 import hashlib
 import pathlib
-import platform
 import re
 import subprocess
 import sys
@@ -38,7 +37,7 @@ def calls():
 
 def compiled():
     guide = subprocess.run(["rt", "doc"], check=True, stdout=subprocess.PIPE, text=True).stdout.strip()
-    tools = pathlib.Path(guide).parent.parent / "on" / platform.machine() / "toolchain" / "bin"
+    tools = pathlib.Path(guide).parent / "toolchain" / "bin"
     with tempfile.TemporaryDirectory() as folder:
         linker = pathlib.Path(folder, "wasm-ld")
         linker.symlink_to(tools / "ld.lld")  # which tells by its name what it links
