@@ -2,6 +2,7 @@
 // the code of the model's `answer`, puts what the answer tells into the out arrays, zeros beside a refusal, and leaves the image and the reader's buffer as `after`
 // and `bufferAfter` say. To C a slice is a pointer and then a length, and a reference to an array a pointer.
 #![tactic(auto)]
+
 ghost use Rattle.std.specs.Prelude.{◌≡◌, true, false, length};
 ghost use Rattle.model.specs.Call.{format_as, verdict, find, list, read, make_file, make_directory, write, remove_file, remove_directory, set_lock};
 ghost use Rattle.model.specs.MeaningOf.{answer, after, buffer_after};

@@ -2,6 +2,7 @@
 // returns the code of the model's `answer`, puts what the answer tells into the out arrays, zeros beside a refusal, and leaves the image and
 // the reader's buffer as `after` and `bufferAfter` say. To C a slice is a pointer and then a length, and a reference to an array a pointer.
 #![tactic(auto)]
+
 ghost use Rattle.std.specs.Prelude.{◌≡◌, true, false, length};
 ghost use Rattle.volume.specs.Bytes.{put};
 ghost use Rattle.model.specs.Listing.{listing};
