@@ -1,6 +1,7 @@
 // The calls of `zealfs` that change an image, as C gets them (`zealfs_c` names them for C). None has a `requires`: whatever the bytes, a function returns the
 // code of the model's `answer` and leaves the image as `after` says.
 #![tactic(auto)]
+
 ghost use Rattle.std.specs.Prelude.{◌≡◌, true, false};
 ghost use Rattle.model.specs.Call.{format, make_file, make_directory, write, remove_file, remove_directory, set_lock};
 ghost use Rattle.model.specs.Meaning.{answer, after};

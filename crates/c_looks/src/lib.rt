@@ -1,6 +1,7 @@
 // The four looks of `zealfs` as C gets them (`zealfs_c` names them for C). None has a `requires`: whatever the bytes, a function returns the code of the model's
 // `answer`, puts what the answer tells into the out arrays, zeros beside a refusal, and leaves the reader's buffer as `bufferAfter` says.
 #![tactic(auto)]
+
 ghost use Rattle.std.specs.Prelude.{◌≡◌};
 ghost use Rattle.model.specs.Call.{verdict, find, list, read};
 ghost use Rattle.model.specs.Meaning.{answer, buffer_after};

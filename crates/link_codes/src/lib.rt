@@ -1,6 +1,7 @@
 // A refusal of the link list (02 §4) as one number, as `codes` has it for the base's. 21, 22 and 23 have one number for a place, a byte of the file
 // or a row's number, and all that is above the low byte for it: it is told up to 2^56 - 1, which no list in memory reaches.
 #![tactic(auto)]
+
 ghost use Rattle.std.specs.Prelude.{◌≡◌, min};
 ghost use Rattle.link_answers.specs.Answers.{link_refusal, done_told};
 ghost use Rattle.link_codes.specs.Codes.{most_row, link_code, link_code_of, LinkFits, AnswerFits};

@@ -1,6 +1,7 @@
 // A file LINKS read and searched once its bytes are there (02 §4), over a slice of numbers, three a row: the file is judged whole, then its rows are put
 // at the front of the numbers, or one accession is looked for.
 #![tactic(auto)]
+
 ghost use Rattle.std.specs.Prelude.{◌≡◌};
 ghost use Rattle.link_answers.specs.Answers.{read_told, find_told};
 ghost use Rattle.link_reads.specs.Reads.{read_in, numbers_in, find_in};

@@ -59,7 +59,7 @@ module _ (b : Bytes) (at to : ℕ) (h : at + 32 ≤ length b) (s : Searched b at
     unfolding unpadded
     searched_next z =
         let k : to + 1 - (at + 1) ≡ suc (to - (at + 1)) = omega arith in
-        let c : eqb (get_or b to 0) 0 ≡ false = ne_eqb (get_or b to 0) z in
+        let c : eqb (get_or b to 0) 0 ≡ false = ne_eqb (get_or b to 0) 0 z in
         let w : to - (at + 1) < length (drop (at + 1) b) = omega (arith, length-drop (at + 1) b) in
         let i : at + 1 + (to - (at + 1)) ≡ to = omega arith in
         let x : get_or (drop (at + 1) b) (to - (at + 1)) 0 ≡ get_or b to 0 = get_or-drop (at + 1) b (to - (at + 1)) 0 ∙ ap (λ (j : ℕ). get_or b j 0) i in
@@ -69,7 +69,7 @@ module _ (b : Bytes) (at to : ℕ) (h : at + 32 ≤ length b) (s : Searched b at
         record {
           low = omega (arith, s.low);
           high = omega arith;
-          so_far = rw k (rw front (append_assoc _ _ _ ∙ ap (λ (r : Bytes). take (to - (at + 1)) (drop (at + 1) b) ++ r) (sym back) ∙ s.so_far));
+          so_far = rw k (rw front (append_assoc (take (to - (at + 1)) (drop (at + 1) b)) (get_or b to 0 ∷ []) (unpadded (drop (suc (to - (at + 1))) (name_at b at))) ∙ ap (λ (r : Bytes). take (to - (at + 1)) (drop (at + 1) b) ++ r) (sym back) ∙ s.so_far));
         }
 
 module _ (b : Bytes) (at to : ℕ) (path path' : Bytes) (len : ℕ) (h : at + 32 ≤ length b) (room : len + 17 ≤ length path)

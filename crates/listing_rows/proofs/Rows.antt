@@ -105,7 +105,8 @@ position_in : (s i n j : ℕ) → i ≤ j → j < i + n → Mem (s + 32 * j) (ma
 unfolding count_from
 position_in s i zero j l u = absurd (omega arith)
 position_in s i (suc n) j l u = elim (dec_le j i) [
-  | yes h ↦ let e : j ≡ i = omega arith in rw e (mem_head (s + 32 * i) (map (λ k. s + 32 * k) (count_from (suc i) n)))
+  | yes h ↦ let e : i ≡ j = omega arith in
+      subst (λ (q : ℕ). Mem (s + 32 * q) (map (λ k. s + 32 * k) (count_from i (suc n)))) e (mem_head (s + 32 * i) (map (λ k. s + 32 * k) (count_from (suc i) n)))
   | no h ↦ mem_tail (s + 32 * j) (s + 32 * i) (map (λ k. s + 32 * k) (count_from (suc i) n)) (position_in s (suc i) n j (omega arith) (omega arith))
 ]
 

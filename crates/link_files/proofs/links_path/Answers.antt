@@ -10,4 +10,4 @@ pub returns : goal.returns
 unfolding text
 returns c =
     let whole = c.join.ensures in
-    record { value = whole.0; path_after = whole.1 }
+    record { value = whole.value; path_after = whole.path_after }

@@ -5,11 +5,11 @@ use Rattle.listing_rows.proofs.name_end.Goals as goal
 pub loop-to-init : goal.loop-to-init
 loop-to-init c = searched_first _ _
 
-pub returns-then-image-eq0 : goal.returns-then-image-eq0
-returns-then-image-eq0 c = ?
+pub returns-then-image-to-eq0 : goal.returns-then-image-to-eq0
+returns-then-image-to-eq0 c = searched_zero _ _ _ c.requires c.loop-to.invariant c.loop-to-test.true c.if-image-to-eq0.true
 
 pub loop-to-preserved : goal.loop-to-preserved
-loop-to-preserved c = ?
+loop-to-preserved c = searched_next _ _ _ c.requires c.loop-to.invariant c.loop-to-test.true c.if-image-to-eq0.false
 
 pub returns : goal.returns
 returns c = searched_all _ _ _ c.requires c.loop-to.invariant c.loop-to-test.false

@@ -19,10 +19,10 @@ remark-requires c =
     let start = own-pages in
     let pre = start.requires in
     let sized = valid_sized start.args.image.now (of_true pre.0) in (
-      omega (arith, own-pages.own_pages-walked.kept, pre.2.low),
-      omega (arith, own-pages.own_pages-walked.kept, pre.2.high),
+      omega (arith, own-pages.own_pages-walked.auto.marks, pre.2.low),
+      omega (arith, own-pages.own_pages-walked.auto.marks, pre.2.high),
       omega (arith, sized.low, sized.whole),
-      walk_shown _ _ (clean_of own-pages.own_pages-walked.ensures told.in_default.is) (omega (arith, own-pages.own_pages-walked.kept, pre.2.each)),
+      walk_shown _ _ (clean_of own-pages.own_pages-walked.ensures told.in_default.is) (omega (arith, own-pages.own_pages-walked.auto.marks, pre.2.each)),
     )
 
 pub returns : goal.returns
@@ -31,5 +31,5 @@ returns c =
     let own-pages = told in
     let pre = own-pages.requires in
     let whole = granted_walk _ pre.0 pre.1 _ _ (clean_of own-pages.own_pages-walked.ensures told.in_default.is)
-    (omega (arith, own-pages.own_pages-walked.kept, pre.2.each)) c.remark.ensures in
+    (omega (arith, own-pages.own_pages-walked.auto.marks, pre.2.each)) c.remark.ensures in
     record { result_value = whole.0; image_after = whole.1 }

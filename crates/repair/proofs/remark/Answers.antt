@@ -19,13 +19,13 @@ loop-p-preserved c =
     ⊎_elim
     (λ w. (
       inv.0,
-      ap length w.6 ∙ w.3.kept.0 ∙ inv.1,
-      set_on _ _ _ _ _ inv.2 (omega arith) _ _ w.1.ensures (w.6 ∙ w.3.ensures) _ _ w.0.taken c.larger-p.ensures,
+      ap length w.image-is ∙ w.set_bit.auto.image ∙ inv.1,
+      set_on _ _ _ _ _ inv.2 (omega arith) _ _ w.is_taken-taken.ensures (w.image-is ∙ w.set_bit.ensures) _ _ w.if-right-eq0.true c.larger-p.ensures,
     ))
     (λ w. (
       inv.0,
-      ap length w.1 ∙ inv.1,
-      w.1 ∙ right_on _ _ _ _ _ inv.2 (omega arith) inv.0 _ _ c.right_pages-right.ensures.0 w.0.left c.larger-p.ensures,
+      ap length w.image-is ∙ inv.1,
+      w.image-is ∙ right_on _ _ _ _ _ inv.2 (omega arith) inv.0 _ _ c.right_pages-right.ensures.0 w.if-right-eq0.false c.larger-p.ensures,
     ))
     c.if-right-eq0.branch-raw
 
