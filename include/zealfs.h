@@ -1,5 +1,5 @@
 /*
- * ZealFS over an image in memory. The functions zealfs_.. are version 1's, in libzealfs_c.a (crates/zealfs_c, built by `rt lib` there), and
+ * ZealFS over an image in memory. The functions zealfs_.. are version 1's, in libzealfs_c.a (crates/zealfs_c, built by `tools/build zealfs_c`), and
  * zealfs2_.. version 2's, in libzealfs2_c.a (crates/zealfs2_c); libzealfs.a and libzealfs.so hold both, with zealfs_text and zealfs_advice beside
  * them (`make`). An image of version 1 begins with the bytes 5A 01, one of version 2 with 5A 02; the other version's functions refuse it.
  *
