@@ -1,6 +1,7 @@
 // The calls of version 2 that change an image, as C gets them (`zealfs2_c` names them for C; paper 02 §12). None has a `requires`: whatever the bytes, a function
 // returns the code of the model's `answer` and leaves the image as `after` says.
 #![tactic(auto)]
+
 ghost use Rattle.std.specs.Prelude.{◌≡◌, true, false};
 ghost use Rattle.model.specs.Call.{format_as, make_file, make_directory, write, remove_file, remove_directory, set_lock};
 ghost use Rattle.model.specs.MeaningOf.{answer, after};

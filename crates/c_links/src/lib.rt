@@ -1,6 +1,7 @@
 // The link list of a directory as C gets it (02 §4; `zealfs_c` names the functions for C), numbers for rows, three each: the accession's count of digits, its
 // value, the figure. None has a `requires`: whatever the bytes, a function returns the code of the list's answer and leaves images and numbers as it says.
 #![tactic(auto)]
+
 ghost use Rattle.std.specs.Prelude.{◌≡◌};
 ghost use Rattle.link_list.specs.Links.{read_links, write_links, find_link, check_links, link_answer, link_after};
 ghost use Rattle.link_judge.specs.Judged.{rows_of};

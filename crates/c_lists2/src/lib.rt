@@ -1,6 +1,7 @@
 // Many entries of a version 2 directory as C gets them (`zealfs2_c` names the function for C; paper 02 §12). It has no `requires`: whatever the bytes, it
 // returns the code of `entriesAnswer`, puts what that tells into the out array, zeros beside a refusal, and leaves the rows as `entriesAfter` says.
 #![tactic(auto)]
+
 ghost use Rattle.std.specs.Prelude.{◌≡◌, length};
 ghost use Rattle.codes.specs.Codes.{code_of};
 ghost use Rattle.lists2.specs.Entries.{entries_answer, entries_after};

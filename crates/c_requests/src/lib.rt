@@ -1,6 +1,7 @@
 // The calls outside the lists of demand 3 as C gets them (`zealfs_c` names them for C): repair, the second judge, stores, the listing and tidying. None of them
 // has a `requires`: whatever the bytes, a function returns the code of what its paragraph answers and leaves images and buffers as it says.
 #![tactic(auto)]
+
 ghost use Rattle.std.specs.Prelude.{◌≡◌, ◌≤◌, length};
 ghost use Rattle.volume.specs.Bytes.{put};
 ghost use Rattle.model.specs.Listing.{listing};

@@ -1,5 +1,6 @@
 // A file LINKS checked once its bytes are there (02 §4): the file is judged whole, then every row must name a file of the directory by its exact digits.
 #![tactic(auto)]
+
 ghost use Rattle.std.specs.Prelude.{◌≡◌, ◌+◌, ◌≤◌, min, true, ◌++◌, length, T};
 ghost use Rattle.volume.specs.Lists.{all};
 ghost use Rattle.model.specs.Name.{legal_text};

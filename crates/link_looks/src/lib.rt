@@ -2,6 +2,7 @@
 // file LINKS and judges it whole. A file of one page, which has room for more rows than a directory has entries, is loaded into an array of that size; the
 // array for the longest file is cleared only where it is needed.
 #![tactic(auto)]
+
 ghost use Rattle.std.specs.Prelude.{◌≡◌};
 ghost use Rattle.link_list.specs.Links.{read_links, find_link, check_links, link_answer};
 ghost use Rattle.link_judge.specs.Judged.{rows_of};

@@ -2,6 +2,7 @@
 // The public function has no `requires`. A private one that writes text says which, by the definitions of the model's `Listing`;
 // what the window then holds says `poured` of `listing_lines`.
 #![tactic(auto)]
+
 ghost use Rattle.std.specs.Prelude.{◌≡◌, ◌++◌, length, T};
 ghost use Rattle.volume.specs.Bytes.{put};
 ghost use Rattle.model.specs.Layout.{page_count};

@@ -1,6 +1,7 @@
 // One page of a tidied image (02 §13), lent as its own stretch and written once: its link or the start pages of its entries follow the proposal.
 // No function can change the image, which is lent to be read alone.
 #![tactic(auto)]
+
 ghost use Rattle.std.specs.Prelude.{◌≡◌, ◌+◌, ◌*◌, ◌<◌, ◌≤◌, length, take};
 ghost use mathlib.Core.List.{◌++◌, flat_map};
 ghost use Rattle.volume.specs.Bytes.{part, put};

@@ -16,7 +16,7 @@ use Rattle.model.specs.Sound.{reached_entries}
 use Rattle.laws.proofs.Facts.{Sized, valid_sized, sound_facts_lem}
 use Rattle.fields.specs.declared.Entry.{Entry as Read}
 use Rattle.fields.specs.Read.{entry_of}
-use Rattle.audit.specs.Owner.{Owner, nobody, entry, owner_number, owner_row, owner_numbers}
+use Rattle.audit.specs.Owner.{Owner, nobody, header, entry, owner_number, owner_row, owner_numbers}
 use Rattle.audit.specs.Demand.{Named, is_free, is_owned}
 use Rattle.audit.proofs.Promise.{audit_demand}
 use Rattle.moves.specs.Tidy.{first_entry, owner_entry}
@@ -57,6 +57,7 @@ module _ {b : Bytes} {owners : List ℕ} (j : Judged b owners) where
       where
         go : (o : Owner) → Named b p o → Owns b p (owner_number o)
         go nobody (is_free z e) = none refl (ap (first_entry b) e)
+        go header m = elim m [ ]
         go (entry x) (is_owned at z e m k) =
             one (audit_demand.apart b at m) (reached_inside b (sound_facts_lem j.is_sound) at (member_occ at (reached_entries b) m)) (ap (first_entry b) e)
 

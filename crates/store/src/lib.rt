@@ -2,6 +2,7 @@
 // asked for by its number, its page's number is the answer, and its bytes go into a lent buffer. Until they do, the buffer itself serves as a copy of
 // the header page, on which the pages are found. The one public call has no `requires`.
 #![tactic(auto)]
+
 ghost use Rattle.std.specs.Prelude.{◌≡◌, ◌+◌, ◌-◌, ◌*◌, ◌/◌, ◌<◌, ◌≤◌, length, ltb};
 ghost use Rattle.volume.specs.Bytes.{byte_at, part, put};
 ghost use Rattle.std.specs.Prelude.{if◌then◌else◌};

@@ -51,7 +51,7 @@ mem_short : (k q z : ℕ) (xs : List ℕ) → k < length (xs ++ (z ∷ [])) → 
 mem_short zero q z xs l m = absurd (omega arith)
 mem_short (suc k) q z [] l m = absurd (omega arith)
 mem_short (suc k) q z (x ∷ xs) l m = elim (mem_cons q x (take k (xs ++ (z ∷ []))) m) [
-  | inl e ↦ rw e (mem_head x xs)
+  | inl e ↦ subst (λ (y : ℕ). Mem y (x ∷ xs)) (sym e) (mem_head x xs)
   | inr n ↦ mem_tail q x xs (mem_short k q z xs (omega arith) n)
 ]
 

@@ -15,20 +15,17 @@ unfolding code_of find_out kind_number lock_number
 returns-in-File c =
     let find = c in
     let e = rw c.in-File.is at find.find-found.ensures.0 in
-    let whole = (ap code_of e, (rw c.lock_number.ensures (ap find_out e), find.find-found.ensures.1)) in
-    record { value = whole.0; out_after = whole.1; date_after = whole.2 }
+    record { value = ap code_of e; out_after = rw c.lock_number.ensures (ap find_out e); date_after = find.find-found.ensures.1 }
 
 pub returns-in-Directory : goal.returns-in-Directory
 unfolding code_of find_out kind_number lock_number
 returns-in-Directory c =
     let e = rw c.in-Directory.is at c.find-found.ensures.0 in
-    let whole = (ap code_of e, (ap find_out e, c.find-found.ensures.1)) in
-    record { value = whole.0; out_after = whole.1; date_after = whole.2 }
+    record { value = ap code_of e; out_after = ap find_out e; date_after = c.find-found.ensures.1 }
 
 pub returns-in-Refused : goal.returns-in-Refused
 unfolding code_of find_out kind_number lock_number
 returns-in-Refused c =
     let find = c in
     let e = rw c.in-Refused.is at find.find-found.ensures.0 in
-    let whole = (c.code.ensures ∙ ap code_of e, (ap find_out e, find.find-found.ensures.1)) in
-    record { value = whole.0; out_after = whole.1; date_after = whole.2 }
+    record { value = c.code.ensures ∙ ap code_of e; out_after = ap find_out e; date_after = find.find-found.ensures.1 }

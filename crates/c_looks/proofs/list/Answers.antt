@@ -15,29 +15,25 @@ unfolding code_of list_out kind_number lock_number
 returns-in-Empty c =
     let list = c in
     let e = rw c.in-Empty.is at list.list-listed.ensures.0 in
-    let whole = (ap code_of e, (ap list_out e, (list.list-listed.ensures.1, list.list-listed.ensures.2))) in
-    record { value = whole.0; out_after = whole.1; name_after = whole.2; date_after = whole.3 }
+    record { value = ap code_of e; out_after = ap list_out e; name_after = list.list-listed.ensures.1; date_after = list.list-listed.ensures.2 }
 
 pub returns-in-File : goal.returns-in-File
 unfolding code_of list_out kind_number lock_number
 returns-in-File c =
     let list = c in
     let e = rw c.in-File.is at list.list-listed.ensures.0 in
-    let whole = (ap code_of e, (rw c.lock_number.ensures (ap list_out e), (list.list-listed.ensures.1, list.list-listed.ensures.2))) in
-    record { value = whole.0; out_after = whole.1; name_after = whole.2; date_after = whole.3 }
+    record { value = ap code_of e; out_after = rw c.lock_number.ensures (ap list_out e); name_after = list.list-listed.ensures.1; date_after = list.list-listed.ensures.2 }
 
 pub returns-in-Directory : goal.returns-in-Directory
 unfolding code_of list_out kind_number lock_number
 returns-in-Directory c =
     let list = c in
     let e = rw c.in-Directory.is at list.list-listed.ensures.0 in
-    let whole = (ap code_of e, (ap list_out e, (list.list-listed.ensures.1, list.list-listed.ensures.2))) in
-    record { value = whole.0; out_after = whole.1; name_after = whole.2; date_after = whole.3 }
+    record { value = ap code_of e; out_after = ap list_out e; name_after = list.list-listed.ensures.1; date_after = list.list-listed.ensures.2 }
 
 pub returns-in-Refused : goal.returns-in-Refused
 unfolding code_of list_out kind_number lock_number
 returns-in-Refused c =
     let list = c in
     let e = rw c.in-Refused.is at list.list-listed.ensures.0 in
-    let whole = (c.code.ensures ∙ ap code_of e, (ap list_out e, (list.list-listed.ensures.1, list.list-listed.ensures.2))) in
-    record { value = whole.0; out_after = whole.1; name_after = whole.2; date_after = whole.3 }
+    record { value = c.code.ensures ∙ ap code_of e; out_after = ap list_out e; name_after = list.list-listed.ensures.1; date_after = list.list-listed.ensures.2 }

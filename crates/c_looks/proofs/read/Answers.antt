@@ -15,13 +15,11 @@ unfolding code_of number_out
 returns-in-Copied c =
     let read = c in
     let e = rw c.in-Copied.is at read.read.ensures.result_value in
-    let whole = (ap code_of e, (ap number_out e, read.read.ensures.buffer_after)) in
-    record { value = whole.0; out_after = whole.1; buffer_after = whole.2 }
+    record { value = ap code_of e; out_after = ap number_out e; buffer_after = read.read.ensures.buffer_after }
 
 pub returns-in-Refused : goal.returns-in-Refused
 unfolding code_of number_out
 returns-in-Refused c =
     let r = c in
     let e = rw r.in-Refused.is at r.read.ensures.result_value in
-    let whole = (c.code.ensures ∙ ap code_of e, (ap number_out e, r.read.ensures.buffer_after)) in
-    record { value = whole.0; out_after = whole.1; buffer_after = whole.2 }
+    record { value = c.code.ensures ∙ ap code_of e; out_after = ap number_out e; buffer_after = r.read.ensures.buffer_after }

@@ -17,13 +17,19 @@ entry_numbered-requires c = let k = c.requires in (known_roomy k.0, known_some k
 
 pub returns-in_default : goal.returns-in_default
 returns-in_default c =
-    record { result_value = in_told c.requires.0 _ _ c.width_of-all.ensures (omega (arith, c.if-all-first.false)) _ c.least-count.ensures; rows_after = in_end c.requires.0 _ _ c.width_of-all.ensures (omega (arith, c.if-all-first.false)) _ c.least-count.ensures
-          c.entry_numbered.result c.entry_numbered.ensures.0 c.in_default.is }
+    record {
+      result_value = in_told c.requires.0 _ _ c.width_of-all.ensures (omega (arith, c.if-all-first.false)) _ c.least-count.ensures;
+      rows_after = in_end c.requires.0 _ _ c.width_of-all.ensures (omega (arith, c.if-all-first.false)) _ c.least-count.ensures
+          c.entry_numbered.result c.entry_numbered.ensures.0 c.in_default.is;
+    }
 
 pub put_rows-requires : goal.put_rows-requires
 put_rows-requires c = (known_roomy c.requires.0, rw c.in-At.is at c.entry_numbered.ensures.1, omega (arith, c.least-count.ensures))
 
 pub returns : goal.returns
 returns c =
-    record { result_value = in_told c.requires.0 _ _ c.width_of-all.ensures (omega (arith, c.if-all-first.false)) _ c.least-count.ensures; rows_after = in_rows c.requires.0 _ _ c.width_of-all.ensures (omega (arith, c.if-all-first.false)) _ c.least-count.ensures
-          c.entry_numbered.result c.entry_numbered.ensures.0 c.in-At.is c.put_rows.ensures }
+    record {
+      result_value = in_told c.requires.0 _ _ c.width_of-all.ensures (omega (arith, c.if-all-first.false)) _ c.least-count.ensures;
+      rows_after = in_rows c.requires.0 _ _ c.width_of-all.ensures (omega (arith, c.if-all-first.false)) _ c.least-count.ensures
+          c.entry_numbered.result c.entry_numbered.ensures.0 c.in-At.is c.put_rows.ensures;
+    }

@@ -27,11 +27,10 @@ pub entries_start-start-requires : goal.entries_start-start-requires
 entries_start-start-requires c = (roomy c.requires.0, omega (arith, page_lies (asking_between c.loop-left.invariant), c.shared_slice_known-1.given 0))
 
 pub names_differ-requires : goal.names_differ-requires
-names_differ-requires c =
-    (
-      omega (arith, entries_lie (asking_between c.loop-left.invariant) (roomy c.requires.0), c.entries_start-start.ensures, c.entry_count-count.ensures, c.if-left-count.true),
-      c.position_of-at.ensures.1,
-    )
+names_differ-requires c = (
+  omega (arith, entries_lie (asking_between c.loop-left.invariant) (roomy c.requires.0), c.entries_start-start.ensures, c.entry_count-count.ensures, c.if-left-count.true),
+  c.position_of-at.ensures.1,
+)
 
 pub returns-then-left-count : goal.returns-then-left-count
 returns-then-left-count c =
@@ -43,11 +42,10 @@ returns-then-left-count c =
     (few_answer turn.loop-left.invariant c.entries_start-start.ensures c.entry_count-count.ensures _ c.if-left-count.true c.names_differ.ensures)
 
 pub names_differ-requires-in-loop-left : goal.names_differ-requires-in-loop-left
-names_differ-requires-in-loop-left c =
-    (
-      omega (arith, entries_lie (asking_between c.loop-left.invariant) (roomy c.requires.0), c.entries_start-start.ensures, c.entry_count-count.ensures),
-      c.position_of-at.ensures.1,
-    )
+names_differ-requires-in-loop-left c = (
+  omega (arith, entries_lie (asking_between c.loop-left.invariant) (roomy c.requires.0), c.entries_start-start.ensures, c.entry_count-count.ensures),
+  c.position_of-at.ensures.1,
+)
 
 pub returns-then-not-names_differ : goal.returns-then-not-names_differ
 returns-then-not-names_differ c =

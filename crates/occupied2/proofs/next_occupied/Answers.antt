@@ -45,9 +45,8 @@ loop-shape-preserved c =
     c.next_page.ensures.0 c.in-At.is c.next_page.ensures.1
 
 pub returns-in-End : goal.returns-in-End
-returns-in-End c =
-    (
-      met_end c.loop-shape.invariant c.entries_start.ensures c.entry_count-count.ensures c.occupied_number-first.ensures c.if-first-count.false
-          c.next_page.ensures.0 c.in-End.is,
-      tt,
-    )
+returns-in-End c = (
+  met_end c.loop-shape.invariant c.entries_start.ensures c.entry_count-count.ensures c.occupied_number-first.ensures c.if-first-count.false
+      c.next_page.ensures.0 c.in-End.is,
+  tt,
+)

@@ -15,12 +15,11 @@ pub returns-then-left-eq0 : goal.returns-then-left-eq0
 returns-then-left-eq0 c = (others_none _ _ _ _ _ (behind_none _ _ _ c.if-left-eq0.true), tt, tt)
 
 pub returns : goal.returns
-returns c =
-    (
-      others_next _ _ _ _ _ _ c.if-left-eq0.false c.link-page.ensures c.if-page-eq0.false,
-      record {
-        within = some_entry c.requires.0 c.link-page.result.0;
-        pages = pages_next c.args.shape c.args.image.now _ _ _ c.if-left-eq0.false c.link-page.ensures c.if-page-eq0.false c.requires.1.pages;
-      },
-      (search rules, refl),
-    )
+returns c = (
+  others_next _ _ _ _ _ _ c.if-left-eq0.false c.link-page.ensures c.if-page-eq0.false,
+  record {
+    within = some_entry c.requires.0 c.link-page.result.0;
+    pages = pages_next c.args.shape c.args.image.now _ _ _ c.if-left-eq0.false c.link-page.ensures c.if-page-eq0.false c.requires.1.pages;
+  },
+  (search rules, refl),
+)
