@@ -1,6 +1,7 @@
 // A file made anew with its content, by the base's calls in turn (02 §4): an old file of its path is removed first. All of it is done or nothing, in place
 // where nothing but the first call can be refused, and else on a copy of the image. No public function asks anything of its caller.
 #![tactic(auto)]
+
 ghost use Rattle.std.specs.Prelude.{◌≡◌, ◌≤◌, true, false, length, T};
 ghost use Rattle.model.specs.Sound.{sound};
 ghost use Rattle.model.specs.Call.{remove_file};

@@ -1,5 +1,6 @@
 // All that a writing of the link list asks before the rows (02 §4): the image, the directory's path, the date, the directory and its old LINKS.
 #![tactic(auto)]
+
 ghost use Rattle.std.specs.Prelude.{◌≡◌, ◌+◌, ◌≤◌, min, ◌++◌, length};
 ghost use Rattle.model.specs.Image.{tree_of};
 ghost use Rattle.model.specs.Refusal.{Passes};

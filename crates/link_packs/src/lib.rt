@@ -1,6 +1,7 @@
 // A list of rows (02 §4), judged, packed into the bytes of its file and written. One whose file is no longer than a page is packed into an array of that
 // size, so that little is cleared. The public function asks nothing of its caller.
 #![tactic(auto)]
+
 ghost use Rattle.std.specs.Prelude.{◌≡◌, ◌≤◌, length, take};
 ghost use Rattle.link_list.specs.Judging.{bad_row};
 ghost use Rattle.link_list.specs.Links.{write_links, link_answer, link_after};

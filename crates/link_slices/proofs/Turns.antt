@@ -1,6 +1,6 @@
 -- A turn over a slice of rows: what is left to judge, to pack or to put is that of the rows from i on.
 use mathlib.Core.Path.{◌≡◌, sym, ap, ◌∙◌}
-use Prim.Native.Nat.{ℕ, suc, ◌+◌, ◌≤◌, ◌<◌}
+use Prim.Native.Nat.{ℕ, suc, ◌+◌, ◌-◌, ◌≤◌, ◌<◌}
 use native.Mathlib.Omega.{arith}
 use native.Mathlib.Numerals.{add-one}
 use mathlib.Core.List.{List, [], ◌∷◌}
@@ -38,3 +38,16 @@ module _ (xs : List Row) (i : ℕ) where
   pub packed_last : length xs ≤ i → (at : ℕ) (b : Bytes) → (at, b) ≡ packed_from at b (drop i xs)
   unfolding packed_from
   packed_last l at b = ap (packed_from at b) (sym (drop_of_length-le xs l))
+
+-- ---- rows put at the front, of which i are behind
+
+module _ (v : Bytes) (count i at : ℕ) (list : List Row) where
+  pub filled_turn : (s : Step) → s ≡ step_at v at → i < count → filled v (count - (i + 1)) (i + 1) s.next (set list i s.row) ≡ filled v (count - i) i at list
+  unfolding filled
+  filled_turn s e h =
+      let left : count - i ≡ suc (count - (i + 1)) = omega arith in
+      ap (λ (r : Step). filled v (count - (i + 1)) (i + 1) r.next (set list i r.row)) e ∙ sym (ap (λ (n : ℕ). filled v n i at list) left)
+
+  pub filled_last : count ≤ i → list ≡ filled v (count - i) i at list
+  unfolding filled
+  filled_last h = let left : count - i ≡ 0 = omega arith in sym (ap (λ (n : ℕ). filled v n i at list) left)

@@ -1,6 +1,7 @@
 // The file LINKS of a directory (02 §4), written once its rows are judged and its bytes are there. What is asked before the rows the make of LINKS asks by
 // itself; only where nothing is written, for a bad row or a path that no directory has, is it asked call by call.
 #![tactic(auto)]
+
 ghost use Rattle.std.specs.Prelude.{◌≡◌, ◌+◌, ◌≤◌, not, length, T};
 ghost use Rattle.model.specs.Path.{path_of, is_no_path};
 ghost use Rattle.model.specs.Call.{refused};

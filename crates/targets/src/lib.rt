@@ -1,6 +1,7 @@
 // An accepted proposal carried out into a second buffer (02 §13): each page of the target is lent as its own stretch and written once. No function can
 // change the image, which is lent to be read alone.
 #![tactic(auto)]
+
 ghost use Rattle.std.specs.Prelude.{◌≡◌, ◌+◌, ◌/◌, ◌*◌, ◌<◌, ◌≤◌, length, get_or, take, T};
 ghost use mathlib.Core.List.{◌++◌, map, flat_map};
 ghost use Rattle.volume.specs.Bytes.{part, put};

@@ -2,6 +2,7 @@
 // judges one, `targets` carries it out. All of it goes page by page, by the owners' row, which crate `owner_rows` fills.
 // The two public calls have no `requires`, and no function can change the image, which is lent to be read alone.
 #![tactic(auto)]
+
 ghost use Rattle.std.specs.Prelude.{◌≡◌, ◌+◌, ◌-◌, ◌<◌, ◌≤◌, length};
 ghost use mathlib.Core.List.{flat_map};
 ghost use Rattle.volume.specs.Lists.{keep, count_from};
