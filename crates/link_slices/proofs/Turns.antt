@@ -16,20 +16,20 @@ use Rattle.link_slices.specs.Writing.{packed_at, packed_bytes, packed_from}
 use Rattle.link_slices.proofs.Readings.{filled}
 
 -- row i in front of the rows behind it
-row_first : (xs : List Row) (i : ℕ) (r : Row) → i < length xs → r ≡ get_or xs i r → drop i xs ≡ r ∷ drop (i + 1) xs
-row_first xs i r l e = drop-cons xs i r l ∙ ap (λ (s : Row). s ∷ drop (suc i) xs) (sym e) ∙ ap (λ (k : ℕ). r ∷ drop k xs) (sym (add-one i))
+row_first : (xs : List Row) (i : ℕ) (d : Row) → i < length xs → drop i xs ≡ get_or xs i d ∷ drop (i + 1) xs
+row_first xs i d l = drop-cons xs i d l ∙ ap (λ (k : ℕ). get_or xs i d ∷ drop k xs) (sym (add-one i))
 
 module _ (xs : List Row) (i : ℕ) where
-  module _ (r : Row) (l : i < length xs) (e : r ≡ get_or xs i r) where
-    pub judged_turn : (j n : Judged) → n ≡ judged_next j i r → judged_from (i + 1) n (drop (i + 1) xs) ≡ judged_from i j (drop i xs)
+  module _ (d : Row) (l : i < length xs) where
+    pub judged_turn : (j n : Judged) → n ≡ judged_next j i (get_or xs i d) → judged_from (i + 1) n (drop (i + 1) xs) ≡ judged_from i j (drop i xs)
     unfolding judged_from
-    judged_turn j n h = ap (λ (k : Judged). judged_from (i + 1) k (drop (i + 1) xs)) h ∙ ap (judged_from i j) (sym (row_first xs i r l e))
+    judged_turn j n h = ap (λ (k : Judged). judged_from (i + 1) k (drop (i + 1) xs)) h ∙ ap (judged_from i j) (sym (row_first xs i d l))
 
-    pub packed_turn : (at n : ℕ) (b c : Bytes) → n ≡ packed_at (length b) at r → c ≡ packed_bytes at r b → packed_from n c (drop (i + 1) xs) ≡ packed_from at b (drop i xs)
+    pub packed_turn : (at n : ℕ) (b c : Bytes) → n ≡ packed_at (length b) at (get_or xs i d) → c ≡ packed_bytes at (get_or xs i d) b → packed_from n c (drop (i + 1) xs) ≡ packed_from at b (drop i xs)
     unfolding packed_from
     packed_turn at n b c h k =
-        ap (λ (m : ℕ). packed_from m c (drop (i + 1) xs)) h ∙ ap (λ (d : Bytes). packed_from (packed_at (length b) at r) d (drop (i + 1) xs)) k
-        ∙ ap (packed_from at b) (sym (row_first xs i r l e))
+        ap (λ (m : ℕ). packed_from m c (drop (i + 1) xs)) h ∙ ap (λ (d' : Bytes). packed_from (packed_at (length b) at (get_or xs i d)) d' (drop (i + 1) xs)) k
+        ∙ ap (packed_from at b) (sym (row_first xs i d l))
 
   pub judged_last : length xs ≤ i → (j : Judged) → j ≡ judged_from i j (drop i xs)
   unfolding judged_from

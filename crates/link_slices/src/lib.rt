@@ -2,6 +2,7 @@
 // from one. No public call has a `requires`: whatever it is handed, it answers what `linkAnswer` says, leaves the list as `linkList` says and the image
 // as `linkAfter` says. The functions over a slice of rows are thin, since their proofs are walks of their code by hand; what they call is not.
 #![tactic(auto)]
+
 ghost use Rattle.std.specs.Prelude.{◌≡◌, ◌≤◌, length};
 ghost use Rattle.link_list.specs.Links.{read_links, write_links, link_answer, link_list, link_after};
 ghost use Rattle.link_answers.specs.Answers.{read_told, done_told};

@@ -2,6 +2,7 @@
 // numbers, three a row; the calls and what they answer, under one name. None has a `requires`: whatever the bytes, it answers what `linkAnswer` says,
 // leaves the image as `linkAfter` says and the numbers as `numbersAfter` says. A refused call changes neither.
 #![tactic(auto)]
+
 pub use link_answers::{DoneAnswer, FindLinkAnswer, LinkRefusal, ReadAnswer};
 pub use link_looks::{check, find, read};
 pub use link_packs::write;

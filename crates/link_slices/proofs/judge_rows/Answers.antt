@@ -10,7 +10,7 @@ pub loop-i-init : goal.loop-i-init
 loop-i-init c = ap (λ (j : Judged). judged_from 0 j c.args.rows.now) c.fresh-state.ensures
 
 pub loop-i-preserved : goal.loop-i-preserved
-loop-i-preserved c = judged_turn c.args.rows.now c.loop-i.i ? c.loop-i-test.true ? c.loop-i.state _ c.judge_row-state.ensures ∙ c.loop-i.invariant
+loop-i-preserved c = judged_turn c.args.rows.now c.loop-i.i _ c.loop-i-test.true c.loop-i.state _ c.judge_row-state.ensures ∙ c.loop-i.invariant
 
 pub returns : goal.returns
 returns c = judged_last c.args.rows.now c.loop-i.i (omega (arith, c.loop-i-test.false)) c.loop-i.state ∙ c.loop-i.invariant

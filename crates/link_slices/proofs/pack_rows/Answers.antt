@@ -8,7 +8,7 @@ pub loop-i-init : goal.loop-i-init
 loop-i-init c = refl
 
 pub loop-i-preserved : goal.loop-i-preserved
-loop-i-preserved c = packed_turn c.args.rows.now c.loop-i.i ? c.loop-i-test.true ? c.loop-i.at _ c.loop-i.bytes _ c.pack_row-at.ensures.0 c.pack_row-at.ensures.1 ∙ c.loop-i.invariant
+loop-i-preserved c = packed_turn c.args.rows.now c.loop-i.i _ c.loop-i-test.true c.loop-i.at _ c.loop-i.bytes _ c.pack_row-at.ensures.0 c.pack_row-at.ensures.1 ∙ c.loop-i.invariant
 
 pub returns : goal.returns
 returns c = packed_last c.args.rows.now c.loop-i.i (omega (arith, c.loop-i-test.false)) c.loop-i.at c.loop-i.bytes ∙ c.loop-i.invariant

@@ -1,13 +1,14 @@
 -- The rows that are left, put behind those before, are all rows put at the front.
 use native.Mathlib.Omega.{arith}
-use mathlib.Core.Path.{refl, ◌∙◌}
+use mathlib.Core.Path.{◌≡◌, refl, ap, ◌∙◌}
+use Prim.Native.Nat.{ℕ, ◌-◌}
 use lib.ListN.{length-set}
-use Rattle.link_slices.proofs.Readings.{filled_placed}
+use Rattle.link_slices.proofs.Readings.{filled, filled_placed}
 use Rattle.link_slices.proofs.Turns.{filled_turn, filled_last}
 use Rattle.link_slices.proofs.place_rows.Goals as goal
 
 pub loop-i-init : goal.loop-i-init
-loop-i-init c = (omega arith, refl, refl)
+loop-i-init c = let whole : c.args.count - 0 ≡ c.args.count = omega arith in (omega arith, refl, ap (λ (n : ℕ). filled c.args.file.now n 0 0 c.args.rows.now) whole)
 
 pub loop-i-preserved : goal.loop-i-preserved
 loop-i-preserved c =
