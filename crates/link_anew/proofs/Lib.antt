@@ -1,3 +1,0 @@
-pub mod InTurn
-pub mod Freed
-pub mod InPlace

@@ -1,3 +1,0 @@
-pub mod Turns
-pub mod Readings
-pub mod Packs

@@ -1,3 +1,0 @@
-pub mod Owned
-pub mod Check
-pub mod Numbers
