@@ -1,0 +1,25 @@
+-- Each arm knows its case, so what the call ensures is the link list's answer in that case, and code and out array are read off it.
+use Rattle.fields.proofs.Plain.{ap, ◌∙◌}
+use Rattle.link_list.specs.Links.{read_links}
+use Rattle.link_codes.specs.Codes.{link_code_of}
+use Rattle.link_codes.proofs.Fits.{link_fits}
+use Rattle.codes.specs.Outs.{number_out}
+use Rattle.c_links.proofs.read.Goals as goal
+
+pub code-requires : goal.code-requires
+unfolding link_code_of number_out
+code-requires c = link_fits (read_links _ _) _ (rw c.in-Refused.is at c.read.ensures.result_value)
+
+pub returns-in-Rows : goal.returns-in-Rows
+unfolding link_code_of number_out
+returns-in-Rows c =
+    let read = c in
+    let e = rw c.in-Rows.is at read.read.ensures.result_value in
+    record { value = ap link_code_of e; out_after = ap number_out e; numbers_after = read.read.ensures.numbers_after }
+
+pub returns-in-Refused : goal.returns-in-Refused
+unfolding link_code_of number_out
+returns-in-Refused c =
+    let r = c in
+    let e = rw r.in-Refused.is at r.read.ensures.result_value in
+    record { value = c.code.ensures ∙ ap link_code_of e; out_after = ap number_out e; numbers_after = r.read.ensures.numbers_after }

@@ -1,0 +1,46 @@
+-- The file's bytes are loaded, and checked.
+use lib.Seq.{length-take-le}
+use Rattle.link_files.proofs.Whole.{passes, loads_within, loads_whole, loads_not}
+use Rattle.link_looks.proofs.Calls.{loaded_check, refused_check}
+use mathlib.Core.Logic.{inr}
+use native.Mathlib.Omega.{arith}
+use mathlib.Core.Path.{sym, ◌∙◌}
+use Rattle.link_looks.proofs.check_long.Goals as goal
+
+pub slice_bounds-file-end : goal.slice_bounds-file-end
+slice_bounds-file-end c =
+    let at_load = c in
+    let start = at_load in
+    let s = loads_within start.args.directory.now start.args.image.now _ _ _ at_load.load.ensures _ c.in-Size.is in
+    omega (arith, s, at_load.load.auto.file)
+
+pub slice_bounds-check_file-end : goal.slice_bounds-check_file-end
+slice_bounds-check_file-end c =
+    let at_size = c in
+    let at_load = at_size in
+    let start = at_load in
+    let s = loads_within start.args.directory.now start.args.image.now _ _ _ at_load.load.ensures _ at_size.in-Size.is in
+    sym (length-take-le _ _ (omega (arith, s, at_load.load.auto.file)))
+
+pub check_file-requires : goal.check_file-requires
+check_file-requires c =
+    let at_size = c in
+    let at_load = at_size in
+    let start = at_load in
+    let s = loads_whole start.args.directory.now start.args.image.now _ _ _ at_load.load.ensures _ at_size.in-Size.is (inr (omega arith)) in
+    (passes start.args.directory.now start.args.image.now _ s).0
+
+pub returns-in-Size : goal.returns-in-Size
+returns-in-Size c =
+    let at_size = c in
+    let at_load = at_size in
+    let start = at_load in
+    let s = loads_whole start.args.directory.now start.args.image.now _ _ _ at_load.load.ensures _ at_size.in-Size.is (inr (omega arith)) in
+    c.check_file.ensures ∙ loaded_check start.args.directory.now start.args.image.now _ s
+
+pub returns-in-Refused : goal.returns-in-Refused
+returns-in-Refused c =
+    let at_load = c in
+    let start = at_load in
+    let s = loads_not start.args.directory.now start.args.image.now _ _ _ at_load.load.ensures _ c.in-Refused.is in
+    refused_check start.args.directory.now start.args.image.now _ s
