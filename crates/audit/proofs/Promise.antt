@@ -1,4 +1,4 @@
--- What the owners' row says, page by page: it is a list of `ownerOf`, and in a sound image a page has the one owner that `page-owned` names, or none.
+-- What the owners' row says, page by page: it is a list of `owner_of`, and in a sound image a page has the one owner that `page_owned` names, or none.
 use mathlib.Core.Path.{◌≡◌, refl, sym, ap, ◌∙◌, subst}
 use mathlib.Core.Logic.{inl, inr}
 use Prim.Native.Nat.{ℕ, zero, suc, ◌≤◌, ◌<◌}

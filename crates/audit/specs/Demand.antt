@@ -1,4 +1,4 @@
--- What is promised of the second judge (paper 02 §8), in the manner of the model's Demands.antt. `audit` answers `sound` and `ownerNumbers`.
+-- What is promised of the second judge (paper 02 §8), in the manner of the model's Demands.antt. `audit` answers `sound` and `owner_numbers`.
 use Rattle.std.specs.Prelude.{◌≡◌, ℕ, ◌≤◌, ◌<◌, Bool, true, false, not, [], ◌∷◌, length, get_or, replicate, T}
 use Rattle.volume.specs.Bytes.{Bytes}
 use Rattle.volume.specs.Lists.{member}

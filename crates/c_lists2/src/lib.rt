@@ -1,5 +1,5 @@
 // Many entries of a version 2 directory as C gets them (`zealfs2_c` names the function for C; paper 02 §12). It has no `requires`: whatever the bytes, it
-// returns the code of `entriesAnswer`, puts what that tells into the out array, zeros beside a refusal, and leaves the rows as `entriesAfter` says.
+// returns the code of `entries_answer`, puts what that tells into the out array, zeros beside a refusal, and leaves the rows as `entries_after` says.
 #![tactic(auto)]
 
 ghost use Rattle.std.specs.Prelude.{◌≡◌, length};

@@ -1,5 +1,5 @@
 // The four looks of `zealfs` as C gets them (`zealfs_c` names them for C). None has a `requires`: whatever the bytes, a function returns the code of the model's
-// `answer`, puts what the answer tells into the out arrays, zeros beside a refusal, and leaves the reader's buffer as `bufferAfter` says.
+// `answer`, puts what the answer tells into the out arrays, zeros beside a refusal, and leaves the reader's buffer as `buffer_after` says.
 #![tactic(auto)]
 
 ghost use Rattle.std.specs.Prelude.{◌≡◌};

@@ -1,5 +1,5 @@
 // The four looks of version 2 as C gets them (`zealfs2_c` names them for C; paper 02 §12). None has a `requires`: whatever the bytes, a function returns the code
-// of the model's `answer`, puts what the answer tells into the out arrays, zeros beside a refusal, and leaves the reader's buffer as `bufferAfter` says.
+// of the model's `answer`, puts what the answer tells into the out arrays, zeros beside a refusal, and leaves the reader's buffer as `buffer_after` says.
 #![tactic(auto)]
 
 ghost use Rattle.std.specs.Prelude.{◌≡◌};

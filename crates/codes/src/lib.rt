@@ -1,5 +1,5 @@
 // A refusal as one number, for callers that are not Rattle: the paper's number in the low byte, and its place above it. The code says the case, and
-// `refusalCode` in specs/ what it stands for; that every refusal that a call can give has this room is law `place-fits`.
+// `refusal_code` in specs/ what it stands for; that every refusal that a call can give has this room is law `place_fits`.
 #![tactic(auto)]
 
 ghost use Rattle.std.specs.Prelude.{◌≡◌};

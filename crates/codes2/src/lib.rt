@@ -1,5 +1,5 @@
 // A refusal of version 2 as one number, for callers that are not Rattle: the paper's number in the low byte, and its place above it, as in version 1. The
-// code says the case, and `refusalCode` of `codes` what it stands for; that every refusal that a call can give has this room is law `roomy2`.
+// code says the case, and `refusal_code` of `codes` what it stands for; that every refusal that a call can give has this room is law `roomy2`.
 #![tactic(auto)]
 
 ghost use Rattle.std.specs.Prelude.{◌≡◌};

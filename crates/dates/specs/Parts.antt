@@ -1,4 +1,4 @@
--- The conditions of the model's `goodDate` that are not about digits, in two parts. That the day is one of the calendar is asked in `goodDay`.
+-- The conditions of the model's `good_date` that are not about digits, in two parts. That the day is one of the calendar is asked in `good_day`.
 use Rattle.std.specs.Prelude.{Bool, ◌&&◌}
 use Rattle.volume.specs.Bytes.{Bytes, byte_at}
 use Rattle.model.specs.Date.{bcd, between, days_in, year_of, month_of}

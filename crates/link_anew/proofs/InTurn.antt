@@ -1,5 +1,5 @@
 -- The base's calls in turn, of which the first refusal ends it: what a call's answer says of the calls from it on. A make tried first says by 8 that there is
--- an old file. Done on a copy of the image that is copied back once all are granted, they leave what `runWhole` says.
+-- an old file. Done on a copy of the image that is copied back once all are granted, they leave what `run_whole` says.
 use mathlib.Core.Path.{◌≡◌, sym, ap, ◌∙◌, subst}
 use Prim.Native.Nat.{ℕ, ◌≤◌, ◌+◌}
 use native.Mathlib.Omega.{arith}

@@ -90,7 +90,7 @@ unfoldable pub steps_replayed : (ss : List Step) → Tree → StepResults ss
 steps_replayed [] t = tt
 steps_replayed (s ∷ ss) t = (step_replayed s t, steps_replayed ss (replay (turns_in s t) t))
 
--- what the replay decides of the results: of a link call all of it, of a base's call what `shownResults` keeps (paper 02 §11)
+-- what the replay decides of the results: of a link call all of it, of a base's call what `shown_results` keeps (paper 02 §11)
 abbrev pub step_shown : (s : Step) → StepResult s → StepResult s
 step_shown (base c) r = record { answered = shown c r.answered; lent = lent_shown c r.lent }
 step_shown (link c) r = r

@@ -29,7 +29,7 @@ read_row i at before next (some t) =
     if follows before t.0 then row t.0 rest else bad (refusal_at 22 i)
 
 -- the rest of a file from row i on: `size` is the file's. `most` counts rows down from the file's size; a row has a byte at least, so no row is
--- left when it is 0 (law `file-of-list`: what is read is the whole file).
+-- left when it is 0 (law `file_of_list`: what is read is the whole file).
 unfoldable pub read_from : (most size i : ℕ) → Option Row → Bytes → Reading
 read_from zero size i before v = rows []
 read_from (suc most) size i before v =

@@ -1,6 +1,6 @@
 // The link list over lent slices of rows (01, "Which places take which form"): LINKS of a directory (02 §4) is read into a list of `Row`, and written
-// from one. No public call has a `requires`: whatever it is handed, it answers what `linkAnswer` says, leaves the list as `linkList` says and the image
-// as `linkAfter` says. The functions over a slice of rows are thin, since their proofs are walks of their code by hand; what they call is not.
+// from one. No public call has a `requires`: whatever it is handed, it answers what `link_answer` says, leaves the list as `link_list` says and the image
+// as `link_after` says. The functions over a slice of rows are thin: each turns over the rows, and what it calls works on one.
 #![tactic(auto)]
 
 ghost use Rattle.std.specs.Prelude.{◌≡◌, ◌≤◌, length};

@@ -11,7 +11,7 @@ use Rattle.link_list.specs.Links.{write_links, link_answer, link_after}
 use Rattle.link_judge.specs.declared.ListJudged.{ListJudged}
 use Rattle.link_judge.specs.Judged.{list_told}
 
--- the deepest directory of an image has a path of 4,335 bytes (law `path-short`)
+-- the deepest directory of an image has a path of 4,335 bytes (law `path_short`)
 abbrev pub MayBe : Bytes → Bool → Type 0
 MayBe d r = (r ≡ true → T (not (is_no_path (path_of d))) × (length d ≤ 4335)) × (r ≡ false → T (not (is_no_path (path_of d))) → 4335 < length d)
 

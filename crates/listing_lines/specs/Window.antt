@@ -16,7 +16,7 @@ window sink buffer = record { skip = sink.skip; done = sink.done; buffer = buffe
 unfoldable pub shown : Bytes → Window → Bytes
 shown v w = take (length w.buffer - w.done) (drop w.skip v)
 
--- The window after a piece. Law `poured-append`: piece after piece is the text whole.
+-- The window after a piece. Law `poured_append`: piece after piece is the text whole.
 unfoldable pub poured : Bytes → Window → Window
 poured v w = record {
   skip = w.skip - length v;

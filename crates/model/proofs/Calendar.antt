@@ -1,4 +1,4 @@
--- The calendar of paper 02 §3, computed at its corners: dates that are good and dates that are not stand on both sides of each bound, and `goodDate`
+-- The calendar of paper 02 §3, computed at its corners: dates that are good and dates that are not stand on both sides of each bound, and `good_date`
 -- tells them apart, by `refl`.
 use mathlib.Core.Path.{◌≡◌, refl}
 use Prim.Native.Nat.{ℕ}

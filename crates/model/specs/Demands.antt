@@ -1,4 +1,4 @@
--- The three demands of document 00, as statements about version 1's `answer`, `after` and `bufferAfter`, and those of paper 02 §9 and §10. What is said of any
+-- The three demands of document 00, as statements about version 1's `answer`, `after` and `buffer_after`, and those of paper 02 §9 and §10. What is said of any
 -- version stands in `DemandsOf`, and has its names for version 1 here. The crate `laws` proves them.
 use Rattle.std.specs.Prelude.{◌≡◌, ◌↔◌, ◌≢◌, ◌⊎◌, ℕ, ◌+◌, ◌/◌, ◌≤◌, ◌<◌, Bool, false, not, List, [], ◌∷◌, length, T, eqb, if◌then◌else◌}
 use Rattle.std.proofs.Math.Option.{some}
@@ -42,7 +42,7 @@ pub data Unsound (c : Call) (b : Bytes) : Type 0 where
   by_fault : T (valid_length (length b)) → T (valid_header b)
       → (f : Fault) → judge b ≡ fault f → answer c b ≡ refused (fault_told f) → Unsound c b
 
--- A store's page and the bytes of it are not in the tree (paper 02 §11): `answer` and `bufferAfter` give them, and the tree says the rest.
+-- A store's page and the bytes of it are not in the tree (paper 02 §11): `answer` and `buffer_after` give them, and the tree says the rest.
 abbrev pub AsTree : Call → Bytes → Type 0
 AsTree c b = Of.AsTree v1 c b
 

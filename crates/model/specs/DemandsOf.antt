@@ -1,4 +1,4 @@
--- The demands of document 00, of a version w (paper 02 §12), as statements about `answer`, `after` and `bufferAfter`. `Demands` has version 1's, with what is
+-- The demands of document 00, of a version w (paper 02 §12), as statements about `answer`, `after` and `buffer_after`. `Demands` has version 1's, with what is
 -- said of version 1 alone.
 use Rattle.std.specs.Prelude.{◌≡◌, ◌↔◌, ℕ, ◌+◌, ◌≤◌, ◌<◌, not, List, [], ◌∷◌, length, T}
 use Rattle.std.proofs.Math.Option.{some, none}
@@ -34,7 +34,7 @@ module _ (w : Version) where
     by_header : (f : Refusal) → settle (length_line w b ∷ header_lines w b) some none ≡ some f → answer w c b ≡ refused f → Refuses c b
     by_fault : Passes (length_line w b ∷ header_lines w b) → (f : Fault) → judge_view (w.see b) ≡ fault f → answer w c b ≡ refused (fault_told f) → Refuses c b
 
-  -- A store's page and the bytes of it are not in the tree (paper 02 §11): `answer` and `bufferAfter` give them, and the tree says the rest.
+  -- A store's page and the bytes of it are not in the tree (paper 02 §11): `answer` and `buffer_after` give them, and the tree says the rest.
   pub record AsTree (c : Calls w) (b : Bytes) : Type 0 where
     pub answered : shown c (answer w c b) ≡ tree_answer w c (tree_of w b)
     pub lent : lent_shown c (buffer_after w c b) ≡ tree_buffer w c (tree_of w b)

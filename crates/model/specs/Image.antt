@@ -33,7 +33,7 @@ unfoldable pub row_at : (depth : ℕ) → View → (directory : ℕ) → Row
 row_at zero v p = end
 row_at (suc depth) v p = row_of v (row_at depth v) (v.entries p)
 
--- the tree of an image, whose page code is told; N is deep enough for a sound one (law `depth-enough`)
+-- the tree of an image, whose page code is told; N is deep enough for a sound one (law `depth_enough`)
 unfoldable pub tree_in : (code : ℕ) → View → Tree
 tree_in code v = record { pages = v.pages; code = code; root = row_at v.pages v 0 }
 

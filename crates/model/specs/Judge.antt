@@ -1,7 +1,7 @@
 -- Paper 02 §2, and §12 where a directory has several pages: what is unsound, and where, by a view v of the image; in version 1 v is `view b`, and
 -- `judge b` judges an image. The walk is depth first, entries in order, with an owner mark for each page (not the bitmap's), 1 once an earlier step
 -- owned it, and it stops at the first fault; then come the lost pages, and last the bits of the pages set aside and the count. `Meaning` gives each
--- fault its number. Law `judge-sound`: an image of right length and header is judged clean exactly if it is sound.
+-- fault its number. Law `judge_sound`: an image of right length and header is judged clean exactly if it is sound.
 use Rattle.std.specs.Prelude.{ℕ, zero, suc, ◌-◌, Bool, true, false, not, ◌&&◌, get_or, set, replicate, eqb, if◌then◌else◌}
 use Rattle.std.proofs.Math.Option.{Option, none, some}
 use mathlib.Core.List.{List, [], ◌∷◌, tail}
@@ -81,7 +81,7 @@ judge_entries below v d i earlier [] marks = clean marks
 judge_entries below v d i earlier (at ∷ ats) marks =
     then_judge (judge_entry below v d i earlier (v.entry_at at) marks) (judge_entries below v d (suc i) (at ∷ earlier) ats)
 
--- Every directory has a page of its own, so depth N is enough: any greater depth tells the same (law `judge-depth`), and the first line
+-- Every directory has a page of its own, so depth N is enough: any greater depth tells the same (law `judge_depth`), and the first line
 -- decides nothing; the fault there is one that the walk tells, so that at every depth it tells no lost page and no bad count.
 unfoldable pub judge_directory : (depth : ℕ) → View → (directory : ℕ) → List ℕ → Judged
 judge_directory zero v p marks = fault (bad_entry p 0)

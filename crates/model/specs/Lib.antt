@@ -13,8 +13,8 @@
 --   chain             the pages of a file, from the start page on by their links
 --   mark              a page's bit in the bitmap, 1 if it is allocated
 --   owner mark        the judge's, one a page: 1 once an earlier step owned it
---   N                 pageCount: the number of pages of an image
---   k                 pagesFor: the number of pages of a file of some size
+--   N                 page_count: the number of pages of an image
+--   k                 pages_for: the number of pages of a file of some size
 --   plain tree        Tree: N and the root's row
 --   reader's buffer   what a read is handed to copy into; a store is lent one for the page (paper 02 §11)
 -- Units. A page is named by its number, counted from 0. A position is a byte of the image, counted from 0: page p begins at position

@@ -1,5 +1,5 @@
 -- Document 01, "The plain tree" and "The numbers that say no", and paper 02 §2: what each call of version 1 answers and does, on the plain tree and on the
--- bytes of any image. `MeaningOf` says it of any version. A public call's contract cites `answer`, `after` and `bufferAfter`.
+-- bytes of any image. `MeaningOf` says it of any version. A public call's contract cites `answer`, `after` and `buffer_after`.
 use Rattle.std.specs.Prelude.{ℕ, List}
 use Rattle.volume.specs.Bytes.{Bytes}
 use Rattle.model.specs.Layout.{page_size}

@@ -74,7 +74,7 @@ fault_told (marked_free p) = refusal_at 20 p
 fault_told (lost_page p) = refusal_at 19 p
 fault_told bad_count = refusal 3
 
--- the first fault; where there is none the image is sound (law `judge-sound`), and this is never asked
+-- the first fault; where there is none the image is sound (law `judge_sound`), and this is never asked
 abbrev pub first_fault : Judged → Refusal
 first_fault (fault f) = fault_told f
 first_fault (clean marks) = refusal 3

@@ -224,7 +224,7 @@ module _ (w : Version) where
       29 ∷ 1 ∷ header_numbers ++ (16 ∷ 17 ∷ 18 ∷ 20 ∷ 19 ∷ 3 ∷ 4 ∷ 11 ∷ 5 ∷ 6 ∷ 8 ∷ w.full_numbers ++ (10 ∷ 12 ∷ [])))
 
   -- The numbers that a call can give on a sound image, in the order of its lines but for 29. Number 10 is one of them where the call may need pages. (Law
-  -- `own-numbers`: the lines have these numbers in this order, and the numbers rise in the call's table.)
+  -- `own_numbers_lem`: the lines have these numbers in this order, and the numbers rise in the call's table.)
   unfoldable pub own_numbers : Calls w → List ℕ
   own_numbers (format_as new) = handed_numbers
   own_numbers verdict = []

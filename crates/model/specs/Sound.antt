@@ -129,7 +129,7 @@ owners_in v p = root_owns p (tail (v.directory_pages 0)) ++ keep (λ at. member 
 abbrev pub sound_to : (depth : ℕ) → Bytes → Bool
 sound_to depth b = sound_by (view b) depth (valid_length (length b) ∷ valid_header b ∷ [])
 
--- Directories that own a page each are nested less deep than there are pages, so N is deep enough: law `depth-enough`.
+-- Directories that own a page each are nested less deep than there are pages, so N is deep enough: law `depth_enough`.
 abbrev pub sound : Bytes → Bool
 sound b = sound_to (page_count b) b
 

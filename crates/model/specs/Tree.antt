@@ -57,7 +57,7 @@ needs_of n (dir m d s r) = directory_needs n (width s) + needs_of n s + needs_of
 abbrev pub tree_needs : Numbers → Row → ℕ
 tree_needs n r = if n.grows then needs_of n r + (width r - n.root_entries) / n.page_entries else needs_of n r
 
--- In a sound image nothing is cut off here: law `free-sum`.
+-- In a sound image nothing is cut off here: law `free_sum`.
 unfoldable pub free_number_of : Numbers → Tree → ℕ
 free_number_of n t = t.pages - n.aside - tree_needs n t.root
 

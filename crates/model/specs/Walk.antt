@@ -1,5 +1,5 @@
 -- Document 01, "The plain tree": the path is walked with a state that takes one name and yields the next place. The walk on the tree, and
--- the walk on the bytes, by a view v (in version 1 `view b`), which says where make, write and remove work. Law `walk-bytes`: they lead to the same
+-- the walk on the bytes, by a view v (in version 1 `view b`), which says where make, write and remove work. Law `walk_bytes`: they lead to the same
 -- place or stop at the same name.
 use Rattle.std.specs.Prelude.{ℕ, List, [], ◌∷◌, replicate}
 use Rattle.std.proofs.Math.Option.{Option, none, some, get_or, map}

@@ -35,7 +35,7 @@ file_from b p = starts_on b p (owner_entry b p)
 unfoldable pub is_other : Bytes → (page : ℕ) → Bool
 is_other b p = not (is_file_entry (owner_entry b p))
 
--- The header, each file's pages by its start page, then all other pages. (Law `order-once`: in a sound image each page stands in it once.)
+-- The header, each file's pages by its start page, then all other pages. (Law `order_once`: in a sound image each page stands in it once.)
 unfoldable pub order : Bytes → List ℕ
 order b =
     let pages = count_from 1 (page_count b - 1) in

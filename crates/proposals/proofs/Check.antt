@@ -1,4 +1,4 @@
--- The check's way to `accepted`: N numbers below N, none of them met before, are each of 0 to N − 1 once; and by `links-near` the links of files'
+-- The check's way to `accepted`: N numbers below N, none of them met before, are each of 0 to N − 1 once; and by `links_near` the links of files'
 -- pages say whether each file's pages are neighbours.
 use mathlib.Core.Path.{◌≡◌, refl, sym, ap, ◌∙◌, subst}
 use mathlib.Core.Logic.{◌≢◌, inl, inr}

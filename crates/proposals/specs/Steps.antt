@@ -22,7 +22,7 @@ takes (q ∷ qs) seen = let rest = takes qs (set seen q 1) in if ltb q (length s
 unfoldable pub link_leads : Bytes → List ℕ → (page : ℕ) → Bool
 link_leads b places p = eqb (link b p) 0 || eqb (place_of places (link b p)) (suc (place_of places p))
 
--- the same of a file's page alone (law `near-all`: so the pages of each file get rising neighbouring numbers)
+-- the same of a file's page alone (law `near_all`: so the pages of each file get rising neighbouring numbers)
 unfoldable pub leads_on : Bytes → List ℕ → (page : ℕ) → Bool
 leads_on b places p = if is_file_entry (owner_entry b p) then link_leads b places p else true
 

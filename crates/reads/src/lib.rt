@@ -1,4 +1,4 @@
-// Read. It has no `requires`: whatever the bytes, it answers what the model's `answer` says, and leaves its buffer as `bufferAfter` says. The image is
+// Read. It has no `requires`: whatever the bytes, it answers what the model's `answer` says, and leaves its buffer as `buffer_after` says. The image is
 // lent for reading.
 #![tactic(auto)]
 

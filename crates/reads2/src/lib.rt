@@ -1,5 +1,5 @@
 // Read of version 2 (paper 02 §12). It has no `requires`: whatever the bytes, it answers what the model's `answer` says of version 2, and leaves its buffer as
-// `bufferAfter` says. The image is lent for reading.
+// `buffer_after` says. The image is lent for reading.
 #![tactic(auto)]
 
 ghost use Rattle.std.specs.Prelude.{◌≡◌};

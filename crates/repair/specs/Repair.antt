@@ -18,7 +18,7 @@ is_in_use b p = member p (0 ∷ owned_pages b)
 unfoldable pub repaired : Bytes → Bytes
 repaired b = recounted version1 (page_count b) (remarked version1 (is_in_use b) (page_count b) b)
 
--- 1, 2, and the walk's fault: 16, 17, 18 or 20 (law `walk-kind`). 19 and 3 are no lines: they are what is mended.
+-- 1, 2, and the walk's fault: 16, 17, 18 or 20 (law `walk_kind`). 19 and 3 are no lines: they are what is mended.
 unfoldable pub repair_lines : Bytes → List Line
 repair_lines b =
     (not (valid_length (length b)), refusal 1)

@@ -1,5 +1,5 @@
 // Lost pages won back (02 §7): the judge's walk, and the bits and the count set anew by its owner marks. The one public call has no `requires`:
-// whatever the bytes, it answers what `repairAnswer` says and leaves the image as `repairAfter` says.
+// whatever the bytes, it answers what `repair_answer` says and leaves the image as `repair_after` says.
 #![tactic(auto)]
 
 ghost use Rattle.std.specs.Prelude.{◌≡◌, ◌<◌, ◌≤◌, true, length, replicate};

@@ -23,6 +23,7 @@ pub fn page_size(code: usize) -> usize
 }
 
 // To 65,536 bytes one page of one-byte links, above that two of two-byte links, whatever the page code.
+#[tactic(auto, using(crate::proofs::Widths::narrow_is, crate::proofs::Widths::wide_is))]
 pub fn shape_of(length: usize, code: usize) -> Cartridge
     requires { code ≤ 2 }
     ensures { (geometry_of result.shape ≡ Layout.geometry2 code length) × (result.pages ≡ Layout.page_count code length) }

@@ -9,6 +9,7 @@ use lib.Count.{ones, ones_in, ones_cat}
 use Rattle.volume.specs.Bytes.{Bytes, bit, byte_at}
 use Rattle.volume.specs.Geometry.{Geometry, page_bit, zero_bits}
 use Rattle.words.specs.Words.{Holds}
+use Rattle.words.proofs.Words.{holds_byte}
 use Rattle.shape_bitmap.specs.Words.{Clear}
 
 -- ---- the bits of pages in a word
@@ -29,6 +30,16 @@ holds_none g {b} {at} {from} k place held z = record {
       ap (page_bit g b) (sym e) ∙ sym (holds_pages g from place held (p - 8 * from) (omega arith)) ∙ ap (bit (p - 8 * from)) z
       ∙ ap (λ (x : ℕ). x % 2) (zero-div (2 ^ (p - 8 * from)));
 }
+
+-- what each return of `clear_bytes` has seen: nothing, a byte that is 0, a word that is 0
+pub none_clear : (g : Geometry) {b : Bytes} (from : ℕ) → Clear g b from 0
+none_clear g from = record { each = λ p l h. absurd (omega arith) }
+
+pub byte_clear : (g : Geometry) {b : Bytes} (from : ℕ) → byte_at b (g.map + from) ≡ 0 → Clear g b from 1
+byte_clear g from = holds_none g 1 refl (holds_byte refl)
+
+pub word_clear : (g : Geometry) {b : Bytes} (from : ℕ) {w : ℕ} → Holds b (g.map + from) 64 w → w ≡ 0 → Clear g b from 8
+word_clear g from = holds_none g 8 refl
 
 -- ---- the count
 

@@ -38,6 +38,7 @@ pub fn zero_bits(image: &[u8], shape: Shape, n: usize) -> usize
 
 // How many bytes from `byte` on are seen to mark no page: none, 1, or 8 where a whole word is 0. A word may reach past the bitmap: what
 // stands there can only make the answer less.
+#[tactic(auto, using(crate::proofs::Words::none_clear, crate::proofs::Words::byte_clear, crate::proofs::Words::word_clear))]
 pub fn clear_bytes(image: &[u8], shape: Shape, byte: usize) -> usize
     requires { shape.map + byte + 8 ≤ length image.now }
     ensures { Clear (geometry_of shape) image.now byte result × (result ≤ 8) }

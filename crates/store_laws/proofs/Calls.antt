@@ -1,5 +1,5 @@
 -- The call `store`: its lines are make's with the pages of the whole file, so where it is granted make is, and then write; its stores are as many as
--- `storeCount` says; and a cartridge pulled amid them keeps its tree.
+-- `store_count` says; and a cartridge pulled amid them keeps its tree.
 use mathlib.Core.Path.{◌≡◌, refl, sym, ap, ap₂, ◌∙◌, subst}
 use mathlib.Core.Logic.{◌≢◌}
 use Prim.Native.Nat.{ℕ, zero, suc, ◌+◌, ◌≤◌, ◌<◌}

@@ -1,5 +1,5 @@
 -- A directory that is a chain grows by the lowest free page, as version 2's do when they are full: the image stays sound, and the directory's row
--- gains the page's entries. By `grown-is` and `chain-longer` of volume, over any lawful geometry.
+-- gains the page's entries. By `grown_is` and `chain_longer` of volume, over any lawful geometry.
 use mathlib.Core.Path.{◌≡◌, refl, sym, ap, ◌∙◌, subst}
 use mathlib.Core.Logic.{◌≢◌, inl, inr}
 use Prim.Native.Nat.{ℕ, suc, ◌+◌, ◌≤◌, ◌<◌}

@@ -1,5 +1,5 @@
 // ZealFS version 1 over a lent image: the public calls and what they answer, under one name. None has a `requires`: whatever the bytes, a call answers what
-// the model's `answer` says, and leaves the image and the reader's buffer as `after` and `bufferAfter` say. A refused call changes no byte.
+// the model's `answer` says, and leaves the image and the reader's buffer as `after` and `buffer_after` say. A refused call changes no byte.
 #![tactic(auto)]
 
 pub use answers::{ChangeAnswer, FindAnswer, Found, ListAnswer, Listed, ReadAnswer, VerdictAnswer};

@@ -1,6 +1,6 @@
 // The calls of `zealfs` for C, one function for each; include/zealfs.h declares them. None has a `requires`: whatever the bytes, a function
 // returns the code of the model's `answer`, puts what the answer tells into the out arrays, zeros beside a refusal, and leaves the image and
-// the reader's buffer as `after` and `bufferAfter` say. To C a slice is a pointer and then a length, and a reference to an array a pointer.
+// the reader's buffer as `after` and `buffer_after` say. To C a slice is a pointer and then a length, and a reference to an array a pointer.
 #![tactic(auto)]
 
 ghost use Rattle.std.specs.Prelude.{◌≡◌, true, false, length};

@@ -1,4 +1,4 @@
--- The judging of a list tells its first bad row (`judged-bad`).
+-- The judging of a list tells its first bad row (`judged_bad`).
 use Rattle.link_judge.specs.Judged.{judged_told}
 use Rattle.link_judge.proofs.Lists.{judged_bad}
 use mathlib.Core.Path.{ap, ◌∙◌}

@@ -1,4 +1,4 @@
--- A number is its first seven bits, and if more follow 128 times the number behind them, which must not be 0: `number_from` turns as `takeNumber` does.
+-- A number is its first seven bits, and if more follow 128 times the number behind them, which must not be 0: `number_from` turns as `take_number` does.
 use Rattle.link_numbers.proofs.Turns.{number_none, number_end, number_last, More, rest_short, number_joined}
 use native.Mathlib.Omega.{arith}
 use Rattle.link_numbers.proofs.+number_from.Goals as goal

@@ -1,4 +1,4 @@
--- The rows counted so far with those that are left are those of the file (`countedAt`), and each row makes what is left shorter.
+-- The rows counted so far with those that are left are those of the file (`counted_at`), and each row makes what is left shorter.
 use Rattle.link_rows.specs.Told.{counted}
 use Rattle.link_rows.proofs.Readings.{Reads, counted_first, counted_end, counted_broken, further, counted_low, counted_next}
 use Rattle.link_list.specs.Judging.{read_list}

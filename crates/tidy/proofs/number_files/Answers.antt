@@ -1,4 +1,4 @@
--- Each turn numbers what `fileFrom` gives for one page.
+-- Each turn numbers what `file_from` gives for one page.
 use Rattle.model.specs.Layout.{page_count}
 use Rattle.proposals.proofs.Numbers.{left_first, left_turn, left_last, files_next, files_none, files_bound}
 use mathlib.Core.Path.{◌∙◌}

@@ -1,4 +1,4 @@
--- Each turn numbers what `otherAt` gives for one page.
+-- Each turn numbers what `other_at` gives for one page.
 use Rattle.model.specs.Layout.{page_count}
 use Rattle.proposals.proofs.Numbers.{left_first, left_turn, left_last, others_next, others_none, others_bound}
 use mathlib.Core.Path.{◌∙◌}

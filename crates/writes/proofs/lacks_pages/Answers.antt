@@ -1,4 +1,4 @@
--- More than an image holds is too long; what does not grow rules nothing; else the pages are counted.
+-- More than an image holds is too long; what does not grow needs nothing; else the pages are counted.
 use Rattle.writes.proofs.Writings.{too_long, no_longer, longer, pages_rise}
 use Rattle.fields.proofs.Plain.{arith}
 use Rattle.writes.proofs.lacks_pages.Goals as goal
