@@ -1,6 +1,6 @@
 # make            the library and the tool, in target/
 # make test       tests of the tool and of what is built around the library (tests/desk); tests/run has all tests of what is built
-# make check      the gate: every proof from nothing, then all tests
+# make check      the gate: every proof that this machine has not passed yet, then all tests
 # make install    to PREFIX, below DESTDIR if that is given
 # make release    one tar with the static tool, library, header, man page and page, and its checksum, in target/release
 # make deb        the same as a Debian package, in target/deb

@@ -1,5 +1,5 @@
 // ZealFS version 2 over a lent image (paper 02 §12): the public calls and what they answer, under one name. None has a `requires`: whatever the bytes, a call
-// answers what the model's `answer v2` says, and leaves the image and the reader's buffer as `after v2` and `bufferAfter v2` say. A refused call changes no byte.
+// answers what the model's `answer v2` says, and leaves the image and the reader's buffer as `after v2` and `buffer_after v2` say. A refused call changes no byte.
 #![tactic(auto)]
 
 pub use answers2::{
