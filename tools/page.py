@@ -35,6 +35,14 @@ def calls():
     return re.findall(r"^uint64_t (zealfs2?_\w+)\(", (ROOT / "include/zealfs.h").read_text(), re.M)
 
 
+def widened(tools, module):
+    """A module's text with each address widened to 64 bits: `ptrtoaddr` gives as many bits as an address has, which are 32 here, and the module takes
+    64 from it. `ptrtoint` puts zeros above them."""
+    read = [tools / "clang", "--no-default-config", "-Wno-override-module", "-Xclang", "-disable-llvm-passes", "-S", "-emit-llvm", "-x", "ir", module, "-o", "-"]
+    text = subprocess.run(read, check=True, stdout=subprocess.PIPE).stdout
+    return re.sub(rb"\bptrtoaddr (ptr [^ ]+ to i64)\b", rb"ptrtoint \1", text)
+
+
 def compiled():
     guide = subprocess.run(["rt", "doc"], check=True, stdout=subprocess.PIPE, text=True).stdout.strip()
     tools = pathlib.Path(guide).parent / "toolchain" / "bin"
@@ -46,7 +54,7 @@ def compiled():
             objects.append(f"{folder}/{module}.o")
             subprocess.run(
                 [tools / "clang", "--target=wasm32-unknown-unknown", "-mbulk-memory", "--no-default-config", "-Wno-override-module",
-                 "-O3", "-c", "-x", "ir", OUT / f"{module}.bc", "-o", objects[-1]], check=True, stderr=subprocess.DEVNULL)
+                 "-O3", "-c", "-x", "ir", "-", "-o", objects[-1]], check=True, input=widened(tools, OUT / f"{module}.bc"), stderr=subprocess.DEVNULL)
         subprocess.run(
             [linker, "--no-entry", "--strip-all", "-z", f"stack-size={STACK}", "--export=__heap_base",
              *("--export=" + call for call in calls()), *objects, "-o", OUT / "zealfs.wasm"], check=True)
