@@ -1,5 +1,5 @@
 -- Images of version 2 with one length and one page code are a shelf, whatever both are, if only they are allowed. So the laws of make, write, remove and lock
--- over a view are version 2's, and so is the growth of a directory. The view of an image is one of its own shelf: `view2 b` is `viewBy (code_in b) (length b) b`.
+-- over a view are version 2's, and so is the growth of a directory. The view of an image is one of its own shelf: `view2 b` is `view_by (code_in b) (length b) b`.
 use mathlib.Core.Path.{◌≡◌, refl, ap, ap₂, ◌∙◌}
 use Prim.Native.Nat.{ℕ, zero, suc, ◌+◌, ◌-◌, ◌*◌, ◌/◌, ◌≤◌, ◌<◌}
 use native.Mathlib.Omega.{arith}
