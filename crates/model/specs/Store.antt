@@ -43,6 +43,6 @@ is_none [] = true
 is_none (n ∷ ns) = false
 
 -- How many stores there are, as the tree knows it: the pages of the whole file, the header's, and the parent's if the path has parents. (Law
--- `Store-many`: as many as `stores` has.)
+-- `store_many`: as many as `stores` has.)
 unfoldable pub store_count : Path → (content : Bytes) → ℕ
 store_count path v = pages_for (length v) + (if is_none (parents path) then 1 else 2)
