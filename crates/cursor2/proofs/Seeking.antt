@@ -5,7 +5,7 @@ use Prim.Native.Nat.{ℕ, ◌+◌, ◌≤◌, ◌<◌}
 use native.Mathlib.Omega.{arith}
 use mathlib.Core.Bool.{Bool, true, false, not}
 use mathlib.Core.Option.{none, some}
-use mathlib.Core.List.{List, ◌∷◌}
+use mathlib.Core.List.{List, [], ◌∷◌}
 use lib.ListN.{length}
 use lib.Dec.{eqb}
 use Rattle.volume.specs.Bytes.{Bytes, byte_at, bit}
@@ -18,6 +18,7 @@ use Rattle.model.specs.Entry.{vacant, a_file, a_directory}
 use Rattle.model.specs.Entry as One
 use Rattle.model.specs.Sound.{is_named}
 use Rattle.model.specs.Effect.{is_vacant}
+use Rattle.model2.specs.Version2.{entry_count}
 use Rattle.model2.specs.Entry.{occupied, is_directory, is_locked, name_at, date_at, start_at, size_at, entry_at}
 use Rattle.shape.specs.declared.Shape.{Shape}
 use Rattle.shape.specs.Geometry.{geometry_of}
@@ -27,7 +28,7 @@ use Rattle.cursor2.specs.declared.Cursor.{Cursor}
 use Rattle.cursor2.specs.declared.Step.{Step}
 use Rattle.cursor2.specs.declared.Step.TheVariants.{At, End}
 use Rattle.cursor2.specs.Row.{behind, entries_from, position_at, row_from, row_after, Stands, StandsAfter}
-use Rattle.cursor2.proofs.Turns.{turn_same}
+use Rattle.cursor2.proofs.Turns.{behind_end, turn_same, turn_end}
 
 -- ---- an entry is vacant by bit 7 of its flags alone
 
@@ -69,6 +70,12 @@ module _ {s : Shape} {n : ℕ} {b : Bytes} {c : Cursor} (t : Stands s n b c) whe
 
   pub entry_in : Roomy s.size n → position_at s n c + 32 ≤ length b
   entry_in r = omega (arith, entry_lies r c.page.0 c.number t.within, page_lies)
+
+-- nothing is left behind the entry at hand where it is the last of its page, which has so many entries, and page q, the one that follows, is none
+pub ends_here : (s : Shape) (n : ℕ) (b : Bytes) (c : Cursor) → Stands s n b c → (count : ℕ) → count ≡ entry_count s.size n c.page.0 → count ≤ c.number + 1
+    → (q : ℕ) → q ≡ On.next (geometry_of s) b c.page.0 → q ≡ 0 → row_from s n b c ≡ position_at s n c ∷ []
+ends_here s n b c t count e last q f z =
+    turn_end s.size n (On.next (geometry_of s) b) c.page.0 c.number t.within (omega arith) c.left (behind_end (On.next (geometry_of s) b) c.left c.page.0 (sym f ∙ z))
 
 -- what is left grows shorter by the entry at hand
 pub row_shorter : (b : Bytes) (s : Shape) (n : ℕ) (c : Cursor) (r : Step) → row_from s n b c ≡ position_at s n c ∷ row_after s n b r

@@ -57,6 +57,7 @@ pub fn position_of(image: &[u8], shape: Shape, pages: usize, cursor: Cursor) -> 
 }
 
 // The entry behind it: on the same page, or the first of the page that follows.
+#[tactic(auto, using(crate::proofs::Seeking::ends_here))]
 pub fn next_entry(image: &[u8], shape: Shape, pages: usize, cursor: Cursor) -> Step
     requires { Roomy shape.size pages × Stands shape pages image.now cursor }
     ensures { (row_from shape pages image.now cursor ≡ position_at shape pages cursor ∷ row_after shape pages image.now result) × StandsAfter shape pages image.now result }

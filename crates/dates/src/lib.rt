@@ -8,6 +8,7 @@ ghost use Rattle.model.specs.Date.{is_bcd, bcd, between, is_leap, days_in, year_
 ghost use Rattle.dates.specs.Parts.{good_day, good_time};
 
 // Both half bytes are decimal digits.
+#[tactic(auto, using(crate::proofs::Digits::high_wrong, crate::proofs::Digits::high_right))]
 fn is_bcd(x: u8) -> bool
     ensures { result ≡ is_bcd x }
 {

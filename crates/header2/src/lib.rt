@@ -53,6 +53,7 @@ fn is_large_enough(code: usize, bytes: usize, most: usize, least: usize) -> bool
     least <= code
 }
 
+#[tactic(auto, using(crate::proofs::Sizes::high_code))]
 pub fn code_fits(code: usize, bytes: usize) -> bool
     ensures { result ≡ fit_code code bytes }
 {

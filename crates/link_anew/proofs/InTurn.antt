@@ -1,6 +1,6 @@
 -- The base's calls in turn, of which the first refusal ends it: what a call's answer says of the calls from it on. A make tried first says by 8 that there is
 -- an old file. Done on a copy of the image that is copied back once all are granted, they leave what `run_whole` says.
-use mathlib.Core.Path.{◌≡◌, sym, ap, ◌∙◌, subst}
+use mathlib.Core.Path.{◌≡◌, refl, sym, ap, ◌∙◌, subst}
 use Prim.Native.Nat.{ℕ, ◌≤◌, ◌+◌}
 use native.Mathlib.Omega.{arith}
 use mathlib.Core.Bool.{Bool, true, false}
@@ -112,6 +112,46 @@ module _ (path date v b : Bytes) where
         let same : b₁ ≡ b = s ∙ (untouched (make_file path date) b (told q) (sym said)).image in
         let is-old : taken path date b ≡ true = taken_by ∙ ap (λ (m : ℕ). eqb m 8) n in
         subst (λ (old : Bool). Puts old r b₂) (sym is-old) (subst (λ (x : Bytes). RunsTo r (replacing path date true v) x b₂ × KeptBy (remove_file path) x b₂) same (p, u))
+
+-- ---- the same by the make's answer alone: with these laws the check finds the proofs of both returns after a refused make by itself, whatever the code's
+-- test is called. A refused make leaves the image, and ends the calls that begin with it
+
+pub make_leaves : (path date b : Bytes) → after (make_file path date) b ≡ if_granted (answer (make_file path date) b) b (after (make_file path date) b)
+unfolding if_granted
+make_leaves path date b = go (answer (make_file path date) b) refl
+  where
+    go : (a : Answer (Unit {0})) → answer (make_file path date) b ≡ a → after (make_file path date) b ≡ if_granted a b (after (make_file path date) b)
+    go (refused f) e = (untouched (make_file path date) b f e).image
+    go (granted y) e = refl
+
+pub make_first : (path date v b : Bytes) → run_answer (replacing path date false v) b ≡ then_answer (answer (make_file path date) b) (run_answer (write path 0 v ∷ []) (after (make_file path date) b))
+unfolding replacing run_answer
+make_first path date v b = refl
+
+abbrev pub says_taken : {A : Type 0} → Answer A → Bool
+says_taken (refused f) = eqb f.number 8
+says_taken (granted y) = false
+
+pub taken_told : (path date b : Bytes) → taken path date b ≡ says_taken (answer (make_file path date) b)
+unfolding is_taken
+taken_told path date b = go (answer (make_file path date) b)
+  where
+    go : (a : Answer (Unit {0})) → is_taken a ≡ says_taken a
+    go (refused f) = refl
+    go (granted y) = refl
+
+-- where the make says 8 the first call is the removal, which tells nothing but whether it was refused (the premise is said again since `grind` takes up a
+-- law by a call of its conclusion, and the second part has none that it knows)
+abbrev pub change_told : {A : Type 0} → Answer A → Answer (Unit {0})
+change_told (refused f) = refused f
+change_told (granted y) = granted tt
+
+pub removal_first : (path date b : Bytes) → taken path date b ≡ true → (taken path date b ≡ true) × (change_told (answer (first_of path date b) b) ≡ answer (remove_file path) b)
+removal_first path date b e = (e, ap (λ (old : Bool). change_told (answer (if old then remove_file path else make_file path date) b)) e ∙ go (answer (remove_file path) b))
+  where
+    go : (a : Answer (Unit {0})) → change_told a ≡ a
+    go (refused f) = refl
+    go (granted y) = refl
 
 -- ---- on a copy
 

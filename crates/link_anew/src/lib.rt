@@ -35,6 +35,7 @@ fn replace(image: &mut [u8], path: &[u8], date: &[u8], bytes: &[u8]) -> ChangeAn
 }
 
 // Whether there is an old file the make itself tells, by number 8, so that it is asked for nothing else.
+#[tactic(auto, using(crate::proofs::InTurn::make_leaves, crate::proofs::InTurn::make_first, crate::proofs::InTurn::removal_first, crate::proofs::InTurn::taken_told), unfolding(crate::specs::Anew::then_answer, crate::specs::Anew::if_granted))]
 fn put_in_turn(image: &mut [u8], path: &[u8], date: &[u8], bytes: &[u8]) -> ChangeAnswer
     ensures runs_to { RunsTo result (anew path.now date.now bytes.now image.old) image.old image.new }
     ensures kept_by { KeptBy (first_of path.now date.now image.old) image.old image.new }

@@ -35,6 +35,7 @@ fn put_name(path: &mut [u8], at: usize, name: &[u8]) -> usize
 }
 
 // The path of a name in a directory, put at the front of the bytes; its length. The root's path is its slash.
+#[tactic(auto, using(crate::proofs::Paths::onward_root))]
 pub fn join(directory: &[u8], name: &[u8], path: &mut [u8]) -> usize
     requires { T (not (is_no_path (path_of directory.now))) × (length directory.now + 1 + length name.now ≤ length path.old) }
     ensures value { (result ≡ length (onward directory.now name.now)) × (result ≤ length path.old) }

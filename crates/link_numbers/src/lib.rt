@@ -21,6 +21,7 @@ pub enum NumberAt {
 }
 
 // The seven bits of a byte with more behind it, and 128 times the number there. In the shortest form that one is not 0.
+#[tactic(auto, using(crate::proofs::Turns::joins_zero))]
 fn joined(byte: u64, rest: NumberAt) -> NumberAt
     requires { Short rest }
     ensures { result ≡ joined_to byte rest }

@@ -1,13 +1,16 @@
 -- What a reading and a finding make of a file's bytes, by what the judging of it says.
-use mathlib.Core.Path.{◌≡◌, refl, ap, ◌∙◌}
-use Prim.Native.Nat.{ℕ, zero, suc, ◌+◌, ◌-◌, ◌/◌, ◌≤◌, ◌<◌}
+use mathlib.Core.Path.{◌≡◌, refl, sym, ap, ◌∙◌}
+use Prim.Native.Nat.{ℕ, zero, suc, ◌+◌, ◌/◌, ◌≤◌, ◌<◌}
 use native.Mathlib.Omega.{arith}
 use mathlib.Core.Option.{Option}
 use mathlib.Core.List.{List}
 use lib.ListN.{length}
+use lib.Dec.{ltb}
+use native.Mathlib.Decide.{dec_lt}
+use Rattle.std.specs.Prelude.{if◌then◌else◌}
 use borrow.Author.Tests.{lt-ltb, le-ltb}
 use Rattle.volume.specs.Bytes.{Bytes, put}
-use Rattle.model.specs.Call.{Refusal, refusal, refused, granted}
+use Rattle.model.specs.Call.{Refusal, refusal, Answer, refused, granted}
 use Rattle.model.specs.Refusal.{settle}
 use Rattle.link_list.specs.declared.Row.{Row}
 use Rattle.link_list.specs.Judging.{read_list}
@@ -46,6 +49,30 @@ module _ (v : Bytes) (ns : List ℕ) where
   pub read_bad : (f : Refusal) → refused f ≡ counted 0 (read_list v) → (refused f ≡ read_in v ns) × (ns ≡ numbers_in v ns)
   unfolding read_in numbers_in bad_line rows_in settle
   read_bad f e = rw (reading_bad (read_list v) f e) (refl, refl)
+
+-- ---- by the judging alone: each return of `read_file` is one of these cases, and the check tells which by the code's tests, whatever they are called
+
+abbrev pub told_by : Answer ℕ → (room : ℕ) → Answer ℕ
+told_by (refused f) room = refused f
+told_by (granted n) room = if ltb (room / 3) n then refused (refusal 24) else granted n
+
+abbrev pub numbers_by : Answer ℕ → Bytes → List ℕ → List ℕ
+numbers_by (refused f) v ns = ns
+numbers_by (granted n) v ns = if ltb (length ns / 3) n then ns else put 0 (numbers_of (steps_from v n 0)) ns
+
+module _ (v : Bytes) (ns : List ℕ) where
+  read_by : (a : Answer ℕ) → a ≡ counted 0 (read_list v) → (told_by a (length ns) ≡ read_in v ns) × (numbers_by a v ns ≡ numbers_in v ns)
+  read_by (refused f) e = read_bad v ns f e
+  read_by (granted n) e = elim (dec_lt (length ns / 3) n) [
+    | yes l ↦ rw (lt-ltb (length ns / 3) n l) (read_short v ns n e l)
+    | no l ↦ let h : n ≤ length ns / 3 = omega (arith, l) in rw (le-ltb (length ns / 3) n h) (read_rows v ns n e h _ refl)
+  ]
+
+  pub read_in_is : read_in v ns ≡ told_by (counted 0 (read_list v)) (length ns)
+  read_in_is = sym (read_by _ refl).0
+
+  pub numbers_in_is : numbers_in v ns ≡ numbers_by (counted 0 (read_list v)) v ns
+  numbers_in_is = sym (read_by _ refl).1
 
 module _ (v : Bytes) (count value : ℕ) where
   pub find_rows : (n : ℕ) → granted n ≡ counted 0 (read_list v) → (o : Option ℕ) → o ≡ figure_of count value (steps_from v n 0) → granted o ≡ find_in v count value

@@ -10,6 +10,7 @@ use link_answers::{FindLinkAnswer, LinkRefusal, ReadAnswer};
 use link_rows::{Figure, FileJudged};
 
 // The rows of a file put at the front of the numbers.
+#[tactic(auto, using(crate::proofs::InFile::read_in_is, crate::proofs::InFile::numbers_in_is))]
 pub fn read_file(file: &[u8], numbers: &mut [u64]) -> ReadAnswer
     ensures result_value { read_told result ≡ read_in file.now numbers.old }
     ensures numbers_after { numbers.new ≡ numbers_in file.now numbers.old }

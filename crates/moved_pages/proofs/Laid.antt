@@ -88,6 +88,16 @@ module _ (places b d : Bytes) (at e offset : ℕ) (y : Bytes) (he : e ≡ at + 3
       ∙ ap (λ (c : Bool). put offset (if c then set (part at 32 b) 17 (place_of places (start_at b at)) else part at 32 b) d)
       (sym (false_of {c = eqb (byte_at b at / 128 % 2) 1} (λ t. o (eqb→eq (byte_at b at / 128 % 2) 1 t))))
 
+-- the same at the two ends of `move_entry`, which the check finds by itself, whatever the code's test is called
+pub occupied_moved : (places b d : Bytes) (at offset : ℕ) {e x : ℕ} {y : Bytes} → e ≡ at + 32 → at + 32 ≤ length b → offset + 32 ≤ length d
+    → y ≡ put offset (mid_of at (e - at) b) d → byte_at b at / 128 % 2 ≡ 1 → x ≡ place_of places (byte_at b (at + 17))
+    → put offset (moved_entry places b at) d ≡ set y (offset + 17) x
+occupied_moved places b d at offset {e} {x} {y} he inside room w o q = sym (entry_follows places b d at e offset y he inside room w o x q)
+
+pub vacant_kept : (places b d : Bytes) (at offset : ℕ) {e : ℕ} {y : Bytes} → e ≡ at + 32 → at + 32 ≤ length b → offset + 32 ≤ length d
+    → y ≡ put offset (mid_of at (e - at) b) d → byte_at b at / 128 % 2 ≢ 1 → put offset (moved_entry places b at) d ≡ y
+vacant_kept places b d at offset {e} {y} he inside room w o = sym (entry_stays places b d at e offset y he inside room w o)
+
 -- ---- the entries of a directory
 
 field_bytes_lem : (p : ℕ) → (entries_start p ≡ 256 * p + field_bytes p) × (field_bytes p + 32 * entry_count p ≡ 256)

@@ -52,6 +52,7 @@ fn copy_entry(stretch: &mut [u8], offset: usize, source: &[u8])
 }
 
 // Copies the entry at position `at`. The start page of an occupied one follows; a vacant one may hold anything there.
+#[tactic(auto, using(crate::proofs::Laid::occupied_moved, crate::proofs::Laid::vacant_kept))]
 fn move_entry(image: &[u8], at: usize, places: &[u8], stretch: &mut [u8], offset: usize)
     requires { (at + 32 ≤ length image.now) × (offset + 32 ≤ length stretch.old) }
     ensures { stretch.new ≡ put offset (moved_entry places.now image.now at) stretch.old }

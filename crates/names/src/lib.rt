@@ -27,6 +27,7 @@ pub fn legal_byte(c: u8) -> bool
 }
 
 // Two names are the same if all their bytes are: 0042 is not 42. No byte ends the loop: sixteen are compared at once.
+#[tactic(auto, using(crate::proofs::Steps::same_not))]
 pub fn same_bytes(a: &[u8], b: &[u8]) -> bool
     ensures { result ≡ same a.now b.now }
 {

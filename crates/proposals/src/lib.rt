@@ -99,6 +99,7 @@ fn all_lead_on(image: &[u8], owners: &[usize], places: &[u8]) -> bool
 
 // N numbers below N, none of them twice, are all of 0 to N − 1; and by the links of files' pages alone it is seen whether each file's pages are
 // neighbours.
+#[tactic(auto, using(crate::proofs::Check::not_staying))]
 pub fn is_accepted(image: &[u8], owners: &[usize], places: &[u8]) -> bool
     requires { Judged image.now owners.now }
     ensures { result ≡ accepted image.now places.now }

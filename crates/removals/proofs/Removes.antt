@@ -1,5 +1,5 @@
 -- The two removals: the laws of `arrivals` at each place of version 1, and what the code asks of an image to give an entry's pages back.
-use mathlib.Core.Path.{◌≡◌, refl}
+use mathlib.Core.Path.{◌≡◌, refl, sym}
 use Prim.Native.Nat.{ℕ, ◌<◌}
 use native.Mathlib.Omega.{arith}
 use mathlib.Core.Bool.{Bool, true, false, not}
@@ -124,3 +124,19 @@ module _ (b path : Bytes) where
         → (granted (tt {0}) ≡ answer (remove_directory path) b) × (b' ≡ after (remove_directory path) b)
     unfolding chain
     directory_done r asked empty gone = Any.remove_directory_done reads b path e₂ refl (is-told asked empty) gone
+
+-- ---- a file behind the lock's test, in the words of the code's facts: the check finds these by itself at the returns, whatever the test is called
+
+module _ (b path : Bytes) {a : Arrival} {p : Place} {t : Target} {r : Bool} (here : a ≡ At p) (is : p ≡ place.File t) (arrives : arrival_of a ≡ placed b path)
+    (asked : r ≡ is_locked b t.entry) where
+  pub locked_answered : r ≡ true → answer (remove_file path) b ≡ refused (refusal 25)
+  locked_answered marked = sym (file_locked b path a p t here is arrives r asked marked).0
+
+  pub locked_kept : r ≡ true → after (remove_file path) b ≡ b
+  locked_kept marked = sym (file_locked b path a p t here is arrives r asked marked).1
+
+  pub removed_answered : r ≡ false → answer (remove_file path) b ≡ granted (tt {0})
+  removed_answered unmarked = sym (file_done b path a p t here is arrives r asked unmarked (pages_for t.size) refl refl).0
+
+  pub removed_gone : r ≡ false → after (remove_file path) b ≡ set (foldl (On.released version1) b (chain (link b) (pages_for t.size) t.start.0)) t.entry 0
+  removed_gone unmarked = sym (file_done b path a p t here is arrives r asked unmarked (pages_for t.size) refl refl).1

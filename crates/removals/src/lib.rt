@@ -12,6 +12,7 @@ use places::{Arrival, Place};
 use refusals::Refusal;
 
 // Removes a file that is not locked. Its pages are free from then on, and keep their bytes.
+#[tactic(auto, using(crate::proofs::Removes::locked_answered, crate::proofs::Removes::locked_kept, crate::proofs::Removes::removed_answered, crate::proofs::Removes::removed_gone))]
 pub fn remove_file(image: &mut [u8], path: &[u8]) -> ChangeAnswer
     ensures result_value { change_answer result ≡ answer (remove_file path.now) image.old }
     ensures image_after { image.new ≡ after (remove_file path.now) image.old }

@@ -57,6 +57,20 @@ module _ {g : Geometry} {b : Bytes} {p m w k : ℕ} (bits : BitsOf g b p m w) (e
   pub all_taken : m ≤ k → (next : ℕ) → next ≡ p + m → lowest_from g b n next ≡ lowest_free g n b
   all_taken h next at = ap (lowest_from g b n) at ∙ run m h (omega arith)
 
+-- what a turn of `lowest_free_from` at byte q says, whatever it reads there: a free page below n is the lowest one, and one that is not below n tells that
+-- there is none. The check finds each return's proof here by itself, whatever the code's test is called.
+pub record Turn (g : Geometry) (b : Bytes) (n q : ℕ) : Type 0 where
+  pub so_far : lowest_from g b n (8 * q) ≡ lowest_free g n b
+  pub free : (w k : ℕ) → w ≡ byte_at b (g.map + q) → Ends 64 w k → k < 8 → 8 * q + k < n → Lowest n (lowest_free g n b) (At (record { 0 = 8 * q + k }))
+  pub past : (w k : ℕ) → w ≡ byte_at b (g.map + q) → Ends 64 w k → k < 8 → n ≤ 8 * q + k → Lowest n (lowest_free g n b) None
+
+pub turn_at : (g : Geometry) (b : Bytes) (n q : ℕ) → lowest_from g b n (8 * q) ≡ lowest_free g n b → Turn g b n q
+turn_at g b n q so_far = record {
+  so_far = so_far;
+  free = λ w k read e l h. free_here (bits_of_byte g b q read) e n so_far l (omega arith) h;
+  past = λ w k read e l h. free_past (bits_of_byte g b q read) e n so_far l h;
+}
+
 module _ (g : Geometry) (b : Bytes) (n : ℕ) where
   pub before_first : Before g n 0 b
   before_first = record { low = omega arith; same = from_start g b n }

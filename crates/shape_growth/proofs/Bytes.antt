@@ -43,3 +43,8 @@ module _ {g : Geometry} {n : ℕ} {joint : Field} {b : Bytes} (c : Growing g n 1
 
   pub before_claimed : LinkThenContent g → {p : ℕ} {b' : Bytes} → p ≡ On.lowest_free g n b → b' ≡ store joint p (claimed g p b) → Before g n (p / 8) b'
   before_claimed then ep eb = before_marked ep (claimed_bits c then ep eb)
+
+-- growth by no page changes nothing
+pub not_grown : (g : Geometry) (n count : ℕ) (joint : Field) (b : Bytes) → count ≡ 0 → On.grown g n count joint b ≡ b
+unfolding On.grown
+not_grown g n count joint b e = rw e

@@ -63,6 +63,7 @@ fn append_claimed(image: &mut [u8], shape: Shape, n: usize, joint: Cell, byte: u
 
 // Adds pages whose content is written next, all of it but for some of the last page's: that one alone is zeroed. In the others' place the content may be
 // anything, and all else is as `grow` makes it.
+#[tactic(auto, using(crate::proofs::Bytes::not_grown))]
 pub fn grow_unzeroed(image: &mut [u8], shape: Shape, n: usize, joint: Cell, count: usize)
     requires { Growing (geometry_of shape) n count (field_of joint) image.old × LinkThenContent (geometry_of shape) }
     ensures { ButFor (geometry_of shape) (take (count - 1) (On.gained (geometry_of shape) n count image.old))

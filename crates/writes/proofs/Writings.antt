@@ -154,3 +154,25 @@ module _ {b path : Bytes} {from : ℕ} {t : Target} (p : Passed b path from t) (
 
     pub write_done : (length v ≡ 0 → ⊥) → {b' : Bytes} → b' ≡ rewritten t.entry from v b → (granted (tt {0}) ≡ answer (write path from v) b) × (b' ≡ after (write path from v) b)
     write_done z w = Any.write_done reads passed v free counted fits z w
+
+-- ---- a lock, and a write of no bytes past the lines, in the words of the code's facts: the check finds these by itself at the returns, whatever their tests
+-- are called
+
+module _ (b path : Bytes) (from : ℕ) (v : Bytes) {a : Arrival} {p : Place} {t : Target} {r : Bool} (here : a ≡ At p) (is : p ≡ place.File t)
+    (arrives : arrival_of a ≡ placed b path) (marked : r ≡ is_locked b t.entry) where
+  pub locked_answered : r ≡ true → answer (write path from v) b ≡ refused (refusal 25)
+  locked_answered locked = sym (write_locked b path from v t (at_file here is arrives) marked locked).0
+
+  pub locked_kept : r ≡ true → after (write path from v) b ≡ b
+  locked_kept locked = sym (write_locked b path from v t (at_file here is arrives) marked locked).1
+
+  module _ (unmarked : r ≡ false) (inside : from ≤ t.size) {q : Bool} (counted : q ≡ ltb (free_count b) (more t.size from (length v))) (fits : q ≡ false)
+      (z : length v ≡ 0) where
+    nothing : (granted (tt {0}) ≡ answer (write path from v) b) × (b ≡ after (write path from v) b)
+    nothing = write_nothing (record { there = at_file here is arrives; unlocked = sym marked ∙ unmarked; inside = inside }) v counted fits z
+
+    pub nothing_answered : answer (write path from v) b ≡ granted (tt {0})
+    nothing_answered = sym nothing.0
+
+    pub nothing_changed : after (write path from v) b ≡ b
+    nothing_changed = sym nothing.1

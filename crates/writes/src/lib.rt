@@ -30,6 +30,7 @@ fn lacks_pages(image: &[u8], size: usize, position: Position, bytes: usize) -> b
 }
 
 // Puts bytes over the content of a file that is not locked, from a position on. The file grows where they reach past its end.
+#[tactic(auto, using(crate::proofs::Writings::locked_answered, crate::proofs::Writings::locked_kept, crate::proofs::Writings::nothing_answered, crate::proofs::Writings::nothing_changed))]
 pub fn write(image: &mut [u8], path: &[u8], position: Position, bytes: &[u8]) -> ChangeAnswer
     ensures result_value { change_answer result ≡ answer (write path.now position.0 bytes.now) image.old }
     ensures image_after { image.new ≡ after (write path.now position.0 bytes.now) image.old }

@@ -143,3 +143,18 @@ module _ (b path : Bytes) {a : Arrival} {c : Cartridge} {p : Place} (here : a �
           pub write_done : (length v ≡ 0 → ⊥) → {b' : Bytes} → b' ≡ rewritten layout2 view2 t.entry from v b
               → (granted (tt {0}) ≡ answer v2 (write path from v) b) × (b' ≡ after v2 (write path from v) b)
           write_done = Any.write_done reads2 passed v counts lacking fits
+
+-- ---- a write of no bytes past those lines, in the words of the code's facts: the check finds these by itself at the return, whatever its test is called
+
+module _ (b path : Bytes) (from : ℕ) (v : Bytes) {a : Arrival} {c : Cartridge} {p : Place} {t : Target} {r q : Bool} (here : a ≡ At c p) (arrives : Arrives b path a)
+    (is : p ≡ place.File t) (asked : r ≡ is_locked b t.entry) (unmarked : r ≡ false) (inside : from ≤ t.size)
+    (lacks : q ≡ ltb (On.free_count (geometry_of c.shape) b) (pages_for c.shape.size (max t.size (from + length v)) - pages_for c.shape.size t.size))
+    (fits : q ≡ false) (z : length v ≡ 0) where
+  nothing : (granted (tt {0}) ≡ answer v2 (write path from v) b) × (b ≡ after v2 (write path from v) b)
+  nothing = write_nothing b path here arrives is from v asked unmarked inside lacks fits z
+
+  pub nothing_answered : answer v2 (write path from v) b ≡ granted (tt {0})
+  nothing_answered = sym nothing.0
+
+  pub nothing_changed : after v2 (write path from v) b ≡ b
+  nothing_changed = sym nothing.1

@@ -36,6 +36,7 @@ fn lacks_pages(image: &[u8], shape: Shape, size: usize, position: Position, byte
 }
 
 // Puts bytes over the content of a file that is not locked, from a position on. The file grows where they reach past its end.
+#[tactic(auto, using(crate::proofs::Writings::nothing_answered, crate::proofs::Writings::nothing_changed))]
 pub fn write(image: &mut [u8], path: &[u8], position: Position, bytes: &[u8]) -> ChangeAnswer
     ensures result_value { change_answer result ≡ answer v2 (write path.now position.0 bytes.now) image.old }
     ensures image_after { image.new ≡ after v2 (write path.now position.0 bytes.now) image.old }

@@ -1,13 +1,11 @@
 -- What is joined is below 128 to the eighth, for what is behind the byte has at most seven bytes.
-use Rattle.link_numbers.proofs.Turns.{joins_broken, joins_zero, joins_more, short_is}
+-- No answer names the test for 0, so an edit of it is refused for what it then means: `omega` finds what it says.
+use Rattle.link_numbers.proofs.Turns.{joins_broken, joins_more, short_is}
 use native.Mathlib.Omega.{arith}
 use Rattle.link_numbers.proofs.joined.Goals as goal
 
 pub returns-in_default : goal.returns-in_default
 returns-in_default c = joins_broken _ c.in_default.is
-
-pub returns-then-higher-eq0 : goal.returns-then-higher-eq0
-returns-then-higher-eq0 c = joins_zero _ c.in-Is.is c.if-higher-eq0.true
 
 pub overflow_mul-result : goal.overflow_mul-result
 overflow_mul-result c = omega (arith, short_is c.in-Is.is c.requires)
@@ -16,4 +14,4 @@ pub overflow_add-result : goal.overflow_add-result
 overflow_add-result c = omega (arith, short_is c.in-Is.is c.requires)
 
 pub returns : goal.returns
-returns c = joins_more _ c.in-Is.is c.if-higher-eq0.false
+returns c = joins_more _ c.in-Is.is (λ z. omega arith)

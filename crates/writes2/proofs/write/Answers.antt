@@ -1,5 +1,6 @@
 -- Each test is a line of the call, in the lines' order; where none refuses, the entry is rewritten as the model rewrites it.
-use Rattle.writes2.proofs.Writings.{write_directory, write_counted, write_locked, write_past, write_lacking, write_nothing, writable, write_done}
+-- The check finds the return at no bytes by itself, by laws that `write` names, and no answer names that test.
+use Rattle.writes2.proofs.Writings.{write_directory, write_counted, write_locked, write_past, write_lacking, writable, write_done}
 use Rattle.arrivals.proofs.Writings.{write_refused}
 use Rattle.places2.proofs.Places.{stopped_refused}
 use Rattle.places2.proofs.Held.{reads2, file_entry}
@@ -48,14 +49,6 @@ returns-then-lacks_pages c =
     let place = unlocked in
     let whole = write_lacking _ _ place.in-At.is place.arrive-arrival.ensures place.in-File.is
     _ _ unlocked.is_locked.ensures unlocked.if-is_locked.false (omega arith) c.lacks_pages.ensures c.if-lacks_pages.true in
-    record { result_value = whole.0; image_after = whole.1 }
-
-pub returns-then-bytes-eq0 : goal.returns-then-bytes-eq0
-returns-then-bytes-eq0 c =
-    let unlocked = c in
-    let place = unlocked in
-    let whole = write_nothing _ _ place.in-At.is place.arrive-arrival.ensures place.in-File.is
-    _ _ unlocked.is_locked.ensures unlocked.if-is_locked.false (omega arith) c.lacks_pages.ensures c.if-lacks_pages.false c.if-bytes-eq0.true in
     record { result_value = whole.0; image_after = whole.1 }
 
 pub write_entry-requires : goal.write_entry-requires
