@@ -113,8 +113,8 @@ module _ (path date v b : Bytes) where
         let is-old : taken path date b ≡ true = taken_by ∙ ap (λ (m : ℕ). eqb m 8) n in
         subst (λ (old : Bool). Puts old r b₂) (sym is-old) (subst (λ (x : Bytes). RunsTo r (replacing path date true v) x b₂ × KeptBy (remove_file path) x b₂) same (p, u))
 
--- ---- the same by the make's answer alone: with these laws the check finds the proofs of both returns after a refused make by itself, whatever the code's
--- test is called. A refused make leaves the image, and ends the calls that begin with it
+-- ---- The same by the make's answer alone. `put_in_turn` names these laws, and by them the check proves both returns after a refused make. A refused make
+-- leaves the image, and ends the calls that begin with it.
 
 pub make_leaves : (path date b : Bytes) → after (make_file path date) b ≡ if_granted (answer (make_file path date) b) b (after (make_file path date) b)
 unfolding if_granted
@@ -140,8 +140,8 @@ taken_told path date b = go (answer (make_file path date) b)
     go (refused f) = refl
     go (granted y) = refl
 
--- where the make says 8 the first call is the removal, which tells nothing but whether it was refused (the premise is said again since `grind` takes up a
--- law by a call of its conclusion, and the second part has none that it knows)
+-- Where the make says 8 the first call is the removal, which tells nothing but whether it was refused. The premise stands in the conclusion too: `grind`
+-- uses a law only where a call of its conclusion stands in the goal.
 abbrev pub change_told : {A : Type 0} → Answer A → Answer (Unit {0})
 change_told (refused f) = refused f
 change_told (granted y) = granted tt

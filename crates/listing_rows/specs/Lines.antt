@@ -25,7 +25,7 @@ entry_path b at path = path ++ text "/" ++ unpadded (name_at b at)
 pub record Readable (b : Bytes) (pages : List ℕ) : Type 0 where
   pub inside : InImage b pages
 
--- where the name of an entry ends: what stands before is the name without its zeros
+-- where the name of an entry ends, which is "padded with zeros" (paper 01, the 32 bytes of an entry): what stands before is the name without its zeros
 pub record NameEnds (b : Bytes) (at to : ℕ) : Type 0 where
   pub low : at + 1 ≤ to
   pub high : to ≤ at + 17
