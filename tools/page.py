@@ -35,12 +35,33 @@ def calls():
     return re.findall(r"^uint64_t (zealfs2?_\w+)\(", (ROOT / "include/zealfs.h").read_text(), re.M)
 
 
+# a pair whose second part is an address, read as one value
+PAIR = re.compile(rb"^( *)(%\S+) = load \{ (\w+), ptr \}, ptr (%\S+), align 8.*$", re.M)
+
+
+def parted(found):
+    """The two parts of such a pair, each read where the module's other lines put it: the second at byte 8."""
+    indent, pair, first, place = found.groups()
+    lines = [
+        b"%s.first = load %s, ptr %s" % (pair, first, place),
+        b"%s.place = getelementptr i8, ptr %s, i64 8" % (pair, place),
+        b"%s.second = load ptr, ptr %s.place" % (pair, pair),
+        b"%s.half = insertvalue { %s, ptr } poison, %s %s.first, 0" % (pair, first, first, pair),
+        b"%s = insertvalue { %s, ptr } %s.half, ptr %s.second, 1" % (pair, first, pair, pair),
+    ]
+    return b"\n".join(indent + line for line in lines)
+
+
 def widened(tools, module):
-    """A module's text with each address widened to 64 bits: `ptrtoaddr` gives as many bits as an address has, which are 32 here, and the module takes
-    64 from it. `ptrtoint` puts zeros above them."""
+    """A module's text for addresses of 32 bits. The module was made for 64 and puts all it keeps at places that are counted for those. Two things would not
+    fit: `ptrtoaddr` gives as many bits as an address has, and the module takes 64 from it, so `ptrtoint` puts zeros above them; and a pair with an address
+    in its second part, read as one value, would be looked for at byte 4."""
     read = [tools / "clang", "--no-default-config", "-Wno-override-module", "-Xclang", "-disable-llvm-passes", "-S", "-emit-llvm", "-x", "ir", module, "-o", "-"]
     text = subprocess.run(read, check=True, stdout=subprocess.PIPE).stdout
-    return re.sub(rb"\bptrtoaddr (ptr [^ ]+ to i64)\b", rb"ptrtoint \1", text)
+    text = re.sub(rb"\bptrtoaddr (ptr [^ ]+ to i64)\b", rb"ptrtoint \1", text)
+    text = PAIR.sub(parted, text)
+    assert not re.search(rb"(load|store) \{ \w+, ptr \}", text), "a pair with an address is read or written as one value"
+    return text
 
 
 def compiled():

@@ -1,11 +1,13 @@
 -- The marks page by page, and the count.
 use mathlib.Core.Path.{◌≡◌, refl, sym, ap, ◌∙◌}
-use Prim.Native.Nat.{ℕ, suc, ◌+◌, ◌-◌, ◌≤◌, ◌<◌}
+use Prim.Native.Nat.{ℕ, zero, suc, ◌+◌, ◌-◌, ◌≤◌, ◌<◌}
 use native.Mathlib.Omega.{arith}
 use native.Mathlib.Numerals.{add-one}
-use mathlib.Core.Bool.{Bool, true, false, not, ◌&&◌, beq}
+use mathlib.Core.Bool.{Bool, true, false, not, ◌&&◌}
 use mathlib.Core.List.{List}
-use lib.ListN.{length, get_or}
+use lib.ListN.{get_or}
+use lib.Dec.{eqb, eqb-suc-zero}
+use mir.Val.{bool_byte}
 use Rattle.volume.specs.Lists.{all, count_from, up_to}
 use Rattle.agreement.specs.Marked.{nobodies}
 use Rattle.claims.proofs.Claims.{told, untold}
@@ -39,17 +41,11 @@ module _ (f : ℕ → Bool) (n p : ℕ) {v : Bool} (is : v ≡ all_from f n p) w
   pub all_done : n ≤ p → true ≡ v
   all_done l = sym (is ∙ all_end f n p l)
 
-pub nobodies_all : (row : List ℕ) (p : ℕ) {count : ℕ} → p ≤ length row → length row ≤ p → count ≡ nobodies row p → count ≡ nobodies row (length row)
-nobodies_all row p h l is = let e : p ≡ length row = omega arith in is ∙ ap (nobodies row) e
-
 pub nobodies_next : (row : List ℕ) (p : ℕ) → nobodies row (p + 1) ≡ nobodies row p + (1 - get_or row p 0)
 unfolding nobodies
 nobodies_next row p = rw (add-one p)
 
-pub beq_false : (c : Bool) → not c ≡ beq c false
-beq_false true = refl
-beq_false false = refl
-
-pub beq_true : (c : Bool) → c ≡ beq c true
-beq_true true = refl
-beq_true false = refl
+-- a turn of the count: 1 if nobody owns the page
+pub nobody : (owner : ℕ) → bool_byte (eqb owner 0) ≡ 1 - owner
+nobody zero = refl
+nobody (suc k) = let e : 1 - suc k ≡ 0 = omega arith in ap bool_byte (eqb-suc-zero k) ∙ sym e

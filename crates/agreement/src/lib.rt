@@ -14,12 +14,7 @@ fn page_agrees(image: &[u8], row: &[usize], p: usize) -> bool
     requires { Row image.now row.now × (p < length row.now) × (36 ≤ length image.now) }
     ensures { result ≡ agrees image.now row.now p }
 {
-    let owner = row[p];
-    let bit = bitmap::bit(image, Page(p));
-    if owner == 0 {
-        return bit != 1;
-    }
-    bit == 1
+    (bitmap::bit(image, Page(p)) == 1) == (row[p] != 0)
 }
 
 fn pages_agree(image: &[u8], row: &[usize]) -> bool
@@ -34,20 +29,13 @@ fn pages_agree(image: &[u8], row: &[usize]) -> bool
     true
 }
 
-// 1 if nobody owns the page.
-fn without_owner(owner: usize) -> usize
-    ensures { (result ≡ 1 - owner) × (result ≤ 1) }
-{
-    if owner == 0 { 1 } else { 0 }
-}
-
 fn count_nobodies(row: &[usize]) -> usize
     requires { length row.now ≤ 256 }
     ensures { result ≡ nobodies row.now (length row.now) }
 {
     let mut count = 0;
-    for p in 0..row.len() {
-        count += without_owner(row[p]);
+    for owner in row {
+        count += usize::from(*owner == 0);
     }
     count
 }

@@ -1,55 +1,34 @@
--- The model's answer for each case of a call's enum.
-use Rattle.std.specs.Prelude.{◌≡◌, ℕ, ◌+◌, ◌*◌, leb, if◌then◌else◌}
+-- The model's answer for each result of a call: what it tells, or its refusal.
+use Rattle.std.specs.Prelude.{ℕ, ◌+◌, ◌*◌, leb, if◌then◌else◌, ⊤, Option, Result}
 use Rattle.volume.specs.Bytes.{Bytes}
 use Rattle.model.specs.Layout.{page_size}
 use Rattle.model.specs.Entry.{entry_count, entries_start, Entry, entry_at}
-use Rattle.model.specs.Call.{is_file, is_directory, Verdict, Found as Finding, Listed as Listing, empty, holds, refusal, Answer, refused, granted}
+use Rattle.model.specs.Call.{Verdict, Found as Finding, Listed as Listing, refusal, Answer, refused, granted}
 use Rattle.arrivals.specs.Listed as Of
+use Rattle.outcomes.specs.Answers.{answered, counted, found_of, listed_of}
+use Rattle.outcomes.specs.declared.Counts.{Counts}
+use Rattle.outcomes.specs.declared.Found.{Found}
+use Rattle.outcomes.specs.declared.Listed.{Listed}
 use Rattle.refusals.specs.Told.{told}
+use Rattle.refusals.specs.declared.Refusal.{Refusal}
 unfoldable pub use Rattle.arrivals.specs.Beside.{find_date, list_name, list_date}
-use Rattle.answers.specs.declared.ChangeAnswer.{ChangeAnswer}
-use Rattle.answers.specs.declared.ChangeAnswer.TheVariants as change
-use Rattle.answers.specs.declared.VerdictAnswer.{VerdictAnswer}
-use Rattle.answers.specs.declared.VerdictAnswer.TheVariants as verdict
-use Rattle.answers.specs.declared.FindAnswer.{FindAnswer}
-use Rattle.answers.specs.declared.FindAnswer.TheVariants as find
-use Rattle.answers.specs.declared.Found.{Found}
-use Rattle.answers.specs.declared.ListAnswer.{ListAnswer}
-use Rattle.answers.specs.declared.ListAnswer.TheVariants as list
-use Rattle.answers.specs.declared.Listed.{Listed}
-use Rattle.answers.specs.declared.ReadAnswer.{ReadAnswer}
-use Rattle.answers.specs.declared.ReadAnswer.TheVariants as read
 
-abbrev pub change_answer : ChangeAnswer → Answer (Unit {0})
-change_answer change.Done = granted tt
-change_answer (change.Refused r) = refused (told r)
+-- a call that changes an image tells only that it was done
+abbrev pub change_answer : Result ⊤ Refusal → Answer (Unit {0})
+change_answer = answered told (λ x. tt)
 
-abbrev pub verdict_answer : VerdictAnswer → Answer Verdict
-verdict_answer (verdict.Sound pages free) = granted (record { pages = pages; free = free })
-verdict_answer (verdict.Refused r) = refused (told r)
+abbrev pub verdict_answer : Result Counts Refusal → Answer Verdict
+verdict_answer = answered told counted
 
--- find: with the date that stands beside the answer
-abbrev pub find_answer : FindAnswer → (date : Bytes) → Answer Finding
-find_answer (find.File size locked) date = granted (record { kind = is_file locked; size = size; date = date })
-find_answer find.Directory date = granted (record { kind = is_directory; size = page_size; date = date })
-find_answer (find.Refused r) date = refused (told r)
+abbrev pub find_answer : Result Found Refusal → Answer Finding
+find_answer = answered told found_of
 
-abbrev pub FindSays : Found → Answer Finding → Type 0
-FindSays r a = (find_answer r.answer r.date ≡ a) × (r.date ≡ find_date a)
+abbrev pub list_answer : Result (Option Listed) Refusal → Answer Listing
+list_answer = answered told listed_of
 
--- list: with the name and the date that stand beside the answer
-abbrev pub list_answer : ListAnswer → (name date : Bytes) → Answer Listing
-list_answer list.Empty name date = granted empty
-list_answer (list.File size locked) name date = granted (holds (is_file locked) name size date)
-list_answer list.Directory name date = granted (holds is_directory name page_size date)
-list_answer (list.Refused r) name date = refused (told r)
-
-abbrev pub ListSays : Listed → Answer Listing → Type 0
-ListSays r a = (list_answer r.answer r.name r.date ≡ a) × (r.name ≡ list_name a) × (r.date ≡ list_date a)
-
-abbrev pub read_answer : ReadAnswer → Answer ℕ
-read_answer (read.Copied count) = granted count
-read_answer (read.Refused r) = refused (told r)
+-- the number of bytes that were copied
+abbrev pub read_answer : Result ℕ Refusal → Answer ℕ
+read_answer = answered told (λ n. n)
 
 -- ---- what a function of the crate asks the bytes
 

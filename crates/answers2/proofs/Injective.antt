@@ -1,91 +1,64 @@
--- The model's answer tells the case of a call's enum: two cases that differ answer differently.
-use mathlib.Core.Path.{◌≡◌, refl, sym, ap, ap₂, ◌∙◌}
+-- The model's answer tells a call's result: two results that differ answer differently.
+use mathlib.Core.Path.{◌≡◌, refl, sym, ap, ◌∙◌}
 use Prim.Native.Nat.{ℕ}
-use Rattle.volume.specs.Bytes.{Bytes}
-use Rattle.model.specs.Call.{Verdict, Found as Finding, Listed as Listing, empty, holds, Answer, refused, granted}
-use Rattle.arrivals.specs.Beside.{kind_of}
+use Rattle.std.specs.Prelude.{⊤, Option, Some, None, Result, Ok, Err}
+use Rattle.model.specs.Call as Model
+use Rattle.model.specs.Call.{is_file, is_directory, Verdict, Found as Finding, Listed as Listing, empty, holds, Answer, refused, granted}
+use Rattle.outcomes.specs.declared.Counts.{Counts}
+use Rattle.outcomes.specs.declared.Kind.{Kind}
+use Rattle.outcomes.specs.declared.Kind.TheVariants.{File, Directory}
+use Rattle.outcomes.specs.declared.Found.{Found}
+use Rattle.outcomes.specs.declared.Listed.{Listed}
+use Rattle.outcomes.specs.Answers.{answered, kind_of, found_of, listed_of}
+use Rattle.refusals2.specs.declared.Refusal.{Refusal}
+use Rattle.refusals2.specs.Told.{told}
 use Rattle.refusals2.proofs.Injective.{case, case_told}
-use Rattle.answers2.specs.Answers.{change_answer, verdict_answer, find_answer, FindSays, list_answer, ListSays, read_answer}
-use Rattle.answers2.specs.declared.ChangeAnswer.{ChangeAnswer}
-use Rattle.answers2.specs.declared.ChangeAnswer.TheVariants as change
-use Rattle.answers2.specs.declared.VerdictAnswer.{VerdictAnswer}
-use Rattle.answers2.specs.declared.VerdictAnswer.TheVariants as verdict
-use Rattle.answers2.specs.declared.FindAnswer.{FindAnswer}
-use Rattle.answers2.specs.declared.FindAnswer.TheVariants as find
-use Rattle.answers2.specs.declared.Found.{Found}
-use Rattle.answers2.specs.declared.ListAnswer.{ListAnswer}
-use Rattle.answers2.specs.declared.ListAnswer.TheVariants as list
-use Rattle.answers2.specs.declared.Listed.{Listed}
-use Rattle.answers2.specs.declared.ReadAnswer.{ReadAnswer}
-use Rattle.answers2.specs.declared.ReadAnswer.TheVariants as read
+use Rattle.answers2.specs.Answers.{change_answer, verdict_answer, find_answer, list_answer, read_answer}
 
-unfoldable change_case : Answer (Unit {0}) → ChangeAnswer
-change_case (refused m) = change.Refused (case m)
-change_case (granted x) = change.Done
+-- what is told is had back by f
+module _ {A B : Type 0} (value : A → B) (f : B → A) (back : (x : A) → f (value x) ≡ x) where
+  unfoldable result_case : Answer B → Result A Refusal
+  result_case (refused m) = Err (case m)
+  result_case (granted x) = Ok (f x)
 
-change_case_lem : (r : ChangeAnswer) → change_case (change_answer r) ≡ r
-unfolding change_case
-change_case_lem change.Done = refl
-change_case_lem (change.Refused r) = ap change.Refused (case_told r)
+  result_case_lem : (r : Result A Refusal) → result_case (answered told value r) ≡ r
+  unfolding result_case
+  result_case_lem (Ok x) = ap Ok (back x)
+  result_case_lem (Err r) = ap Err (case_told r)
 
-pub change_injective : (r s : ChangeAnswer) → change_answer r ≡ change_answer s → r ≡ s
-change_injective r s e = sym (change_case_lem r) ∙ ap change_case e ∙ change_case_lem s
+  answered_injective : (r s : Result A Refusal) → answered told value r ≡ answered told value s → r ≡ s
+  answered_injective r s e = sym (result_case_lem r) ∙ ap result_case e ∙ result_case_lem s
 
-unfoldable verdict_case : Answer Verdict → VerdictAnswer
-verdict_case (refused m) = verdict.Refused (case m)
-verdict_case (granted v) = verdict.Sound v.pages v.free
+kind_case : Model.Kind → Kind
+kind_case (is_file locked) = File locked
+kind_case is_directory = Directory
 
-verdict_case_lem : (r : VerdictAnswer) → verdict_case (verdict_answer r) ≡ r
-unfolding verdict_case
-verdict_case_lem (verdict.Sound pages free) = refl
-verdict_case_lem (verdict.Refused r) = ap verdict.Refused (case_told r)
+kind_case_lem : (k : Kind) → kind_case (kind_of k) ≡ k
+unfolding kind_case
+kind_case_lem (File locked) = refl
+kind_case_lem Directory = refl
 
-pub verdict_injective : (r s : VerdictAnswer) → verdict_answer r ≡ verdict_answer s → r ≡ s
-verdict_injective r s e = sym (verdict_case_lem r) ∙ ap verdict_case e ∙ verdict_case_lem s
+listed_case : Listing → Option Listed
+listed_case empty = None
+listed_case (holds kind name size date) = Some (record { kind = kind_case kind; name = name; size = size; date = date })
 
--- ---- with what stands beside the answer: at most one result says what the model says
+listed_case_lem : (l : Option Listed) → listed_case (listed_of l) ≡ l
+unfolding listed_case
+listed_case_lem None = refl
+listed_case_lem (Some l) = ap (λ (k : Kind). Some (record { kind = k; name = l.name; size = l.size; date = l.date })) (kind_case_lem l.kind)
 
-unfoldable find_case : Answer Finding → FindAnswer
-find_case (refused m) = find.Refused (case m)
-find_case (granted f) = kind_of (λ locked. find.File f.size locked) (find.Directory f.size) f.kind
+pub change_injective : (r s : Result ⊤ Refusal) → change_answer r ≡ change_answer s → r ≡ s
+change_injective = answered_injective (λ x. tt) (λ x. tt) (λ x. refl)
 
-find_case_lem : (x : FindAnswer) (date : Bytes) → find_case (find_answer x date) ≡ x
-unfolding find_case kind_of
-find_case_lem (find.File size locked) date = refl
-find_case_lem (find.Directory size) date = refl
-find_case_lem (find.Refused r) date = ap find.Refused (case_told r)
+pub verdict_injective : (r s : Result Counts Refusal) → verdict_answer r ≡ verdict_answer s → r ≡ s
+verdict_injective = answered_injective _ (λ v. record { pages = v.pages; free = v.free }) (λ x. refl)
 
-pub find_injective : (r s : Found) (a : Answer Finding) → FindSays r a → FindSays s a → r ≡ s
-find_injective r s a h k = ap₂ (λ (x : FindAnswer) (date : Bytes). record { answer = x; date = date })
-    (sym (find_case_lem r.answer r.date) ∙ ap find_case (h.0 ∙ sym k.0) ∙ find_case_lem s.answer s.date)
-    (h.1 ∙ sym k.1)
+pub find_injective : (r s : Result Found Refusal) → find_answer r ≡ find_answer s → r ≡ s
+find_injective = answered_injective found_of (λ f. record { kind = kind_case f.kind; size = f.size; date = f.date })
+    (λ f. ap (λ (k : Kind). record { kind = k; size = f.size; date = f.date }) (kind_case_lem f.kind))
 
-unfoldable list_case : Answer Listing → ListAnswer
-list_case (refused m) = list.Refused (case m)
-list_case (granted empty) = list.Empty
-list_case (granted (holds kind name size date)) = kind_of (λ locked. list.File size locked) (list.Directory size) kind
+pub list_injective : (r s : Result (Option Listed) Refusal) → list_answer r ≡ list_answer s → r ≡ s
+list_injective = answered_injective listed_of listed_case listed_case_lem
 
-list_case_lem : (x : ListAnswer) (name date : Bytes) → list_case (list_answer x name date) ≡ x
-unfolding list_case kind_of
-list_case_lem list.Empty name date = refl
-list_case_lem (list.File size locked) name date = refl
-list_case_lem (list.Directory size) name date = refl
-list_case_lem (list.Refused r) name date = ap list.Refused (case_told r)
-
-pub list_injective : (r s : Listed) (a : Answer Listing) → ListSays r a → ListSays s a → r ≡ s
-list_injective r s a h k =
-    let x : r.answer ≡ s.answer = sym (list_case_lem r.answer r.name r.date) ∙ ap list_case (h.0 ∙ sym k.0) ∙ list_case_lem s.answer s.name s.date in
-    ap (λ (y : ListAnswer). record { answer = y; name = r.name; date = r.date }) x
-    ∙ ap₂ (λ (name date : Bytes). record { answer = s.answer; name = name; date = date }) (h.1 ∙ sym k.1) (h.2 ∙ sym k.2)
-
-unfoldable read_case : Answer ℕ → ReadAnswer
-read_case (refused m) = read.Refused (case m)
-read_case (granted n) = read.Copied n
-
-read_case_lem : (r : ReadAnswer) → read_case (read_answer r) ≡ r
-unfolding read_case
-read_case_lem (read.Copied n) = refl
-read_case_lem (read.Refused r) = ap read.Refused (case_told r)
-
-pub read_injective : (r s : ReadAnswer) → read_answer r ≡ read_answer s → r ≡ s
-read_injective r s e = sym (read_case_lem r) ∙ ap read_case e ∙ read_case_lem s
+pub read_injective : (r s : Result ℕ Refusal) → read_answer r ≡ read_answer s → r ≡ s
+read_injective = answered_injective (λ n. n) (λ n. n) (λ n. refl)

@@ -8,13 +8,13 @@ use lib.ListN.{length, take, drop, replicate, length-replicate}
 use lib.Dec.{T, eqb, leb, leb→le}
 use Rattle.volume.proofs.Tests.{conditions_cons}
 use Rattle.volume.specs.Bytes.{Bytes}
-use Rattle.std.specs.Prelude.{if◌then◌else◌}
+use Rattle.std.specs.Prelude.{Some, None, if◌then◌else◌}
 use Rattle.model.specs.Layout.{page_count, valid_length, valid_header}
 use Rattle.model.specs.Sound.{sound}
 use Rattle.claims.specs.Claim.{stops, goes}
 use Rattle.audit.specs.Visit.{visit, concluded, first_row, audit, free}
 use Rattle.agreement.specs.Marked.{is_marked}
-use Rattle.audit.specs.Owner.{owner_numbers}
+use Rattle.audit.specs.Owner.{owner_row, owner_numbers}
 use Rattle.audit.proofs.Audited.{Told, says_yes, full_row, audit_told, audit_sound, audit_owners}
 use Rattle.audit.proofs.Visiting.{AtYes, Yes, visit_yes}
 use Rattle.claims.proofs.Claims.{told, untold, goes_of, stops_of}
@@ -38,11 +38,16 @@ outcome_if {r} row e = outcome_is r row ∙ ap (λ (c : Bool). if c then goes ro
 
 -- ---- the whole
 
-says_no : (b : Bytes) → audit b ≡ stops → (false ≡ sound b) × (replicate 256 0 ≡ owner_numbers b)
-says_no b e = (ap says_yes (sym e) ∙ audit_sound b, ap full_row (sym e) ∙ audit_owners b)
+says_no : (b : Bytes) → audit b ≡ stops → None ≡ (if sound b then Some (owner_numbers b) else None)
+says_no b e = let no : sound b ≡ false = sym (ap says_yes (sym e) ∙ audit_sound b) in rw no
 
 says_yes_lem : (b : Bytes) (row : List ℕ) → audit b ≡ goes row → (true ≡ sound b) × (row ++ replicate (256 - length row) 0 ≡ owner_numbers b)
 says_yes_lem b row e = (ap says_yes (sym e) ∙ audit_sound b, ap full_row (sym e) ∙ audit_owners b)
+
+-- of an image that is not sound it names nobody
+pub unsound_owners : (b : Bytes) → sound b ≡ false → replicate 256 0 ≡ owner_numbers b
+unfolding owner_row owner_numbers
+unsound_owners b e = rw e
 
 audit_short : (b : Bytes) → valid_length (length b) ≡ false → audit b ≡ stops
 unfolding audit
@@ -130,16 +135,19 @@ module _ (b : Bytes) {row : List ℕ} (r : Bool) (m : List ℕ) (v : outcome r m
 
 -- the tests in their order: the length, the header, and the row of the visit
 module _ (b : Bytes) {r : Bool} (e : r ≡ valid_length (length b)) where
-  pub no_length : not r ≡ true → (false ≡ sound b) × (replicate 256 0 ≡ owner_numbers b)
+  pub no_length : not r ≡ true → None ≡ (if sound b then Some (owner_numbers b) else None)
   no_length h = says_no b (audit_short b (untold e h))
 
   module _ (k : not r ≡ false) {s : Bool} (f : s ≡ valid_header b) where
-    pub no_header : not s ≡ true → (false ≡ sound b) × (replicate 256 0 ≡ owner_numbers b)
+    pub no_header : not s ≡ true → None ≡ (if sound b then Some (owner_numbers b) else None)
     no_header h = says_no b (audit_headless b (told e k) (untold f h))
 
     module _ (h : not s ≡ false) (a : Bool) (m : List ℕ) (o : outcome a m ≡ concluded b (visit (page_count b) b (0 ∷ []) (first_row (page_count b)))) where
-      pub no_row : not a ≡ true → (false ≡ sound b) × (replicate 256 0 ≡ owner_numbers b)
+      pub no_row : not a ≡ true → None ≡ (if sound b then Some (owner_numbers b) else None)
       no_row q = says_no b (audit_full b (told e k) (told f h) ∙ sym (stops_of a m o q))
 
-      pub yes_row : not a ≡ false → (n : ℕ) → n ≡ page_count b → (true ≡ sound b) × (m ++ drop {A = ℕ} n (1 ∷ replicate 255 0) ≡ owner_numbers b)
-      yes_row q n c = says_full b n c (told e k) m (audit_full b (told e k) (told f h) ∙ sym (goes_of a o q))
+      pub yes_row : not a ≡ false → (n : ℕ) → n ≡ page_count b → Some (m ++ drop {A = ℕ} n (1 ∷ replicate 255 0)) ≡ (if sound b then Some (owner_numbers b) else None)
+      yes_row q n c =
+          let full = says_full b n c (told e k) m (audit_full b (told e k) (told f h) ∙ sym (goes_of a o q)) in
+          let yes : sound b ≡ true = sym full.0 in
+          rw (yes, full.1)

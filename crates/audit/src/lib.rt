@@ -3,7 +3,8 @@
 // No function changes the image. The one public function has no `requires`: it says of any bytes whether they are a sound image.
 #![tactic(auto)]
 
-ghost use Rattle.std.specs.Prelude.{◌≡◌, ◌+◌, ◌≤◌, [], ◌∷◌, length};
+ghost use Rattle.std.specs.Prelude.{◌≡◌, ◌+◌, ◌≤◌, [], ◌∷◌, length, Some, None};
+ghost use Rattle.std.specs.Prelude.{if◌then◌else◌};
 ghost use Rattle.model.specs.Layout.{page_count};
 ghost use Rattle.model.specs.Sound.{sound};
 ghost use Rattle.claims.specs.Lent.{outcome, Row};
@@ -44,39 +45,21 @@ fn audit_row(image: &[u8], row: &mut [usize]) -> bool
     agreement::is_marked(image, row)
 }
 
-// Whether any bytes are a sound image, and who owns each page: 0 nobody, 1 the header, else the position of the owner's entry.
-#[derive(Clone, Copy)]
-pub struct Findings {
-    pub sound: bool,
-    pub owners: [usize; 256],
-}
-
-pub fn audit(image: &[u8]) -> Findings
-    ensures { (result.sound ≡ sound image.now) × (result.owners ≡ owner_numbers image.now) }
+// Who owns each page, if any bytes are a sound image: 0 nobody, 1 the header, else the position of the owner's entry.
+pub fn audit(image: &[u8]) -> Option<[usize; 256]>
+    ensures { result ≡ (if sound image.now then Some (owner_numbers image.now) else None) }
 {
     if !fields::length_is_allowed(image.len()) {
-        return Findings {
-            sound: false,
-            owners: [0usize; 256],
-        };
+        return None;
     }
     if !fields::header_is_right(image) {
-        return Findings {
-            sound: false,
-            owners: [0usize; 256],
-        };
+        return None;
     }
     let n = fields::page_count(image.len());
     let mut row = [0usize; 256];
     row[0] = 1;
     if !audit_row(image, &mut row[..n]) {
-        return Findings {
-            sound: false,
-            owners: [0usize; 256],
-        };
+        return None;
     }
-    Findings {
-        sound: true,
-        owners: row,
-    }
+    Some(row)
 }

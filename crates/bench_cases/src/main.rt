@@ -6,8 +6,8 @@
 ghost use Rattle.std.specs.Prelude.{◌+◌, ◌<◌, ◌≤◌, length};
 
 use fields::Position;
+use shown::Quoted;
 use std::io;
-use zealfs::ReadAnswer;
 
 type Image = [u8; 2048];
 
@@ -18,34 +18,25 @@ const DATE: [u8; 8] = [0x20, 0x26, 0x07, 0x25, 0x06, 0x12, 0x00, 0x00];
 // ---- what is printed beside the calls
 
 fn case<W: io::Write>(out: &mut W, n: usize) -> io::Result<()> {
-    shown::put(out, b"case ")?;
-    shown::number(out, n)?;
-    shown::end_line(out)
+    writeln!(out, "case {n}")
 }
 
 // So many bytes of the image.
 fn bytes_at<W: io::Write>(out: &mut W, image: &[u8], from: usize, count: usize) -> io::Result<()>
     requires { from + count ≤ length image.now }
 {
-    shown::put(out, b"bytes at ")?;
-    shown::number(out, from)?;
-    shown::put(out, b":")?;
-    for i in 0..count {
-        shown::put(out, b" ")?;
-        shown::hex(out, image[from + i])?;
+    write!(out, "bytes at {from}:")?;
+    for byte in &image[from..from + count] {
+        write!(out, " {byte:02x}")?;
     }
-    shown::end_line(out)
+    writeln!(out)
 }
 
 // Damages the image: one byte is set.
 fn set_byte<W: io::Write>(out: &mut W, image: &mut [u8], at: usize, byte: u8) -> io::Result<()>
     requires { at < length image.old }
 {
-    shown::put(out, b"set byte ")?;
-    shown::number(out, at)?;
-    shown::put(out, b" to ")?;
-    shown::hex(out, byte)?;
-    shown::end_line(out)?;
+    writeln!(out, "set byte {at} to {byte:02x}")?;
     image[at] = byte;
     Ok(())
 }
@@ -55,16 +46,14 @@ fn read_back<W: io::Write>(out: &mut W, image: &[u8], path: &[u8], count: usize)
     requires { count ≤ 65536 }
 {
     let mut buffer = [0u8; 65536];
-    shown::put(out, b"read back ")?;
-    shown::quoted(out, path)?;
-    shown::put(out, b" => ")?;
-    if let ReadAnswer::Copied(copied) = zealfs::read(image, path, Position(0), &mut buffer) {
-        shown::number(out, copied)?;
+    write!(out, "read back {} => ", Quoted(path))?;
+    if let Ok(copied) = zealfs::read(image, path, Position(0), &mut buffer) {
+        write!(out, "{copied}")?;
     }
     if buffer[..count] == shown::digits()[..count] {
-        shown::put(out, b" as written")?;
+        write!(out, " as written")?;
     }
-    shown::end_line(out)
+    writeln!(out)
 }
 
 // ---- the cases

@@ -10,7 +10,6 @@ ghost use Rattle.bitmap.specs.Words.{Clear};
 
 use fields::Page;
 use shape::{Cell, Links, Shape};
-pub use shape_bitmap::Free;
 
 // Version 1 (01, "Numbers" and "The header page"). A constant: once it is handed on, the compiler leaves nothing of it but its numbers.
 pub const VERSION1: Shape = Shape {
@@ -46,7 +45,7 @@ pub fn clear_bytes(image: &[u8], byte: usize) -> usize
     shape_bitmap::clear_bytes(image, VERSION1, byte)
 }
 
-pub fn lowest_free(image: &[u8], n: usize) -> Free
+pub fn lowest_free(image: &[u8], n: usize) -> Option<Page>
     requires { (n ≤ 256) × (36 ≤ length image.now) }
     ensures { Lowest n (On.lowest_free version1 n image.now) result }
 {

@@ -9,16 +9,16 @@ ghost use Rattle.answers.specs.Answers.{change_answer};
 ghost use Rattle.codes.specs.Codes.{code_of, Fits, place_of};
 
 use fields::Position;
-use zealfs::ChangeAnswer;
+use refusals::Refusal;
 
 // The code of a call that tells nothing else.
-pub fn change_code(a: ChangeAnswer) -> u64
+pub fn change_code(a: Result<(), Refusal>) -> u64
     requires { Fits (place_of (change_answer a)) }
     ensures { result ≡ code_of (change_answer a) }
 {
     match a {
-        ChangeAnswer::Done => 0,
-        ChangeAnswer::Refused(r) => codes::code(r),
+        Ok(()) => 0,
+        Err(r) => codes::code(r),
     }
 }
 

@@ -9,17 +9,17 @@ ghost use Rattle.model2.specs.Calls.{v2};
 ghost use Rattle.answers2.specs.Answers.{change_answer};
 ghost use Rattle.codes.specs.Codes.{code_of, Fits, place_of};
 
-use answers2::ChangeAnswer;
 use fields::Position;
+use refusals2::Refusal;
 
 // The code of a call that tells nothing else.
-fn change_code(a: ChangeAnswer) -> u64
+fn change_code(a: Result<(), Refusal>) -> u64
     requires { Fits (place_of (change_answer a)) }
     ensures { result ≡ code_of (change_answer a) }
 {
     match a {
-        ChangeAnswer::Done => 0,
-        ChangeAnswer::Refused(r) => codes2::code(r),
+        Ok(()) => 0,
+        Err(r) => codes2::code(r),
     }
 }
 

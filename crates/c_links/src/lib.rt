@@ -9,8 +9,6 @@ ghost use Rattle.link_looks.specs.Looks.{numbers_after};
 ghost use Rattle.link_codes.specs.Codes.{link_code_of};
 ghost use Rattle.codes.specs.Outs.{number_out, figure_out};
 
-use links::FindLinkAnswer;
-
 // Reads the rows to the front of the numbers. out: how many rows.
 pub fn read(image: &[u8], directory: &[u8], numbers: &mut [u64], out: &mut [u64; 1]) -> u64
     ensures value { result ≡ link_code_of (link_answer (read_links directory.now (rows_of numbers.old)) image.now) }
@@ -18,11 +16,11 @@ pub fn read(image: &[u8], directory: &[u8], numbers: &mut [u64], out: &mut [u64;
     ensures numbers_after { numbers.new ≡ numbers_after directory.now image.now numbers.old }
 {
     match links::read(image, directory, numbers) {
-        links::ReadAnswer::Rows(rows) => {
+        Ok(rows) => {
             *out = [rows as u64];
             0
         }
-        links::ReadAnswer::Refused(r) => {
+        Err(r) => {
             *out = [0];
             link_codes::code(r)
         }
@@ -43,15 +41,15 @@ pub fn find(image: &[u8], directory: &[u8], count: u64, value: u64, out: &mut [u
     ensures out_after { out.new ≡ figure_out (link_answer (find_link directory.now count value) image.now) }
 {
     match links::find(image, directory, count, value) {
-        FindLinkAnswer::Figure(figure) => {
+        Ok(Some(figure)) => {
             *out = [1, figure];
             0
         }
-        FindLinkAnswer::Absent => {
+        Ok(None) => {
             *out = [0, 0];
             0
         }
-        FindLinkAnswer::Refused(r) => {
+        Err(r) => {
             *out = [0; 2];
             link_codes::code(r)
         }

@@ -7,8 +7,6 @@ ghost use Rattle.codes.specs.Codes.{code_of};
 ghost use Rattle.lists2.specs.Entries.{entries_answer, entries_after};
 ghost use Rattle.c_lists2.specs.Outs.{entries_out};
 
-use lists2::EntriesAnswer;
-
 // out: how many entries were told, and how many the directory has.
 pub fn entries(image: &[u8], path: &[u8], first: u64, rows: &mut [u8], out: &mut [u64; 2]) -> u64
     ensures value { result ≡ code_of (entries_answer image.now path.now first (length rows.old)) }
@@ -16,11 +14,11 @@ pub fn entries(image: &[u8], path: &[u8], first: u64, rows: &mut [u8], out: &mut
     ensures rows_after { rows.new ≡ entries_after image.now path.now first rows.old }
 {
     match lists2::entries(image, path, first as usize, rows) {
-        EntriesAnswer::Told(count, all) => {
-            *out = [count as u64, all as u64];
+        Ok(told) => {
+            *out = [told.count as u64, told.all as u64];
             0
         }
-        EntriesAnswer::Refused(r) => {
+        Err(r) => {
             *out = [0; 2];
             codes2::code(r)
         }

@@ -12,12 +12,11 @@ ghost use Rattle.repair.specs.Repair.{repair_answer, repair_after};
 ghost use Rattle.audit.specs.Owner.{owner_numbers};
 ghost use Rattle.moves.specs.Tidy.{tidy_answer, tidy_after};
 ghost use Rattle.moves.specs.Propose.{propose_answer, propose_after};
-ghost use Rattle.tidy.specs.Answer.{answer_of};
-ghost use Rattle.codes.specs.Codes.{code_of, Fits, place_of};
+ghost use Rattle.tidy.specs.Answer.{told_tidy, answer_of};
+ghost use Rattle.codes.specs.Codes.{refusal_code, code_of, Fits, place_of};
 ghost use Rattle.codes.specs.Outs.{sound_number, number_out};
 
-use store::StoreAnswer;
-use tidy::TidyAnswer;
+use tidy::TidyRefusal;
 
 // Wins back lost pages (02 §7).
 pub fn repair(image: &mut [u8]) -> u64
@@ -32,8 +31,8 @@ fn copy_owners(from: &[usize], to: &mut [u64])
     requires { (length from.now ≡ length to.old) × (length to.old ≤ 256) }
     ensures { to.new ≡ from.now }
 {
-    for p in 0..to.len() {
-        to[p] = from[p] as u64;
+    for (p, owner) in from.iter().enumerate() {
+        to[p] = *owner as u64;
     }
 }
 
@@ -42,12 +41,14 @@ pub fn audit(image: &[u8], owners: &mut [u64; 256]) -> u64
     ensures value { result ≡ sound_number (sound image.now) }
     ensures owners_after { owners.new ≡ owner_numbers image.now }
 {
-    let findings = audit::audit(image);
-    let row = findings.owners;
+    let row = audit::audit(image);
+    let says = u64::from(row.is_some());
     let mut numbers = [0u64; 256];
-    copy_owners(&row, &mut numbers);
+    if let Some(row) = row {
+        copy_owners(&row, &mut numbers);
+    }
     *owners = numbers;
-    if findings.sound { 1 } else { 0 }
+    says
 }
 
 // out: the page's number.
@@ -65,11 +66,11 @@ pub fn store(
     ensures page_after { page.new ≡ buffer_after (store path.now date.now bytes.now number page.old) image.now }
 {
     match store::store(image, path, date, bytes, number as usize, page) {
-        StoreAnswer::At(at) => {
+        Ok(at) => {
             *out = [at.0 as u64];
             0
         }
-        StoreAnswer::Refused(r) => {
+        Err(r) => {
             *out = [0];
             codes::code(r)
         }
@@ -85,16 +86,26 @@ pub fn listing(image: &[u8], from: u64, buffer: &mut [u8]) -> u64
     listing_text::listing_part(image, from as usize, buffer) as u64
 }
 
-// The code of the two calls of 02 §13, whose own numbers point nowhere.
-fn tidy_code(a: TidyAnswer) -> u64
+// The code of a refusal of the two calls of 02 §13, whose own numbers point nowhere.
+fn tidy_refusal(r: TidyRefusal) -> u64
+    requires { Fits (told_tidy r).place }
+    ensures { result ≡ refusal_code (told_tidy r) }
+{
+    match r {
+        TidyRefusal::Base(base) => codes::code(base),
+        TidyRefusal::OtherLength => 28,
+        TidyRefusal::NotAccepted => 27,
+    }
+}
+
+// The code of what they answer.
+fn tidy_code(a: Result<(), TidyRefusal>) -> u64
     requires { Fits (place_of (answer_of a)) }
     ensures { result ≡ code_of (answer_of a) }
 {
     match a {
-        TidyAnswer::Done => 0,
-        TidyAnswer::Refused(r) => codes::code(r),
-        TidyAnswer::OtherLength => 28,
-        TidyAnswer::NotAccepted => 27,
+        Ok(()) => 0,
+        Err(r) => tidy_refusal(r),
     }
 }
 

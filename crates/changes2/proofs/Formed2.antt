@@ -1,7 +1,7 @@
 -- The shape of an image whose header is right has a lawful geometry, and whatever is said at the image's geometry and N is said at the shape's: they are
 -- the same. A page's number fits a link, since an image with links of one byte has at most 256 pages.
 use mathlib.Core.Path.{◌≡◌, refl, sym, ap₂, ◌∙◌, subst, subst₂}
-use Prim.Native.Nat.{ℕ, ◌-◌, ◌*◌, ◌≤◌, ◌<◌}
+use Prim.Native.Nat.{ℕ, ◌*◌, ◌≤◌, ◌<◌}
 use native.Mathlib.Nat.{mul-le-mul_right}
 use native.Mathlib.Omega.{arith}
 use mathlib.Core.Bool.{Bool, true, false}

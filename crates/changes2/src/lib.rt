@@ -22,7 +22,6 @@ ghost use Rattle.shape.specs.Geometry.{field_of, geometry_of};
 ghost use Rattle.cursor2.specs.Row.{row};
 ghost use Rattle.changes2.specs.Asked.{Walkable, Making, Lengthening, Writing};
 
-use cursor2::Step;
 use fields::{Page, Position};
 use shape::{Cell, Shape};
 
@@ -39,10 +38,10 @@ pub fn holds_nothing(image: &[u8], shape: Shape, n: usize, directory: Page) -> b
         if !cursor2::is_vacant(image, at) {
             return false;
         }
-        match cursor2::next_entry(image, shape, n, cursor) {
-            Step::At(next) => cursor = next,
-            Step::End => return true,
-        }
+        let Some(next) = cursor2::next_entry(image, shape, n, cursor) else {
+            return true;
+        };
+        cursor = next;
     }
 }
 
@@ -146,7 +145,7 @@ pub fn write_entry(
     requires { Writing shape n entry start.0 size position.0 bytes.now image.old }
     ensures { image.new ≡ rewritten layout2 view2 entry position.0 bytes.now image.old }
 {
-    let new_size = fields::larger(size, position.0 + bytes.len());
+    let new_size = size.max(position.0 + bytes.len());
     let held = fields2::pages_for(shape, size);
     let wanted = fields2::pages_for(shape, new_size);
     add_pages(image, shape, n, start, held, wanted - held);

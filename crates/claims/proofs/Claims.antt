@@ -82,15 +82,17 @@ module _ (b : Bytes) (at left p : ℕ) (row : List ℕ) {v : Visited} (is : v �
   unfolding then_visit
   chain_stops l r m e h = sym (is ∙ chain_next b at left p row l ∙ rw (← stops_of r m e h))
 
-  pub chain_goes : 0 < left → (r : Bool) (m : List ℕ) → outcome r m ≡ claim at p row → not r ≡ false → {q : ℕ} → q ≡ link b p → v ≡ claim_chain b at (left - 1) q m
+  pub chain_goes : 0 < left → (r : Bool) (m : List ℕ) → outcome r m ≡ claim at p row → not r ≡ false → {q n : ℕ} → q ≡ link b p → n ≡ left - 1 → v ≡ claim_chain b at n q m
   unfolding then_visit
-  chain_goes l r m e h k = is ∙ chain_next b at left p row l ∙ rw (← goes_of r e h, k)
+  chain_goes l r m e h k same = is ∙ chain_next b at left p row l ∙ rw (← goes_of r e h, k, same)
 
-  pub chain_ends : left ≤ 0 → p ≡ 0 → goes row ≡ v
-  chain_ends l z = sym (is ∙ chain_end b at left p row l ∙ rw (eq-eqb p 0 z))
-
-  pub chain_open : left ≤ 0 → (p ≡ 0 → ⊥) → stops ≡ v
-  chain_open l z = sym (is ∙ chain_end b at left p row l ∙ rw (ne_eqb p 0 z))
+  -- nothing is left, and z says whether the last link is 0
+  pub chain_over : left ≤ 0 → {z : Bool} → z ≡ eqb p 0 → outcome z row ≡ v
+  chain_over l {z} e = sym (is ∙ chain_end b at left p row l ∙ rw (← e) (by_test z))
+    where
+      by_test : (t : Bool) → (if t then goes row else stops) ≡ outcome t row
+      by_test true = refl
+      by_test false = refl
 
 -- ---- an entry
 

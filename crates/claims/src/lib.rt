@@ -36,18 +36,13 @@ fn claim_chain(image: &[u8], row: &mut [usize], at: usize, k: usize, start: Page
     ensures { outcome result row.new ≡ claim_chain image.now at k start.0 row.old }
 {
     let mut page = start;
-    let mut left = k;
-    while 0 < left {
+    for _ in 0..k {
         if !claim_page(row, at, page) {
             return false;
         }
         page = fields::link(image, page);
-        left -= 1;
     }
-    if page.0 != 0 {
-        return false;
-    }
-    true
+    page.0 == 0
 }
 
 // ---- names
@@ -69,12 +64,10 @@ fn name_is_legal(image: &[u8], at: usize) -> bool
 {
     let mut zeros = true;
     let mut legal = true;
-    let mut k = 16;
-    while 1 < k {
+    for k in (2..17).rev() {
         let c = image[at + k];
         legal = is_legal_before(c, zeros, legal);
         zeros = (0 == c) & zeros;
-        k -= 1;
     }
     names::legal_byte(image[at + 1]) & legal
 }

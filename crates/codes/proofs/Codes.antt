@@ -1,5 +1,8 @@
 -- The refusals that point nowhere, and how much room a place takes.
 use mathlib.Core.Path.{◌≡◌, refl}
+use mathlib.Core.Bool.{Bool, true, false}
+use mir.Val.{bool_byte}
+use Rattle.std.specs.Prelude.{if◌then◌else◌}
 use Prim.Native.Nat.{ℕ, ◌<◌}
 use native.Mathlib.Omega.{arith}
 use Rattle.faults.specs.declared.Fault.{Fault}
@@ -32,3 +35,8 @@ no_place NotAPage u n d = refl
 pub place_low : {place : ℕ × ℕ × ℕ} → Fits place → packed place < 281474976710656
 unfolding packed
 place_low f = omega (arith, f.first, f.second, f.third)
+
+-- a mark as a number
+pub mark_number : (locked : Bool) → bool_byte locked ≡ (if locked then 1 else 0)
+mark_number true = refl
+mark_number false = refl

@@ -62,5 +62,5 @@ pub fn code(r: Refusal) -> u64
 pub fn lock_number(locked: bool) -> u64
     ensures { result ≡ lock_number (is_file locked) }
 {
-    if locked { 1 } else { 0 }
+    u64::from(locked)
 }

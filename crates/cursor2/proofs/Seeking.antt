@@ -1,6 +1,6 @@
 -- What a cursor that stands in an image gives, and a search by it: what is found in the row that is left is what is found in the whole row, which grows
 -- shorter by the entry at hand.
-use mathlib.Core.Path.{◌≡◌, refl, sym, ap, ◌∙◌, subst}
+use mathlib.Core.Path.{◌≡◌, refl, sym, ap, ◌∙◌}
 use Prim.Native.Nat.{ℕ, ◌+◌, ◌≤◌, ◌<◌}
 use native.Mathlib.Omega.{arith}
 use mathlib.Core.Bool.{Bool, true, false, not}
@@ -25,9 +25,7 @@ use Rattle.shape.specs.Geometry.{geometry_of}
 use Rattle.rows2.specs.Roomy.{Roomy}
 use Rattle.rows2.proofs.On.{entry_lies, few_entries}
 use Rattle.cursor2.specs.declared.Cursor.{Cursor}
-use Rattle.cursor2.specs.declared.Step.{Step}
-use Rattle.cursor2.specs.declared.Step.TheVariants.{At, End}
-use Rattle.cursor2.specs.Row.{behind, entries_from, position_at, row_from, row_after, Stands, StandsAfter}
+use Rattle.cursor2.specs.Row.{behind, entries_from, position_at, row_from, Stands}
 use Rattle.cursor2.proofs.Turns.{behind_end, turn_same, turn_end}
 
 -- ---- an entry is vacant by bit 7 of its flags alone
@@ -78,9 +76,9 @@ ends_here s n b c t count e last q f z =
     turn_end s.size n (On.next (geometry_of s) b) c.page.0 c.number t.within (omega arith) c.left (behind_end (On.next (geometry_of s) b) c.left c.page.0 (sym f ∙ z))
 
 -- what is left grows shorter by the entry at hand
-pub row_shorter : (b : Bytes) (s : Shape) (n : ℕ) (c : Cursor) (r : Step) → row_from s n b c ≡ position_at s n c ∷ row_after s n b r
-    → (next : Cursor) → r ≡ At next → length (row_from s n b next) < length (row_from s n b c)
-row_shorter b s n c r turn next e = omega (arith, ap (λ (l : List ℕ). length l) turn, ap (λ (x : Step). length (row_after s n b x)) e)
+pub row_shorter : (b : Bytes) (s : Shape) (n : ℕ) (c next : Cursor) → row_from s n b c ≡ position_at s n c ∷ row_from s n b next
+    → length (row_from s n b next) < length (row_from s n b c)
+row_shorter b s n c next turn = omega (arith, ap (λ (l : List ℕ). length l) turn)
 
 -- ---- the search
 
@@ -98,19 +96,16 @@ module _ {f : ℕ → Bool} {s : Shape} {n : ℕ} {b : Bytes} {c₀ c : Cursor} 
       sym (sym (ap (first f) whole) ∙ sym o.left ∙ ap (first f) (turn_same s.size n (On.next (geometry_of s) b) c.page.0 c.number o.stands.within c.left) ∙ pass
       ∙ ap (λ (x : ℕ). some x) (sym here))
 
-  module _ (e : f at ≡ false) (r : Step) (row : row_from s n b c ≡ position_at s n c ∷ row_after s n b r) where
-    past : first f (row_after s n b r) ≡ first f (row_from s n b c₀)
+  module _ (e : f at ≡ false) {rest : List ℕ} (row : row_from s n b c ≡ position_at s n c ∷ rest) where
+    past : first f rest ≡ first f (row_from s n b c₀)
     unfolding first
     past = let t : f (position_at s n c) ≡ false = ap f (sym here) ∙ e in sym (sym o.left ∙ ap (first f) row ∙ rw t)
 
     -- or the search goes on behind it
-    pub seek_next : {next : Cursor} → r ≡ At next → StandsAfter s n b r → Seeking f s n b c₀ next
-    seek_next {next} z t = record {
-      stands = subst (λ (x : Step). StandsAfter s n b x) z t;
-      left = ap (λ (x : Step). first f (row_after s n b x)) (sym z) ∙ past;
-    }
+    pub seek_next : {next : Cursor} → rest ≡ row_from s n b next → Stands s n b next → Seeking f s n b c₀ next
+    seek_next {next} z t = record { stands = t; left = ap (first f) (sym z) ∙ past }
 
     -- or there is none
-    pub seek_none : {all : List ℕ} → row_from s n b c₀ ≡ all → r ≡ End → none ≡ first f all
+    pub seek_none : {all : List ℕ} → row_from s n b c₀ ≡ all → rest ≡ [] → none ≡ first f all
     unfolding first
-    seek_none whole z = ap (λ (x : Step). first f (row_after s n b x)) (sym z) ∙ past ∙ ap (first f) whole
+    seek_none whole z = ap (first f) (sym z) ∙ past ∙ ap (first f) whole

@@ -1,6 +1,7 @@
 -- What is left of a directory's row from a cursor on. The whole row is `entries` of a view; the first cursor has all of it left.
-use Rattle.std.specs.Prelude.{ℕ, ◌+◌, ◌-◌, ◌*◌, ◌<◌, eqb, if◌then◌else◌}
-use Rattle.std.proofs.Math.Option.{Option, none, some}
+use Rattle.std.specs.Prelude.{ℕ, ◌+◌, ◌-◌, ◌*◌, ◌<◌, eqb, if◌then◌else◌, Option, Some, None}
+use Rattle.std.proofs.Math.Option.{none, some}
+use Rattle.std.proofs.Math.Option as Model
 use mathlib.Core.List.{List, [], ◌∷◌, ◌++◌, map, flat_map}
 use Rattle.volume.specs.Bytes.{Bytes}
 use Rattle.volume.specs.Lists.{count_from}
@@ -10,10 +11,6 @@ use Rattle.model2.specs.Version2.{linked_pages, entry_count, entries_start, entr
 use Rattle.shape.specs.declared.Shape.{Shape}
 use Rattle.shape.specs.Geometry.{geometry_of}
 use Rattle.cursor2.specs.declared.Cursor.{Cursor}
-use Rattle.cursor2.specs.declared.Step.{Step}
-use Rattle.cursor2.specs.declared.Step.TheVariants.{At, End}
-use Rattle.cursor2.specs.declared.Found.{Found}
-use Rattle.cursor2.specs.declared.Found.TheVariants.{There, Nowhere}
 
 -- the row of the directory p, in an image of n pages
 abbrev pub row : Shape → (pages : ℕ) → Bytes → (directory : ℕ) → List ℕ
@@ -34,9 +31,9 @@ position_at s n c = entries_start s.size n c.page.0 + 32 * c.number
 abbrev pub row_from : Shape → (pages : ℕ) → Bytes → Cursor → List ℕ
 row_from s n b c = entries_from s.size n (On.next (geometry_of s) b) c.page.0 c.number c.left
 
-abbrev pub row_after : Shape → (pages : ℕ) → Bytes → Step → List ℕ
-row_after s n b (At c) = row_from s n b c
-row_after s n b End = []
+abbrev pub row_after : Shape → (pages : ℕ) → Bytes → Option Cursor → List ℕ
+row_after s n b (Some c) = row_from s n b c
+row_after s n b None = []
 
 -- pages that lie in the image with their links
 abbrev pub AllLie : Shape → Bytes → List ℕ → Type 0
@@ -47,10 +44,10 @@ pub record Stands (s : Shape) (n : ℕ) (b : Bytes) (c : Cursor) : Type 0 where
   pub within : c.number < entry_count s.size n c.page.0
   pub pages : AllLie s b (c.page.0 ∷ behind (On.next (geometry_of s) b) c.left c.page.0)
 
-abbrev pub StandsAfter : Shape → (pages : ℕ) → Bytes → Step → Type 0
-StandsAfter s n b (At c) = Stands s n b c
-StandsAfter s n b End = Unit {0}
+abbrev pub StandsAfter : Shape → (pages : ℕ) → Bytes → Option Cursor → Type 0
+StandsAfter s n b (Some c) = Stands s n b c
+StandsAfter s n b None = Unit {0}
 
-abbrev pub found_of : Found → Option ℕ
-found_of (There at) = some at
-found_of Nowhere = none
+abbrev pub found_of : Option ℕ → Model.Option ℕ
+found_of (Some at) = some at
+found_of None = none

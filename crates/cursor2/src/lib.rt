@@ -24,18 +24,6 @@ pub struct Cursor {
     pub left: usize,
 }
 
-#[derive(Clone, Copy)]
-pub enum Step {
-    At(Cursor),
-    End,
-}
-
-#[derive(Clone, Copy)]
-pub enum Found {
-    There(usize),
-    Nowhere,
-}
-
 // The directory's first entry: all of its row is left.
 pub fn first_entry(image: &[u8], shape: Shape, pages: usize, directory: Page) -> Cursor
     requires { Roomy shape.size pages × (1 ≤ pages) × AllLie shape image.now (linked_pages (On.next (geometry_of shape) image.now) pages directory.0) }
@@ -58,7 +46,7 @@ pub fn position_of(image: &[u8], shape: Shape, pages: usize, cursor: Cursor) -> 
 
 // The entry behind it: on the same page, or the first of the page that follows.
 #[tactic(auto, using(crate::proofs::Seeking::ends_here))]
-pub fn next_entry(image: &[u8], shape: Shape, pages: usize, cursor: Cursor) -> Step
+pub fn next_entry(image: &[u8], shape: Shape, pages: usize, cursor: Cursor) -> Option<Cursor>
     requires { Roomy shape.size pages × Stands shape pages image.now cursor }
     ensures { (row_from shape pages image.now cursor ≡ position_at shape pages cursor ∷ row_after shape pages image.now result) × StandsAfter shape pages image.now result }
 {
@@ -66,7 +54,7 @@ pub fn next_entry(image: &[u8], shape: Shape, pages: usize, cursor: Cursor) -> S
     let left = cursor.left;
     let number = cursor.number + 1;
     if number < rows2::entry_count(shape, pages, here) {
-        return Step::At(Cursor {
+        return Some(Cursor {
             page: here,
             number,
             left,
@@ -74,12 +62,12 @@ pub fn next_entry(image: &[u8], shape: Shape, pages: usize, cursor: Cursor) -> S
     }
     let page = shape::link(image, shape, here);
     if page.0 == 0 {
-        return Step::End;
+        return None;
     }
     if left == 0 {
-        return Step::End;
+        return None;
     }
-    Step::At(Cursor {
+    Some(Cursor {
         page,
         number: 0,
         left: left - 1,
@@ -94,7 +82,7 @@ pub fn is_vacant(image: &[u8], at: usize) -> bool
 }
 
 // The lowest vacant entry of a directory, on whichever of its pages.
-pub fn vacant_entry(image: &[u8], shape: Shape, pages: usize, directory: Page) -> Found
+pub fn vacant_entry(image: &[u8], shape: Shape, pages: usize, directory: Page) -> Option<usize>
     requires { Roomy shape.size pages × (1 ≤ pages) × AllLie shape image.now (linked_pages (On.next (geometry_of shape) image.now) pages directory.0) }
     ensures { found_of result ≡ first (λ at. is_vacant (entry_at image.now at)) (row shape pages image.now directory.0) }
 {
@@ -102,17 +90,20 @@ pub fn vacant_entry(image: &[u8], shape: Shape, pages: usize, directory: Page) -
     loop {
         let at = position_of(image, shape, pages, cursor);
         if is_vacant(image, at) {
-            return Found::There(at);
+            return Some(at);
         }
-        match next_entry(image, shape, pages, cursor) {
-            Step::At(next) => cursor = next,
-            Step::End => return Found::Nowhere,
-        }
+        cursor = next_entry(image, shape, pages, cursor)?;
     }
 }
 
 // The entry of that name, on whichever of the directory's pages.
-pub fn entry_named(image: &[u8], shape: Shape, pages: usize, directory: Page, name: &[u8]) -> Found
+pub fn entry_named(
+    image: &[u8],
+    shape: Shape,
+    pages: usize,
+    directory: Page,
+    name: &[u8],
+) -> Option<usize>
     requires { Roomy shape.size pages × (1 ≤ pages) × AllLie shape image.now (linked_pages (On.next (geometry_of shape) image.now) pages directory.0) }
     ensures { found_of result ≡ first (λ at. is_named name.now (entry_at image.now at)) (row shape pages image.now directory.0) }
 {
@@ -120,11 +111,8 @@ pub fn entry_named(image: &[u8], shape: Shape, pages: usize, directory: Page, na
     loop {
         let at = position_of(image, shape, pages, cursor);
         if names::is_named(image, at, name) {
-            return Found::There(at);
+            return Some(at);
         }
-        match next_entry(image, shape, pages, cursor) {
-            Step::At(next) => cursor = next,
-            Step::End => return Found::Nowhere,
-        }
+        cursor = next_entry(image, shape, pages, cursor)?;
     }
 }

@@ -21,21 +21,14 @@ fn is_bcd(x: u8) -> bool
 fn all_bcd(date: &[u8]) -> bool
     ensures { result ≡ all is_bcd date.now }
 {
-    let mut k = 0;
-    while k < date.len() {
-        if !is_bcd(date[k]) {
-            return false;
-        }
-        k += 1;
-    }
-    true
+    date.iter().all(|x| is_bcd(*x))
 }
 
 // The number that two digits mean; half bytes above 9 count alike. The bound is for the sum of a year.
 fn bcd(x: u8) -> usize
     ensures { (result ≡ bcd x) × (result < 256) }
 {
-    let digits = x as usize;
+    let digits = usize::from(x);
     digits / 16 * 10 + digits % 16
 }
 

@@ -1,7 +1,6 @@
 -- An entry's 32 bytes by its fields, each field with bytes of its own, so that a wrong order, a wrong width and a forgotten field are each refused by a row. Computed
 -- from the definitions, each holds by `refl`.
 use mathlib.Core.Path.{◌≡◌, refl}
-use Prim.Native.Nat.{ℕ}
 use mathlib.Core.Bool.{true, false}
 use mathlib.Core.List.{[], ◌∷◌, ◌++◌}
 use lib.ListN.{length, replicate}

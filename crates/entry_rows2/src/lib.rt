@@ -5,15 +5,9 @@
 ghost use Rattle.std.specs.Prelude.{◌≡◌, ◌+◌, ◌≤◌, ◌<◌, length};
 ghost use Rattle.model2.specs.Entry.{entry_at};
 ghost use Rattle.arrivals.specs.Listed.{entry_told};
-ghost use Rattle.entry_rows2.specs.Row.{flag, row_bytes, entry_bytes};
+ghost use Rattle.entry_rows2.specs.Row.{row_bytes, entry_bytes};
 
 use fields::Entry;
-
-fn flag_of(is: bool) -> u8
-    ensures { result ≡ flag is }
-{
-    if is { 1 } else { 0 }
-}
 
 // What is not written stays 0.
 fn fill_row(part: &mut [u8], kind: u8, locked: u8, size: usize, date: &[u8], name: &[u8])
@@ -38,7 +32,7 @@ pub fn put_row(part: &mut [u8], image: &[u8], at: usize, size: usize)
     match fields2::entry_at(image, at) {
         Entry::Vacant => shape_pages::zero(part),
         Entry::File(_, long) => {
-            let locked = flag_of(fields::is_locked(image, at));
+            let locked = u8::from(fields::is_locked(image, at));
             let date = fields2::date_of(image, at);
             let name = fields::name_of(image, at);
             fill_row(part, 0, locked, long, &date, &name);

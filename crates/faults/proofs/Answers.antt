@@ -1,15 +1,12 @@
--- Answers that were taken apart: what a clean one says, and a faulty one.
-use mathlib.Core.Path.{◌≡◌, sym, ap, ◌∙◌}
+-- The exit of a `?`: the fault that a call told is told on.
+use mathlib.Core.Path.{◌≡◌}
 use Prim.Native.Nat.{ℕ}
 use mathlib.Core.List.{List}
-use Rattle.model.specs.Judge.{Judged, fault, clean}
-use Rattle.faults.specs.declared.Check.{Check}
-use Rattle.faults.specs.declared.Check.TheVariants.{Clean, Faulty}
+use Rattle.std.specs.Prelude.{⊤, Result, Ok, Err, IsErrAnd}
+use Rattle.std.proofs.lemmas.Result.{err_from_is_err_and}
+use Rattle.model.specs.Judge.{Judged, fault}
 use Rattle.faults.specs.declared.Fault.{Fault}
 use Rattle.faults.specs.Answers.{fault_of, outcome}
 
-pub clean_of : {r : Check} {m : List ℕ} {j : Judged} → outcome r m ≡ j → r ≡ Clean → clean m ≡ j
-clean_of {r} {m} e c = sym (ap (λ (s : Check). outcome s m) c) ∙ e
-
-pub fault_of_lem : {r : Check} {j : Judged} {x : Fault} (m : List ℕ) → outcome r m ≡ j → r ≡ Faulty x → fault (fault_of x) ≡ j
-fault_of_lem m e c = sym (ap (λ (s : Check). outcome s m) c) ∙ e
+pub told_on : (r : Result ⊤ Fault) (x : Fault) (m : List ℕ) {j : Judged} → IsErrAnd r (λ y. y ≡ x) → fault (fault_of x) ≡ j → outcome r m ≡ j
+told_on r x m told e = let p = err_from_is_err_and r told in rw (p.1, p.2) e

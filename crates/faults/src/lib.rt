@@ -22,9 +22,3 @@ pub enum Fault {
     // Bit 0 is not 1, or byte 3 is not the number of zero bits among the first N (3).
     BadCount,
 }
-
-#[derive(Clone, Copy)]
-pub enum Check {
-    Clean,
-    Faulty(Fault),
-}

@@ -1,3 +1,4 @@
 pub mod Copied
 pub mod Searches
 pub mod Plain
+pub mod Lists

@@ -2,7 +2,7 @@
 // Every function answers what the model reads there and changes no byte; it asks only that what it reads lies in the image, or that a position fits.
 #![tactic(auto)]
 
-ghost use Rattle.std.specs.Prelude.{◌≡◌, ◌+◌, ◌*◌, ◌/◌, ◌^◌, ◌≤◌, ◌<◌, min, max, length};
+ghost use Rattle.std.specs.Prelude.{◌≡◌, ◌+◌, ◌*◌, ◌/◌, ◌^◌, ◌≤◌, ◌<◌, length};
 ghost use Rattle.model.specs.Layout.{page_size, pages_for, valid_length, valid_header, free_count, link};
 ghost use Rattle.model.specs.Entry.{is_locked, entry_count, entries_start, name_at, start_at, date_at, entry_at};
 ghost use Rattle.fields.specs.Read.{entry_of, Small};
@@ -21,31 +21,6 @@ pub enum Entry {
     Vacant,
     File(Page, usize),
     Directory(Page, usize),
-}
-
-// Every byte that is read as a number passes here, so that no caller has to show that it fits.
-pub fn wide(x: u8) -> usize
-    ensures { (result ≡ x) × (result < 256) }
-{
-    x as usize
-}
-
-pub fn least(a: usize, b: usize) -> usize
-    ensures { result ≡ min a b }
-{
-    if a <= b {
-        return a;
-    }
-    b
-}
-
-pub fn larger(a: usize, b: usize) -> usize
-    ensures { result ≡ max a b }
-{
-    if a <= b {
-        return b;
-    }
-    a
 }
 
 // The position of a page's first byte.
@@ -69,14 +44,7 @@ pub fn page_count(bytes: usize) -> usize
 pub fn pages_for(size: usize) -> usize
     ensures { result ≡ pages_for size }
 {
-    if size == 0 {
-        return 1;
-    }
-    if size % 255 == 0 {
-        size / 255
-    } else {
-        size / 255 + 1
-    }
+    size.div_ceil(255).max(1)
 }
 
 pub fn length_is_allowed(bytes: usize) -> bool
@@ -102,14 +70,14 @@ pub fn header_is_right(image: &[u8]) -> bool
     if image[1] != 1 {
         return false;
     }
-    wide(image[2]) == page_count(image.len()) / 8
+    usize::from(image[2]) == page_count(image.len()) / 8
 }
 
 pub fn free_count(image: &[u8]) -> usize
     requires { 4 ≤ length image.now }
     ensures { (result ≡ free_count image.now) × (result < 256) }
 {
-    wide(image[3])
+    usize::from(image[3])
 }
 
 // ---- pages
@@ -119,7 +87,7 @@ pub fn link(image: &[u8], p: Page) -> Page
     requires { page_size * p.0 < length image.now }
     ensures { (result.0 ≡ link image.now p.0) × (result.0 < 256) }
 {
-    Page(wide(image[first_byte(p)]))
+    Page(usize::from(image[first_byte(p)]))
 }
 
 // ---- directories
@@ -153,8 +121,8 @@ pub fn entry_at(image: &[u8], at: usize) -> Entry
     if flags / 128 % 2 != 1 {
         return Entry::Vacant;
     }
-    let start = Page(wide(image[at + 17]));
-    let size = wide(image[at + 18]) + 256 * wide(image[at + 19]);
+    let start = Page(usize::from(image[at + 17]));
+    let size = usize::from(image[at + 18]) + 256 * usize::from(image[at + 19]);
     if flags % 2 == 1 {
         Entry::Directory(start, size)
     } else {
@@ -167,7 +135,7 @@ pub fn start_of(image: &[u8], at: usize) -> Page
     requires { at + 32 ≤ length image.now }
     ensures { (result.0 ≡ start_at image.now at) × (result.0 < 256) }
 {
-    Page(wide(image[at + 17]))
+    Page(usize::from(image[at + 17]))
 }
 
 // A file is locked by bit 6 of its flags (02 §10).
@@ -182,10 +150,8 @@ pub fn name_of(image: &[u8], at: usize) -> [u8; 16]
     requires { at + 32 ≤ length image.now }
     ensures { result ≡ name_at image.now at }
 {
-    let from = at + 1;
-    let to = at + 17;
     let mut name = [0u8; 16];
-    name.copy_from_slice(&image[from..to]);
+    name.copy_from_slice(&image[at + 1..at + 17]);
     name
 }
 
@@ -193,9 +159,7 @@ pub fn date_of(image: &[u8], at: usize) -> [u8; 8]
     requires { at + 32 ≤ length image.now }
     ensures { result ≡ date_at image.now at }
 {
-    let from = at + 20;
-    let to = at + 28;
     let mut date = [0u8; 8];
-    date.copy_from_slice(&image[from..to]);
+    date.copy_from_slice(&image[at + 20..at + 28]);
     date
 }

@@ -46,10 +46,8 @@ pub fn date_of(image: &[u8], at: usize) -> [u8; 8]
     requires { at + 32 ≤ length image.now }
     ensures { result ≡ date_at image.now at }
 {
-    let from = at + 23;
-    let to = at + 31;
     let mut date = [0u8; 8];
-    date.copy_from_slice(&image[from..to]);
+    date.copy_from_slice(&image[at + 23..at + 31]);
     date
 }
 
@@ -58,5 +56,5 @@ pub fn pages_for(shape: Shape, size: usize) -> usize
     requires { (1 ≤ shape.size) × (size + shape.size < 2 ^ 64) }
     ensures { result ≡ pages_for shape.size size }
 {
-    fields::larger(1, (size + (shape.size - 1)) / shape.size)
+    ((size + (shape.size - 1)) / shape.size).max(1)
 }

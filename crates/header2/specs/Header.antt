@@ -1,23 +1,20 @@
--- The values of the code's enum `Header`.
-use Rattle.std.specs.Prelude.{◌≡◌, length}
+-- What a header is, in the model's words.
+use Rattle.std.specs.Prelude.{◌≡◌, length, Result, Ok, Err}
 use Rattle.std.proofs.Math.Option.{Option, none, some}
 use Rattle.volume.specs.Bytes.{Bytes}
-use Rattle.model.specs.Call.{Refusal, refusal}
+use Rattle.model.specs.Call.{Refusal as Model}
 use Rattle.model2.specs.Layout.{page_count, geometry2, code_in}
 use Rattle.shape.specs.Geometry.{geometry_of}
-use Rattle.header2.specs.declared.Header.{Header}
-use Rattle.header2.specs.declared.Header.TheVariants.{BadLength, BadVersion, BadShape, Right}
+use Rattle.shape2.specs.declared.Cartridge.{Cartridge}
+use Rattle.refusals2.specs.declared.Refusal.{Refusal}
+use Rattle.refusals2.specs.Told.{told}
 
 -- the refusal that a header is
-abbrev pub refused_by : Header → Option Refusal
-refused_by BadLength = some (refusal 1)
-refused_by BadVersion = some (refusal 2)
-refused_by BadShape = some (refusal 26)
-refused_by (Right cartridge) = none
+abbrev pub refused_by : Result Cartridge Refusal → Option Model
+refused_by (Ok cartridge) = none
+refused_by (Err r) = some (told r)
 
 -- the shape of a right one has the image's geometry, and beside it stands N
-abbrev pub Shaped : Bytes → Header → Type 0
-Shaped b BadLength = Unit {0}
-Shaped b BadVersion = Unit {0}
-Shaped b BadShape = Unit {0}
-Shaped b (Right c) = (geometry_of c.shape ≡ geometry2 (code_in b) (length b)) × (c.pages ≡ page_count (code_in b) (length b))
+abbrev pub Shaped : Bytes → Result Cartridge Refusal → Type 0
+Shaped b (Ok c) = (geometry_of c.shape ≡ geometry2 (code_in b) (length b)) × (c.pages ≡ page_count (code_in b) (length b))
+Shaped b (Err r) = Unit {0}

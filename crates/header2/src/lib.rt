@@ -8,17 +8,9 @@ ghost use Rattle.model.specs.RefusalOf.{settle};
 ghost use Rattle.model2.specs.Layout.{valid_length, is_version2, fit_code, header_lines};
 ghost use Rattle.header2.specs.Header.{refused_by, Shaped};
 
+use refusals2::Refusal;
 use shape::Cell;
 use shape2::Cartridge;
-
-// What the header of any bytes is: the first of the lines 1, 2 and 26 that holds, or the image's shape and its number of pages.
-#[derive(Clone, Copy)]
-pub enum Header {
-    BadLength,
-    BadVersion,
-    BadShape,
-    Right(Cartridge),
-}
 
 pub fn length_is_allowed(bytes: usize) -> bool
     ensures { result ≡ valid_length bytes }
@@ -69,24 +61,25 @@ pub fn code_fits(code: usize, bytes: usize) -> bool
     bytes % (8 * shape2::page_size(code)) == 0
 }
 
-// The length is judged first, then bytes 0 and 1, then the page code and the bitmap's bytes: the order of the table.
-pub fn read_header(image: &[u8]) -> Header
+// What the header of any bytes is: the image's shape and its number of pages, or the first of the lines 1, 2 and 26 that holds. The length is judged first,
+// then bytes 0 and 1, then the page code and the bitmap's bytes: the order of the table.
+pub fn read_header(image: &[u8]) -> Result<Cartridge, Refusal>
     ensures { (refused_by result ≡ settle (header_lines image.now) some none) × Shaped image.now result }
 {
     let bytes = image.len();
     if !length_is_allowed(bytes) {
-        return Header::BadLength;
+        return Err(Refusal::BadLength);
     }
     if !is_version_2(image) {
-        return Header::BadVersion;
+        return Err(Refusal::BadVersion);
     }
-    let code = fields::wide(image[6]);
+    let code = usize::from(image[6]);
     if !code_fits(code, bytes) {
-        return Header::BadShape;
+        return Err(Refusal::BadShape);
     }
     let cartridge = shape2::shape_of(bytes, code);
     if shape::load(image, Cell::Pair(2)) != cartridge.pages / 8 {
-        return Header::BadShape;
+        return Err(Refusal::BadShape);
     }
-    Header::Right(cartridge)
+    Ok(cartridge)
 }

@@ -10,17 +10,14 @@ use Rattle.volume.specs.Bytes.{Bytes}
 use Rattle.volume.proofs.Tests.{conditions_cons}
 use Rattle.model.specs.Layout.{page_count, valid_length, valid_header, free_count}
 use Rattle.model.specs.Version1.{view}
-use Rattle.model.specs.Judge.{Judged, fault, then_judge, judge_directory, judge_rest, judge_walk, judge, judge_view}
+use Rattle.model.specs.Judge.{Fault, Judged, fault, clean, then_judge, judge_directory, judge_rest, judge_walk, judge, judge_view}
 use Rattle.view_laws.specs.Marks.{unowned}
 use Rattle.view_laws.proofs.Comes.{unowned_all}
-use Rattle.faults.specs.declared.Check.{Check}
-use Rattle.faults.specs.declared.Check.TheVariants.{Clean, Faulty}
-use Rattle.faults.specs.declared.Fault.{Fault}
-use Rattle.faults.specs.Answers.{fault_of, outcome}
-use Rattle.judge.specs.Answers.{bad_length, bad_header, unsound, is_sound, concluded, judged_as}
+use Rattle.model.specs.Call.{refusal, refused, granted}
+use Rattle.model.specs.Meaning.{fault_told}
+use Rattle.judge.specs.Answers.{concluded, judged_as}
 use Rattle.owning.specs.Marked.{Marked}
 use Rattle.fields.proofs.Plain.{told, untold}
-use Rattle.faults.proofs.Answers.{clean_of, fault_of_lem}
 
 -- ---- the length
 
@@ -67,33 +64,34 @@ judge_root b m j low start post = go (page_count b) low start
     go zero l e = absurd (omega arith)
     go (suc n) l e = let u = ap unowned e ∙ unowned_all n in post n (omega arith) ∙ ap (judge_directory (suc n) (view b) 0) e
 
--- a walk that ended clean is followed by the rest, and one that did not is all; its answer is q
-module _ (b : Bytes) (q : Check) (m : List ℕ) (walked : outcome q m ≡ judge_walk b) where
-  pub walk_faulty : (x : Fault) → q ≡ Faulty x → fault (fault_of x) ≡ judge b
+-- a walk that ended clean is followed by the rest, and one that did not is all
+module _ (b : Bytes) where
+  pub walk_faulty : {x : Fault} → fault x ≡ judge_walk b → fault x ≡ judge b
   unfolding judge_view then_judge
-  walk_faulty x e = rw (← fault_of_lem m walked e)
+  walk_faulty walked = rw (← walked)
 
-  pub walk_clean : q ≡ Clean → (j : Judged) → j ≡ judge_rest (view b) m → j ≡ judge b
+  pub walk_clean : (m : List ℕ) → clean m ≡ judge_walk b → (j : Judged) → j ≡ judge_rest (view b) m → j ≡ judge b
   unfolding judge_view then_judge
-  walk_clean e j rest = rw (← clean_of walked e) rest
+  walk_clean m walked j rest = rw (← walked) rest
 
 -- ---- what any bytes are found to be
 
 module _ (b : Bytes) (valid : Bool) (long : valid ≡ valid_length (length b)) where
-  pub found_length : not valid ≡ true → bad_length ≡ judged_as b
+  pub found_length : not valid ≡ true → refused (refusal 1) ≡ judged_as b
   unfolding judged_as
   found_length t = rw (untold long t)
 
   module _ (t : not valid ≡ false) (right : Bool) (header : right ≡ valid_header b) where
-    pub found_header : not right ≡ true → bad_header ≡ judged_as b
+    pub found_header : not right ≡ true → refused (refusal 2) ≡ judged_as b
     unfolding judged_as
     found_header h = rw (told long t, untold header h)
 
-    module _ (h : not right ≡ false) (q : Check) (m : List ℕ) (judged : outcome q m ≡ judge b) where
-      pub found_fault : (x : Fault) → q ≡ Faulty x → unsound (fault_of x) ≡ judged_as b
+    module _ (h : not right ≡ false) where
+      pub found_fault : {x : Fault} → fault x ≡ judge b → refused (fault_told x) ≡ judged_as b
       unfolding judged_as concluded
-      found_fault x e = rw (told long t, told header h, ← fault_of_lem m judged e)
+      found_fault judged = rw (told long t, told header h, ← judged)
 
-      pub found_sound : q ≡ Clean → (n free : ℕ) → n ≡ page_count b → free ≡ free_count b → is_sound n free ≡ judged_as b
+      pub found_sound : (m : List ℕ) → clean m ≡ judge b → (n free : ℕ) → n ≡ page_count b → free ≡ free_count b
+          → granted (record { pages = n; free = free }) ≡ judged_as b
       unfolding judged_as concluded
-      found_sound e n free pages count = rw (told long t, told header h, ← clean_of judged e, pages, count)
+      found_sound m judged n free pages count = rw (told long t, told header h, ← judged, pages, count)

@@ -1,5 +1,5 @@
 -- A directory is judged entry by entry, each turn with fewer pages without an owner or as many, and an entry by its cases.
-use mathlib.Core.Path.{◌≡◌, refl, sym, subst, ◌∙◌}
+use mathlib.Core.Path.{◌≡◌, sym, subst, ◌∙◌}
 use mathlib.Core.Logic.{◌≢◌}
 use Prim.Native.Nat.{ℕ, zero, suc, ◌+◌, ◌-◌, ◌≤◌, ◌<◌}
 use native.Mathlib.Nat.{le_refl, le_trans, sub-zero}
@@ -16,6 +16,7 @@ use Rattle.model.specs.Layout.{page_count, pages_for}
 use Rattle.model.specs.Entry.{is_locked, entry_count, entries, name_at, date_at, entry_at}
 use Rattle.model.specs.Version1.{view}
 use Rattle.model.specs.Effect.{is_vacant}
+use Rattle.model.specs.Judge as Model
 use Rattle.model.specs.Judge.{Judged, fault, clean, bad_entry, bad_chain}
 use Rattle.model.specs.Judge.{then_judge, judge_page, judge_chain, fresh_name, judge_entry, judge_entries, judge_directory}
 use Rattle.view_laws.specs.Marks.{unowned}
@@ -25,14 +26,9 @@ use Rattle.fields.specs.declared.Entry.{Entry}
 use Rattle.fields.specs.declared.Entry.TheVariants.{Vacant, File, Directory}
 use Rattle.fields.specs.Read.{entry_of}
 use Rattle.names.proofs.Steps.{and_false}
-use Rattle.faults.specs.declared.Check.{Check}
-use Rattle.faults.specs.declared.Check.TheVariants.{Clean, Faulty}
-use Rattle.faults.specs.declared.Fault.{Fault}
-use Rattle.faults.specs.Answers.{fault_of, outcome}
 use Rattle.owning.specs.Marked.{Marked}
 use Rattle.fresh.specs.Earlier.{position, earlier}
 use Rattle.fields.proofs.Plain.{told, untold}
-use Rattle.faults.proofs.Answers.{clean_of, fault_of_lem}
 use Rattle.owning.proofs.Marks.{page_made}
 use Rattle.judge.proofs.Placed.{paged}
 
@@ -63,15 +59,15 @@ module _ {b : Bytes} {p : ℕ} {m₀ : List ℕ} where
     unfolding judge_entries count_from
     stands_last h f u = let e : entry_count p - i ≡ 0 = omega arith in sym (at.comes f u ∙ rw e)
 
-    -- one turn: the answer for entry i is r, and it leaves the marks m'
-    module _ (r : Check) (m' : List ℕ) (more : i < n)
-        (post : (f : ℕ) → unowned m ≤ f → outcome r m' ≡ judge_entry (judge_directory f (view b)) (view b) p i (earlier p i) (entry_at b (position p i)) m) where
-      pub stands_next : r ≡ Clean → Stands b p m₀ (i + 1) m'
+    -- one turn: entry i is clean, and leaves the marks m', or has a fault
+    module _ (more : i < n) where
+      pub stands_next : (m' : List ℕ) → ((f : ℕ) → unowned m ≤ f → clean m' ≡ judge_entry (judge_directory f (view b)) (view b) p i (earlier p i) (entry_at b (position p i)) m)
+          → Stands b p m₀ (i + 1) m'
       unfolding then_judge
-      stands_next e =
+      stands_next m' post =
           let u = unowned m in
           let any = any_tellable (view b) in
-          let k : Kept Any (page_count b) m (clean m') = subst (Kept Any (page_count b) m) (sym (clean_of (post u (le_refl _)) e))
+          let k : Kept Any (page_count b) m (clean m') = subst (Kept Any (page_count b) m) (sym (post u (le_refl _)))
           (comes_entry (paged b) any (judge_directory u (view b)) (judge_directory u (view b)) u
           (λ q l inside long less. comes_directory (paged b) any u u q l inside long less less)
           p i (earlier p i) (entry_at b (position p i)) m tt (λ j l. tt) at.each (le_refl _)).kept in
@@ -79,13 +75,14 @@ module _ {b : Bytes} {p : ℕ} {m₀ : List ℕ} where
             here = at.here;
             each = k.0;
             few = le_trans k.1 at.few;
-            comes = λ f h. at.comes f h ∙ turn b p (judge_directory f (view b)) i m (omega arith) ∙ rw (← clean_of (post f (le_trans at.few h)) e);
+            comes = λ f h. at.comes f h ∙ turn b p (judge_directory f (view b)) i m (omega arith) ∙ rw (← post f (le_trans at.few h));
           }
 
-      pub stands_faulty : {x : Fault} → r ≡ Faulty x → (f : ℕ) → unowned m₀ ≤ f → fault (fault_of x) ≡ judge_directory (suc f) (view b) p m₀
+      pub stands_faulty : {x : Model.Fault} → ((f : ℕ) → unowned m ≤ f → fault x ≡ judge_entry (judge_directory f (view b)) (view b) p i (earlier p i) (entry_at b (position p i)) m)
+          → (f : ℕ) → unowned m₀ ≤ f → fault x ≡ judge_directory (suc f) (view b) p m₀
       unfolding then_judge
-      stands_faulty e f h =
-          sym (at.comes f h ∙ turn b p (judge_directory f (view b)) i m (omega arith) ∙ rw (← fault_of_lem m' (post f (le_trans at.few h)) e))
+      stands_faulty post f h =
+          sym (at.comes f h ∙ turn b p (judge_directory f (view b)) i m (omega arith) ∙ rw (← post f (le_trans at.few h)))
 
 -- ---- an entry, by what was read at its position
 
@@ -137,21 +134,21 @@ module _ (b : Bytes) (d i at : ℕ) (r : Entry) (m : List ℕ) (here : at ≡ po
       unfolding judge_entry
       stale_directory below t = rw (← seen directory, untold name t)
 
-      -- its page: the answer for it is q, and it leaves the marks l
-      module _ (t : not fresh ≡ false) (s : size ≡ 0x0100) (q : Check) (l : List ℕ) (page : outcome q l ≡ judge_page (view b) (bad_chain d i 0) start.0 m) where
-        pub faulty_page : (below : ℕ → List ℕ → Judged) (x : Fault) → q ≡ Faulty x
-            → fault (fault_of x) ≡ judge_entry below (view b) d i (earlier d i) (entry_at b (position d i)) m
+      -- its page gets its owner, and leaves the marks l, or has a fault
+      module _ (t : not fresh ≡ false) (s : size ≡ 0x0100) where
+        pub faulty_page : (below : ℕ → List ℕ → Judged) {x : Model.Fault} → fault x ≡ judge_page (view b) (bad_chain d i 0) start.0 m
+            → fault x ≡ judge_entry below (view b) d i (earlier d i) (entry_at b (position d i)) m
         unfolding judge_entry then_judge
-        faulty_page below x e = rw (← seen directory, told name t, eq-eqb _ _ s, ← fault_of_lem l page e)
+        faulty_page below page = rw (← seen directory, told name t, eq-eqb _ _ s, ← page)
 
         -- the directory on a page that got its owner is judged with one unit of fuel less
-        pub directory_below : q ≡ Clean → length m ≡ page_count b → (j : Judged) → ((f : ℕ) → unowned l ≤ f → j ≡ judge_directory (suc f) (view b) start.0 l)
+        pub directory_below : (l : List ℕ) → clean l ≡ judge_page (view b) (bad_chain d i 0) start.0 m → length m ≡ page_count b → (j : Judged) → ((f : ℕ) → unowned l ≤ f → j ≡ judge_directory (suc f) (view b) start.0 l)
             → (f : ℕ) → unowned m ≤ f → j ≡ judge_entry (judge_directory f (view b)) (view b) d i (earlier d i) (entry_at b (position d i)) m
         unfolding judge_entry then_judge
-        directory_below e each j post zero h = absurd (let k = page_made b (bad_chain d i 0) start.0 m l each (clean_of page e) in omega arith)
-        directory_below e each j post (suc f) h =
-            let k = page_made b (bad_chain d i 0) start.0 m l each (clean_of page e) in
-            rw (← seen directory, told name t, eq-eqb _ _ s, ← clean_of page e) (post f (omega arith))
+        directory_below l page each j post zero h = absurd (let k = page_made b (bad_chain d i 0) start.0 m l each page in omega arith)
+        directory_below l page each j post (suc f) h =
+            let k = page_made b (bad_chain d i 0) start.0 m l each page in
+            rw (← seen directory, told name t, eq-eqb _ _ s, ← page) (post f (omega arith))
 
 -- ---- a turn over a vacant entry
 
@@ -159,4 +156,4 @@ pub stands_vacant : {b : Bytes} {p : ℕ} {m₀ : List ℕ} {n i : ℕ} {m : Lis
     → (at : ℕ) (r : Entry) → at ≡ position p i → entry_of r (is_locked b at) (name_at b at) (date_at b at) ≡ entry_at b at → r ≡ Vacant
     → Stands b p m₀ (i + 1) m
 stands_vacant {b} {p} {m₀} {n} {i} {m} count at₀ more at r here read e =
-    stands_next count at₀ Clean m more (λ f h. vacant_entry b p i at r m here read (judge_directory f (view b)) e) refl
+    stands_next count at₀ more m (λ f h. vacant_entry b p i at r m here read (judge_directory f (view b)) e)

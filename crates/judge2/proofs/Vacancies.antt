@@ -11,7 +11,7 @@ use Rattle.volume.specs.Geometry as On
 use Rattle.model.specs.Entry.{Entry, vacant, a_file, a_directory}
 use Rattle.model.specs.View.{View}
 use Rattle.model.specs.Effect.{is_vacant}
-use Rattle.model.specs.Judge.{clean, judge_entry, judge_directory}
+use Rattle.model.specs.Judge.{clean, judge_directory}
 use Rattle.model2.specs.Version2.{view2}
 use Rattle.view_laws.specs.Marks.{unowned}
 use Rattle.view_laws.proofs.Comes.{Paged}
@@ -20,14 +20,11 @@ use Rattle.shape.specs.Geometry.{geometry_of}
 use Rattle.cursor2.specs.declared.Cursor.{Cursor}
 use Rattle.cursor2.specs.Row.{row, position_at, entries_from, row_from, Stands}
 use Rattle.cursor2.proofs.Turns.{turn_same}
-use Rattle.occupied2.specs.declared.Met.{Met}
-use Rattle.occupied2.specs.declared.Met.TheVariants.{Occupied, NoMore}
-use Rattle.occupied2.specs.Passing.{is_free, past, Between, met_row, Meets}
+use Rattle.occupied2.specs.Passing.{is_free, past, Between}
 use Rattle.known2.specs.Known.{Formed}
 use Rattle.names2.specs.Reached.{earlier, Reached}
 use Rattle.names2.proofs.Earlier.{rest_tail}
 use Rattle.names2.proofs.Reaching.{whole_row, here}
-use Rattle.faults.specs.declared.Check.TheVariants.{Clean}
 use Rattle.judge2.proofs.Entries.{entry_vacant}
 use Rattle.judge2.proofs.Walk.{Walking, walking_next, walking_last}
 use Rattle.judge2.proofs.Cursors.{entries_few}
@@ -76,8 +73,8 @@ module _ {v : View} (paged : Paged v) {d : ℕ} {m₀ m : List ℕ} where
   walking_vacant : (i at : ℕ) (rest : List ℕ) → Walking v d m₀ i m → drop i (v.entries d) ≡ at ∷ rest → is_vacant (v.entry_at at) ≡ true
       → Walking v d m₀ (i + 1) m
   walking_vacant i at rest w e t =
-      walking_next w at rest e Clean m
-      (λ f h. entry_vacant v (judge_directory f v) d i (earlier (v.entries d) i) m (v.entry_at at) (is_vacant_lem (v.entry_at at) t)) paged refl
+      walking_next w at rest e paged m
+      (λ f h. entry_vacant v (judge_directory f v) d i (earlier (v.entries d) i) m (v.entry_at at) (is_vacant_lem (v.entry_at at) t))
 
 -- ---- a walk that stands before entry i, at an entry or behind the last of a page
 
@@ -101,7 +98,7 @@ pub going_few : {b : Bytes} {s : Shape} {n : ℕ} (d : ℕ) {c : Cursor} {i : �
 going_few d k g = omega (arith, g.count, entries_few d k)
 
 module _ {b : Bytes} {s : Shape} {n : ℕ} {d : ℕ} {m₀ m : List ℕ} {c : Cursor} {i : ℕ} (paged : Paged (view2 b)) (w : Walking (view2 b) d m₀ i m)
-    (g : Going b s n ((view2 b).entries d) c i) (r : Met) (left : met_row s n b r ≡ past (is_free b) (row_from s n b c)) where
+    (g : Going b s n ((view2 b).entries d) c i) where
   onward : (j : ℕ) → j + length (past (is_free b) (row_from s n b c)) ≡ i + length (row_from s n b c)
       → Walking (view2 b) d m₀ j m × (drop j ((view2 b).entries d) ≡ past (is_free b) (row_from s n b c))
   onward j z =
@@ -109,20 +106,14 @@ module _ {b : Bytes} {s : Shape} {n : ℕ} {d : ℕ} {m₀ m : List ℕ} {c : Cu
       (row_from s n b c) i j g.rest z w
 
   -- no occupied entry is left
-  pub met_none : r ≡ NoMore → (f : ℕ) → unowned m₀ ≤ f → clean m ≡ judge_directory (suc f) (view2 b) d m₀
-  met_none e f h =
-      let none : past (is_free b) (row_from s n b c) ≡ [] = sym left ∙ ap (met_row s n b) e in
+  pub met_none : [] ≡ past (is_free b) (row_from s n b c) → (f : ℕ) → unowned m₀ ≤ f → clean m ≡ judge_directory (suc f) (view2 b) d m₀
+  met_none none f h =
       let on = onward (i + length (row_from s n b c)) (omega (arith, ap (λ (l : List ℕ). length l) none)) in
-      walking_last on.0 (on.1 ∙ none) f h
+      walking_last on.0 (on.1 ∙ sym none) f h
 
   -- entry j is the next occupied one
-  module _ {at : Cursor} {j : ℕ} (e : r ≡ Occupied at j) (t : Meets s n b (i + length (row_from s n b c)) r) where
-    stands : Stands s n b at × (j + length (row_from s n b at) ≡ i + length (row_from s n b c))
-    stands = subst (Meets s n b (i + length (row_from s n b c))) e t
-
-    row_at : row_from s n b at ≡ past (is_free b) (row_from s n b c)
-    row_at = ap (met_row s n b) (sym e) ∙ left
-
+  module _ {at : Cursor} (j : ℕ) (row_at : row_from s n b at ≡ past (is_free b) (row_from s n b c))
+      (stands : Stands s n b at × (j + length (row_from s n b at) ≡ i + length (row_from s n b c))) where
     there : Walking (view2 b) d m₀ j m × (drop j ((view2 b).entries d) ≡ past (is_free b) (row_from s n b c))
     there = onward j (omega (arith, stands.1, ap (λ (l : List ℕ). length l) row_at))
 

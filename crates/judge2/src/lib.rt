@@ -15,24 +15,22 @@ ghost use Rattle.cursor2.specs.Row.{position_at};
 ghost use Rattle.occupied2.specs.Passing.{is_free};
 ghost use Rattle.known2.specs.Known.{Formed};
 ghost use Rattle.names2.specs.Reached.{earlier, Reached};
-ghost use Rattle.judge2.specs.Answers.{finding_of, concluded, judged_as, Shaped};
+ghost use Rattle.outcomes.specs.Answers.{answered};
+ghost use Rattle.refusals2.specs.Told.{told};
+ghost use Rattle.judge2.specs.Answers.{counted, concluded, judged_as, Shaped};
 
 use cursor2::Cursor;
-use faults::{Check, Fault};
+use faults::Fault;
 use fields::{Entry, Page};
-use header2::Header;
-use occupied2::Met;
+use refusals2::Refusal;
 use shape::Shape;
 use shape2::Cartridge;
 
-// What any bytes are: refused by 1, 2 or 26, unsound by their first fault, or sound, with their shape, N and the number of free pages.
+// A sound image has this shape with N, and of its pages so many are free.
 #[derive(Clone, Copy)]
-pub enum Judgement {
-    Sound(Cartridge, usize),
-    BadLength,
-    BadVersion,
-    BadShape,
-    Unsound(Fault),
+pub struct Judged {
+    pub cartridge: Cartridge,
+    pub free: usize,
 }
 
 // The shape of an image whose header is right, from its length and page code.
@@ -40,7 +38,7 @@ fn shape_of_image(image: &[u8]) -> Cartridge
     requires { Allowed (code_in image.now) (length image.now) }
     ensures { Formed image.now result.shape result.pages }
 {
-    let code = fields::wide(image[6]);
+    let code = usize::from(image[6]);
     shape2::shape_of(image.len(), code)
 }
 
@@ -57,7 +55,7 @@ fn judge_entry(
     directory: Page,
     cursor: Cursor,
     number: usize,
-) -> Check
+) -> Result<(), Fault>
     requires { Formed image.now shape pages × (length marks.old ≡ pages) × Inside (view2 image.now) directory.0
         × Reached image.now shape pages ((view2 image.now).entries directory.0) cursor number
         × (is_free image.now (position_at shape pages cursor) ≡ false) }
@@ -70,22 +68,19 @@ fn judge_entry(
     let on = cursor.page;
     let i = cursor.number;
     if !names2::name_is_fresh(image, shape, pages, directory, cursor, number) {
-        return Check::Faulty(Fault::BadEntry(on, i));
+        return Err(Fault::BadEntry(on, i));
     }
     match fields2::entry_at(image, cursor2::position_of(image, shape, pages, cursor)) {
-        Entry::Vacant => Check::Clean,
+        Entry::Vacant => Ok(()),
         Entry::File(start, size) => {
             let k = fields2::pages_for(shape, size);
             owning2::own_chain(image, shape, marks, on, i, k, start)
         }
         Entry::Directory(start, size) => {
             if size != shape.size {
-                return Check::Faulty(Fault::BadEntry(on, i));
+                return Err(Fault::BadEntry(on, i));
             }
-            let owned = owning2::own_directory(image, shape, marks, on, i, start);
-            if let Check::Faulty(fault) = owned {
-                return Check::Faulty(fault);
-            }
+            owning2::own_directory(image, shape, marks, on, i, start)?;
             judge_directory(image, marks, start)
         }
     }
@@ -94,7 +89,7 @@ fn judge_entry(
 // Judges the entries of a directory in order, on all its pages; vacant ones are clean and are passed over. The root is the directory on page 0.
 // The shape is made for each entry: handed on, or kept while a directory below is judged, it would lie on the stack once for each directory above.
 #[cycle(judge_directory_judge_entry)]
-fn judge_directory(image: &[u8], marks: &mut [u8], directory: Page) -> Check
+fn judge_directory(image: &[u8], marks: &mut [u8], directory: Page) -> Result<(), Fault>
     requires { Allowed (code_in image.now) (length image.now) × (length marks.old ≡ page_count (code_in image.now) (length image.now))
         × Inside (view2 image.now) directory.0 }
     ensures { (f : ℕ) → unowned marks.old ≤ f →
@@ -108,14 +103,12 @@ fn judge_directory(image: &[u8], marks: &mut [u8], directory: Page) -> Check
         let cartridge = shape_of_image(image);
         let shape = cartridge.shape;
         let pages = cartridge.pages;
-        let Met::Occupied(at, i) = occupied2::next_occupied(image, shape, pages, cursor, number)
-        else {
-            return Check::Clean;
+        let Some(met) = occupied2::next_occupied(image, shape, pages, cursor, number) else {
+            return Ok(());
         };
-        let judged = judge_entry(image, shape, pages, marks, directory, at, i);
-        if let Check::Faulty(fault) = judged {
-            return Check::Faulty(fault);
-        }
+        let at = met.cursor;
+        let i = met.number;
+        judge_entry(image, shape, pages, marks, directory, at, i)?;
         let page = at.page;
         let left = at.left;
         cursor = Cursor {
@@ -130,53 +123,41 @@ fn judge_directory(image: &[u8], marks: &mut [u8], directory: Page) -> Check
 // ---- the image
 
 // The walk alone: every owned page gets its owner mark, none having one at the beginning. The root's pages after page 0 come first (§12).
-fn own_pages(image: &[u8], shape: Shape, pages: usize, marks: &mut [u8]) -> Check
+fn own_pages(image: &[u8], shape: Shape, pages: usize, marks: &mut [u8]) -> Result<(), Fault>
     requires { Formed image.now shape pages × (marks.old ≡ replicate pages 0) }
     ensures { outcome result marks.new ≡ judge_root (view2 image.now) }
 {
-    let owned = owning2::own_root(image, shape, marks);
-    if let Check::Faulty(fault) = owned {
-        return Check::Faulty(fault);
-    }
+    owning2::own_root(image, shape, marks)?;
     judge_directory(image, marks, Page(0))
 }
 
 // The walk, and what comes after it.
-fn judge_all(image: &[u8], shape: Shape, pages: usize, marks: &mut [u8]) -> Check
+fn judge_all(image: &[u8], shape: Shape, pages: usize, marks: &mut [u8]) -> Result<(), Fault>
     requires { Formed image.now shape pages × (marks.old ≡ replicate pages 0) }
     ensures { outcome result marks.new ≡ judge_view (view2 image.now) }
 {
-    let judged = own_pages(image, shape, pages, marks);
-    if let Check::Faulty(fault) = judged {
-        return Check::Faulty(fault);
-    }
+    own_pages(image, shape, pages, marks)?;
     rest2::judge_rest(image, shape, marks)
 }
 
 // An image whose header is right. The free number of a sound one is the header's, for `judge_rest` has counted it.
-fn judge_formed(image: &[u8], cartridge: Cartridge) -> Judgement
+fn judge_formed(image: &[u8], cartridge: Cartridge) -> Result<Judged, Refusal>
     requires { Formed image.now cartridge.shape cartridge.pages }
-    ensures { (finding_of result ≡ concluded (view2 image.now) (judge_view (view2 image.now))) × Shaped image.now result }
+    ensures { (answered told counted result ≡ concluded (view2 image.now) (judge_view (view2 image.now))) × Shaped image.now result }
 {
     let shape = cartridge.shape;
     let n = cartridge.pages;
     let mut marks = [0u8; 1024];
-    let judged = judge_all(image, shape, n, &mut marks[..n]);
-    if let Check::Faulty(fault) = judged {
-        return Judgement::Unsound(fault);
-    }
-    let count = shape.count;
-    Judgement::Sound(cartridge, shape::load(image, count))
+    judge_all(image, shape, n, &mut marks[..n])?;
+    let free = shape::load(image, shape.count);
+    Ok(Judged { cartridge, free })
 }
 
-// The length is judged first, then the version, then the page code with the bitmap's bytes, then the rest: 1, 2 and 26 stand above the faults.
-pub fn judge_image(image: &[u8]) -> Judgement
-    ensures { (finding_of result ≡ judged_as image.now) × Shaped image.now result }
+// What any bytes are: sound, with the image's shape, or refused by 1, 2 or 26 or by their first fault. The length is judged first, then the version, then
+// the page code with the bitmap's bytes, then the rest: 1, 2 and 26 stand above the faults.
+pub fn judge_image(image: &[u8]) -> Result<Judged, Refusal>
+    ensures { (answered told counted result ≡ judged_as image.now) × Shaped image.now result }
 {
-    match header2::read_header(image) {
-        Header::BadLength => Judgement::BadLength,
-        Header::BadVersion => Judgement::BadVersion,
-        Header::BadShape => Judgement::BadShape,
-        Header::Right(cartridge) => judge_formed(image, cartridge),
-    }
+    let cartridge = header2::read_header(image)?;
+    judge_formed(image, cartridge)
 }

@@ -19,7 +19,7 @@ use Rattle.model.specs.Path.{Name, Path, no_path, root, below, path_of, is_no_pa
 use Rattle.model.specs.Walk.{Walked, arrived, missing, blocked, walk, walk_to, in_walked, node_named, arrived_or}
 use Rattle.model.specs.Call.{Call, make_file, remove_file, refusal, refused, granted}
 use Rattle.model.specs.Refusal.{is_missing, is_blocked, is_there, is_directory_node, is_locked_node, make_lines, refusals, settle, Passes}
-use Rattle.model.specs.Meaning.{in_parent, is_format, lines, tree_answer, answer, after}
+use Rattle.model.specs.Meaning.{in_parent, is_format, lines, answer, after}
 use Rattle.model.specs.MeaningOf
 use Rattle.model.specs.RefusalOf
 use Rattle.laws.proofs.Facts.{sound_facts_lem}

@@ -9,12 +9,12 @@ use lib.ListN.{length, replicate, length-replicate}
 use lib.Dec.{T, ltb, leb, leb→le, leb-suc-zero, nltb→le}
 use borrow.Author.Tests.{le-ltb}
 use Rattle.volume.specs.Bytes.{Bytes}
-use Rattle.std.specs.Prelude.{if◌then◌else◌}
+use Rattle.std.specs.Prelude.{if◌then◌else◌, ⊤, Result, Ok, Err}
 use Rattle.model.specs.Layout.{pages_for, free_count}
 use Rattle.model.specs.Sound.{sound}
 use Rattle.model.specs.Tree.{free_number}
 use Rattle.model.specs.Image.{tree_of}
-use Rattle.model.specs.Call.{Call, verdict, make_file, write, remove_file, Verdict, refusal, Answer, refused, granted}
+use Rattle.model.specs.Call.{Call, verdict, make_file, write, remove_file, Verdict, Refusal, refusal, Answer, refused, granted}
 use Rattle.model.specs.Refusal.{Line, make_lines, refusals, settle, Passes}
 use Rattle.model.specs.Meaning.{is_format, lines, answer, after}
 use Rattle.model.specs.MeaningOf
@@ -28,11 +28,7 @@ use Rattle.store_laws.proofs.Made.{first_pages}
 use Rattle.store_laws.proofs.Calls.{opens_first, write_granted}
 use Rattle.refusals.specs.declared.Refusal.{Refusal as Base}
 use Rattle.refusals.specs.Told.{told}
-use Rattle.answers.specs.declared.VerdictAnswer.{VerdictAnswer}
-use Rattle.answers.specs.declared.VerdictAnswer.TheVariants as judged
-use Rattle.answers.specs.declared.ChangeAnswer.{ChangeAnswer}
-use Rattle.answers.specs.declared.ChangeAnswer.TheVariants as change
-use Rattle.answers.specs.Answers.{verdict_answer, change_answer}
+use Rattle.answers.specs.Answers.{change_answer}
 use Rattle.link_list.specs.Links.{run_after}
 use Rattle.link_list.proofs.Writing.{settle_passed}
 use Rattle.link_anew.specs.Anew.{replacing, taken, anew, first_of, run_answer, if_granted, run_whole, RunsTo, KeptBy, HasRoom}
@@ -113,15 +109,15 @@ module _ (path date v b : Bytes) (room : HasRoom (length v) b) where
         go (refused f) e = k f e
         go (granted y) e = absurd (not_granted (made_all y e ∙ sym p))
 
-  pub in_place : (r : ChangeAnswer) (b' : Bytes) → RunsTo r (anew path date v b) b b' → KeptBy (first_of path date b) b b'
+  pub in_place : (r : Result ⊤ Base) (b' : Bytes) → RunsTo r (anew path date v b) b b' → KeptBy (first_of path date b) b b'
       → (change_answer r ≡ run_answer (anew path date v b) b) × (b' ≡ run_whole (anew path date v b) b)
   unfolding run_whole if_granted
-  in_place change.Done b' p k = (p.0, p.1 ∙ ap (λ (a : Answer (Unit {0})). if_granted a b (run_after (anew path date v b) b)) p.0)
-  in_place (change.Refused q) b' p k = (p, kept b' (taken path date b) refl q p k ∙ ap (λ (a : Answer (Unit {0})). if_granted a b (run_after (anew path date v b) b)) p)
+  in_place (Ok _) b' p k = (p.0, p.1 ∙ ap (λ (a : Answer (Unit {0})). if_granted a b (run_after (anew path date v b) b)) p.0)
+  in_place (Err q) b' p k = (p, kept b' (taken path date b) refl q p k ∙ ap (λ (a : Answer (Unit {0})). if_granted a b (run_after (anew path date v b) b)) p)
 
 -- ---- the free pages, by the verdict
 
-module _ (b : Bytes) (r : VerdictAnswer) (said : verdict_answer r ≡ answer verdict b) where
+module _ (b : Bytes) where
   sound_told : T (sound b) → answer verdict b ≡ granted (record { pages = (tree_of b).pages; free = free_number (tree_of b) })
   unfolding MeaningOf.tree_answer MeaningOf.told RefusalOf.refusals RefusalOf.earlier RefusalOf.later RefusalOf.wanted settle
   sound_told h = (as_tree_lem verdict b h).answered ∙ rw (leb-suc-zero (free_number (tree_of b))) refl
@@ -130,21 +126,20 @@ module _ (b : Bytes) (r : VerdictAnswer) (said : verdict_answer r ≡ answer ver
   free_or (refused f) = 0
   free_or (granted v) = v.free
 
-  verdict_sound : (pages free : ℕ) → r ≡ judged.Sound pages free → T (sound b) × (free ≡ free_count b)
+  verdict_sound : (v : Verdict) → granted v ≡ answer verdict b → T (sound b) × (v.free ≡ free_count b)
   unfolding free_or MeaningOf.answer is_format
-  verdict_sound pages free e =
-      let said-so : granted (record { pages = pages; free = free }) ≡ answer verdict b = ap verdict_answer (sym e) ∙ said in
-      let h = (sound_passed verdict b tt (granted_passed (lines verdict b) _ _ (sym said-so))).0 in
-      (h, ap free_or (said-so ∙ sound_told h) ∙ free_number_lem (sound_facts_lem h))
+  verdict_sound v said =
+      let h = (sound_passed verdict b tt (granted_passed (lines verdict b) _ _ (sym said))).0 in
+      (h, ap free_or (said ∙ sound_told h) ∙ free_number_lem (sound_facts_lem h))
 
-  pub free_room : (pages free : ℕ) → r ≡ judged.Sound pages free → (n wanted : ℕ) → wanted ≡ pages_for n
-      → (leb wanted free ≡ true → HasRoom n b) × (leb wanted free ≡ false → T (sound b))
-  free_room pages free e n wanted w =
-      let x = verdict_sound pages free e in
-      (λ t h. omega (arith, leb→le wanted free (subst T (sym t) tt), w, x.1), λ t. x.0)
+  pub free_room : (v : Verdict) → granted v ≡ answer verdict b → (n wanted : ℕ) → wanted ≡ pages_for n
+      → (leb wanted v.free ≡ true → HasRoom n b) × (leb wanted v.free ≡ false → T (sound b))
+  free_room v said n wanted w =
+      let x = verdict_sound v said in
+      (λ t h. omega (arith, leb→le wanted v.free (subst T (sym t) tt), w, x.1), λ t. x.0)
 
-  pub verdict_refused : (q : Base) → r ≡ judged.Refused q → T (sound b) → ⊥
-  verdict_refused q e h = not_granted (sym (ap verdict_answer (sym e) ∙ said ∙ sound_told h))
+  pub verdict_refused : (f : Refusal) → refused f ≡ answer verdict b → T (sound b) → ⊥
+  verdict_refused f said h = not_granted (sym (said ∙ sound_told h))
 
 -- one page
 pub small_room : (n : ℕ) (b : Bytes) → n ≤ 255 → pages_for n ≤ max 1 (free_count b)

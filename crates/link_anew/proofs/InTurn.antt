@@ -8,17 +8,15 @@ use mathlib.Core.List.{List, [], ◌∷◌, ◌++◌, append-nil}
 use lib.ListN.{length, take, replicate, length-replicate, drop_of_length-le}
 use lib.Seq.{length-take-le}
 use lib.Dec.{eqb}
-use borrow.Author.Tests.{ne_eqb}
 use Rattle.volume.specs.Bytes.{Bytes, put}
-use Rattle.std.specs.Prelude.{if◌then◌else◌}
+use Rattle.std.specs.Prelude.{if◌then◌else◌, ⊤, Result, Ok, Err, IsErrAnd}
+use Rattle.std.proofs.lemmas.Result.{err_from_is_err_and}
 use Rattle.model.specs.Call.{Call, make_file, write, remove_file, Told, Refusal, Answer, refused, granted}
 use Rattle.model.specs.Meaning.{answer, after}
 use Rattle.laws.proofs.Lines.{not_granted}
 use Rattle.laws.proofs.Steps.{untouched}
 use Rattle.refusals.specs.declared.Refusal.{Refusal as Base}
 use Rattle.refusals.specs.Told.{told}
-use Rattle.answers.specs.declared.ChangeAnswer.{ChangeAnswer}
-use Rattle.answers.specs.declared.ChangeAnswer.TheVariants as change
 use Rattle.answers.specs.Answers.{change_answer}
 use Rattle.link_list.specs.Links.{run_after}
 use Rattle.link_anew.specs.Anew.{replacing, is_taken, taken, anew, first_of, then_answer, run_answer, if_granted, run_whole, RunsTo, KeptBy}
@@ -33,41 +31,41 @@ pub turn_granted : (c : Call) (cs : List Call) (b : Bytes) (y : Told c) → gran
 unfolding run_answer then_answer
 turn_granted c cs b y e = ap (λ (a : Answer (Told c)). then_answer a (run_answer cs (after c b))) e
 
--- a call that was refused ends it
-stops : (c : Call) (cs : List Call) (b b' : Bytes) (a : ChangeAnswer) (q : Base) → a ≡ change.Refused q → refused (told q) ≡ answer c b → RunsTo a (c ∷ cs) b b'
-stops c cs b b' a q e k = subst (λ (x : ChangeAnswer). RunsTo x (c ∷ cs) b b') (sym e) (turn_refused c cs b (told q) k)
+-- a call that was refused ends it, by the exit of a `?`
+stops : (c : Call) (cs : List Call) (b b' : Bytes) (r : Result ⊤ Base) (q : Base) → IsErrAnd r (λ y. y ≡ q) → refused (told q) ≡ answer c b → RunsTo r (c ∷ cs) b b'
+stops c cs b b' r q is k = let p = err_from_is_err_and r is in rw (p.1, p.2) (turn_refused c cs b (told q) k)
 
 -- one that was granted is followed by the others
-goes_on : (c : Call) (cs : List Call) (b b₁ b₂ : Bytes) (y : Told c) → granted y ≡ answer c b → b₁ ≡ after c b → (r : ChangeAnswer) → RunsTo r cs b₁ b₂ → RunsTo r (c ∷ cs) b b₂
+goes_on : (c : Call) (cs : List Call) (b b₁ b₂ : Bytes) (y : Told c) → granted y ≡ answer c b → b₁ ≡ after c b → (r : Result ⊤ Base) → RunsTo r cs b₁ b₂ → RunsTo r (c ∷ cs) b b₂
 unfolding run_after
-goes_on c cs b b₁ b₂ y e k change.Done p = (p.0 ∙ ap (run_answer cs) k ∙ turn_granted c cs b y e, p.1 ∙ ap (run_after cs) k)
-goes_on c cs b b₁ b₂ y e k (change.Refused q) p = p ∙ ap (run_answer cs) k ∙ turn_granted c cs b y e
+goes_on c cs b b₁ b₂ y e k (Ok _) p = (p.0 ∙ ap (run_answer cs) k ∙ turn_granted c cs b y e, p.1 ∙ ap (run_after cs) k)
+goes_on c cs b b₁ b₂ y e k (Err q) p = p ∙ ap (run_answer cs) k ∙ turn_granted c cs b y e
 
-written_last : (path v b b' : Bytes) (r : ChangeAnswer) → change_answer r ≡ answer (write path 0 v) b → b' ≡ after (write path 0 v) b → RunsTo r (write path 0 v ∷ []) b b'
+written_last : (path v b b' : Bytes) (r : Result ⊤ Base) → change_answer r ≡ answer (write path 0 v) b → b' ≡ after (write path 0 v) b → RunsTo r (write path 0 v ∷ []) b b'
 unfolding run_answer run_after
-written_last path v b b' change.Done e k = (turn_granted (write path 0 v) [] b tt e, k)
-written_last path v b b' (change.Refused q) e k = turn_refused (write path 0 v) [] b (told q) e
+written_last path v b b' (Ok _) e k = (turn_granted (write path 0 v) [] b tt e, k)
+written_last path v b b' (Err q) e k = turn_refused (write path 0 v) [] b (told q) e
 
 -- ---- a file in place of an old one
 
 module _ (path date v b : Bytes) where
-  pub make_stops : (b' : Bytes) (a : ChangeAnswer) (q : Base) → a ≡ change.Refused q → change_answer a ≡ answer (make_file path date) b → RunsTo a (replacing path date false v) b b'
+  pub make_stops : (b' : Bytes) (r : Result ⊤ Base) (q : Base) → IsErrAnd r (λ y. y ≡ q) → refused (told q) ≡ answer (make_file path date) b → RunsTo r (replacing path date false v) b b'
   unfolding replacing
-  make_stops b' a q e k = stops (make_file path date) (write path 0 v ∷ []) b b' a q e (ap change_answer (sym e) ∙ k)
+  make_stops b' r q is k = stops (make_file path date) (write path 0 v ∷ []) b b' r q is k
 
-  pub made_written : (b₁ b₂ : Bytes) (a : ChangeAnswer) → a ≡ change.Done → change_answer a ≡ answer (make_file path date) b → b₁ ≡ after (make_file path date) b
-      → (r : ChangeAnswer) → change_answer r ≡ answer (write path 0 v) b₁ → b₂ ≡ after (write path 0 v) b₁ → RunsTo r (replacing path date false v) b b₂
+  pub made_written : (b₁ b₂ : Bytes) → granted tt ≡ answer (make_file path date) b → b₁ ≡ after (make_file path date) b
+      → (r : Result ⊤ Base) → change_answer r ≡ answer (write path 0 v) b₁ → b₂ ≡ after (write path 0 v) b₁ → RunsTo r (replacing path date false v) b b₂
   unfolding replacing
-  made_written b₁ b₂ a e k s r w t = goes_on (make_file path date) (write path 0 v ∷ []) b b₁ b₂ tt (ap change_answer (sym e) ∙ k) s r (written_last path v b₁ b₂ r w t)
+  made_written b₁ b₂ k s r w t = goes_on (make_file path date) (write path 0 v ∷ []) b b₁ b₂ tt k s r (written_last path v b₁ b₂ r w t)
 
-  pub removal_stops : (b' : Bytes) (a : ChangeAnswer) (q : Base) → a ≡ change.Refused q → change_answer a ≡ answer (remove_file path) b → RunsTo a (replacing path date true v) b b'
+  pub removal_stops : (b' : Bytes) (r : Result ⊤ Base) (q : Base) → IsErrAnd r (λ y. y ≡ q) → refused (told q) ≡ answer (remove_file path) b → RunsTo r (replacing path date true v) b b'
   unfolding replacing
-  removal_stops b' a q e k = stops (remove_file path) (make_file path date ∷ write path 0 v ∷ []) b b' a q e (ap change_answer (sym e) ∙ k)
+  removal_stops b' r q is k = stops (remove_file path) (make_file path date ∷ write path 0 v ∷ []) b b' r q is k
 
-  pub removed_made : (b₁ b₂ : Bytes) (a : ChangeAnswer) → a ≡ change.Done → change_answer a ≡ answer (remove_file path) b → b₁ ≡ after (remove_file path) b
-      → (r : ChangeAnswer) → RunsTo r (replacing path date false v) b₁ b₂ → RunsTo r (replacing path date true v) b b₂
+  pub removed_made : (b₁ b₂ : Bytes) → granted tt ≡ answer (remove_file path) b → b₁ ≡ after (remove_file path) b
+      → (r : Result ⊤ Base) → RunsTo r (replacing path date false v) b₁ b₂ → RunsTo r (replacing path date true v) b b₂
   unfolding replacing
-  removed_made b₁ b₂ a e k s r w = goes_on (remove_file path) (make_file path date ∷ write path 0 v ∷ []) b b₁ b₂ tt (ap change_answer (sym e) ∙ k) s r w
+  removed_made b₁ b₂ k s r w = goes_on (remove_file path) (make_file path date ∷ write path 0 v ∷ []) b b₁ b₂ tt k s r w
 
 -- a call that was granted, or left what it leaves
 pub done_keeps : (c : Call) (b b' : Bytes) (y : Told c) → granted y ≡ answer c b → KeptBy c b b'
@@ -79,39 +77,18 @@ after_keeps c b b' k f e = k ∙ (untouched c b f e).image
 -- ---- the make tells whether there is an old file
 
 module _ (path date v b : Bytes) where
-  abbrev Puts : Bool → ChangeAnswer → Bytes → Type 0
+  abbrev Puts : Bool → Result ⊤ Base → Bytes → Type 0
   Puts old r b' = RunsTo r (replacing path date old v) b b' × KeptBy (if old then remove_file path else make_file path date) b b'
 
-  none_old : (r : ChangeAnswer) (b' : Bytes) → taken path date b ≡ false → RunsTo r (replacing path date false v) b b' → KeptBy (make_file path date) b b' → Puts (taken path date b) r b'
+  none_old : (r : Result ⊤ Base) (b' : Bytes) → taken path date b ≡ false → RunsTo r (replacing path date false v) b b' → KeptBy (make_file path date) b b' → Puts (taken path date b) r b'
   none_old r b' e p k = subst (λ (old : Bool). Puts old r b') (sym e) (p, k)
 
-  pub put_made : (b₁ b₂ : Bytes) (a : ChangeAnswer) → a ≡ change.Done → change_answer a ≡ answer (make_file path date) b → b₁ ≡ after (make_file path date) b
-      → (r : ChangeAnswer) → change_answer r ≡ answer (write path 0 v) b₁ → b₂ ≡ after (write path 0 v) b₁
+  pub put_made : (b₁ b₂ : Bytes) → granted tt ≡ answer (make_file path date) b → b₁ ≡ after (make_file path date) b
+      → (r : Result ⊤ Base) → change_answer r ≡ answer (write path 0 v) b₁ → b₂ ≡ after (write path 0 v) b₁
       → RunsTo r (anew path date v b) b b₂ × KeptBy (first_of path date b) b b₂
   unfolding is_taken
-  put_made b₁ b₂ a e k s r w t =
-      let made : granted tt ≡ answer (make_file path date) b = ap change_answer (sym e) ∙ k in
-      none_old r b₂ (ap is_taken (sym made)) (made_written path date v b b₁ b₂ a e k s r w t) (done_keeps (make_file path date) b b₂ tt made)
-
-  module _ (b₁ : Bytes) (a : ChangeAnswer) (q : Base) (e : a ≡ change.Refused q) (k : change_answer a ≡ answer (make_file path date) b) (s : b₁ ≡ after (make_file path date) b) where
-    said : refused (told q) ≡ answer (make_file path date) b
-    said = ap change_answer (sym e) ∙ k
-
-    taken_by : taken path date b ≡ eqb (told q).number 8
-    unfolding is_taken
-    taken_by = ap is_taken (sym said)
-
-    pub put_refused : ((told q).number ≡ 8 → ⊥) → RunsTo (change.Refused q) (anew path date v b) b b₁ × KeptBy (first_of path date b) b b₁
-    put_refused n =
-        none_old (change.Refused q) b₁ (taken_by ∙ ne_eqb (told q).number 8 n)
-        (subst (λ (r : ChangeAnswer). RunsTo r (replacing path date false v) b b₁) e (make_stops path date v b b₁ a q e k)) (after_keeps (make_file path date) b b₁ s)
-
-    pub put_replaced : (told q).number ≡ 8 → (r : ChangeAnswer) (b₂ : Bytes) → RunsTo r (replacing path date true v) b₁ b₂ → KeptBy (remove_file path) b₁ b₂
-        → RunsTo r (anew path date v b) b b₂ × KeptBy (first_of path date b) b b₂
-    put_replaced n r b₂ p u =
-        let same : b₁ ≡ b = s ∙ (untouched (make_file path date) b (told q) (sym said)).image in
-        let is-old : taken path date b ≡ true = taken_by ∙ ap (λ (m : ℕ). eqb m 8) n in
-        subst (λ (old : Bool). Puts old r b₂) (sym is-old) (subst (λ (x : Bytes). RunsTo r (replacing path date true v) x b₂ × KeptBy (remove_file path) x b₂) same (p, u))
+  put_made b₁ b₂ made s r w t =
+      none_old r b₂ (ap is_taken (sym made)) (made_written path date v b b₁ b₂ made s r w t) (done_keeps (make_file path date) b b₂ tt made)
 
 -- ---- The same by the make's answer alone. `put_in_turn` names these laws, and by them the check proves both returns after a refused make. A refused make
 -- leaves the image, and ends the calls that begin with it.
@@ -163,24 +140,22 @@ put_over : (v w : Bytes) → length w ≤ length v → put 0 v w ≡ v
 put_over v w h = let k : length w ≤ 0 + length v = omega arith in ap (λ (u : Bytes). v ++ u) (drop_of_length-le w k) ∙ append-nil v
 
 -- the copy, and what came of it
-module _ (path date v b c c₁ c₂ : Bytes) (long : length c ≡ length b) (copied : c₁ ≡ put 0 b c) (r : ChangeAnswer) (runs : RunsTo r (anew path date v c₁) c₁ c₂) where
+module _ (path date v b c c₁ c₂ : Bytes) (long : length c ≡ length b) (copied : c₁ ≡ put 0 b c) where
   abbrev calls : List Call
   calls = anew path date v b
 
   same_bytes : c₁ ≡ b
   same_bytes = copied ∙ put_over b c (omega arith)
 
-  from_image : RunsTo r calls b c₂
-  from_image = subst (λ (x : Bytes). RunsTo r (anew path date v x) x c₂) same_bytes runs
-
-  pub copy_refused : (q : Base) → r ≡ change.Refused q → (change_answer r ≡ run_answer calls b) × (b ≡ run_whole calls b)
+  pub copy_refused : (q : Base) → RunsTo (Err q) (anew path date v c₁) c₁ c₂ → (refused (told q) ≡ run_answer calls b) × (b ≡ run_whole calls b)
   unfolding run_whole if_granted
-  copy_refused q e =
-      let k : refused (told q) ≡ run_answer calls b = subst (λ (x : ChangeAnswer). RunsTo x calls b c₂) e from_image in
-      (ap change_answer e ∙ k, ap (λ (a : Answer (Unit {0})). if_granted a b (run_after calls b)) k)
+  copy_refused q runs =
+      let k : refused (told q) ≡ run_answer calls b = subst (λ (x : Bytes). refused (told q) ≡ run_answer (anew path date v x) x) same_bytes runs in
+      (k, ap (λ (a : Answer (Unit {0})). if_granted a b (run_after calls b)) k)
 
-  pub copy_done : r ≡ change.Done → (b' : Bytes) → length c₂ ≡ length b → b' ≡ put 0 c₂ b → (change_answer r ≡ run_answer calls b) × (b' ≡ run_whole calls b)
+  pub copy_done : (granted tt ≡ run_answer (anew path date v c₁) c₁) × (c₂ ≡ run_after (anew path date v c₁) c₁) → (b' : Bytes) → length c₂ ≡ length b → b' ≡ put 0 c₂ b
+      → (granted tt ≡ run_answer calls b) × (b' ≡ run_whole calls b)
   unfolding run_whole if_granted
-  copy_done e b' l k =
-      let p : (granted tt ≡ run_answer calls b) × (c₂ ≡ run_after calls b) = subst (λ (x : ChangeAnswer). RunsTo x calls b c₂) e from_image in
-      (ap change_answer e ∙ p.0, k ∙ put_over c₂ b (omega arith) ∙ p.1 ∙ ap (λ (a : Answer (Unit {0})). if_granted a b (run_after calls b)) p.0)
+  copy_done runs b' l k =
+      let p : (granted tt ≡ run_answer calls b) × (c₂ ≡ run_after calls b) = subst (λ (x : Bytes). (granted tt ≡ run_answer (anew path date v x) x) × (c₂ ≡ run_after (anew path date v x) x)) same_bytes runs in
+      (p.0, k ∙ put_over c₂ b (omega arith) ∙ p.1 ∙ ap (λ (a : Answer (Unit {0})). if_granted a b (run_after calls b)) p.0)

@@ -1,13 +1,12 @@
 -- The base's calls that make a file anew with its content, in turn (paper 02 §4), of which the first refusal ends it.
-use Rattle.std.specs.Prelude.{◌≡◌, ℕ, ◌≤◌, max, Bool, false, List, [], ◌∷◌, ◌++◌, T, eqb, if◌then◌else◌}
+use Rattle.std.specs.Prelude.{◌≡◌, ℕ, ◌≤◌, max, Bool, false, List, [], ◌∷◌, ◌++◌, T, eqb, if◌then◌else◌, ⊤, Result, Ok, Err}
 use Rattle.volume.specs.Bytes.{Bytes}
 use Rattle.model.specs.Layout.{pages_for, free_count}
 use Rattle.model.specs.Sound.{sound}
 use Rattle.model.specs.Call.{Call, make_file, write, remove_file, Refusal, Answer, refused, granted}
 use Rattle.model.specs.Meaning.{answer, after}
+use Rattle.refusals.specs.declared.Refusal.{Refusal as Base}
 use Rattle.refusals.specs.Told.{told}
-use Rattle.answers.specs.declared.ChangeAnswer.{ChangeAnswer}
-use Rattle.answers.specs.declared.ChangeAnswer.TheVariants as change
 use Rattle.link_list.specs.Links.{run_after}
 
 -- ---- the calls
@@ -50,9 +49,9 @@ unfoldable pub run_whole : List Call → Bytes → Bytes
 run_whole cs b = if_granted (run_answer cs b) b (run_after cs b)
 
 -- where one was refused the image after it may be anything
-abbrev pub RunsTo : ChangeAnswer → List Call → (before after : Bytes) → Type 0
-RunsTo change.Done cs b b' = (granted tt ≡ run_answer cs b) × (b' ≡ run_after cs b)
-RunsTo (change.Refused r) cs b b' = refused (told r) ≡ run_answer cs b
+abbrev pub RunsTo : Result ⊤ Base → List Call → (before after : Bytes) → Type 0
+RunsTo (Ok _) cs b b' = (granted tt ≡ run_answer cs b) × (b' ≡ run_after cs b)
+RunsTo (Err r) cs b b' = refused (told r) ≡ run_answer cs b
 
 -- this call, refused, leaves the image
 abbrev pub KeptBy : Call → (before after : Bytes) → Type 0

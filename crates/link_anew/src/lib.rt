@@ -9,45 +9,35 @@ ghost use Rattle.answers.specs.Answers.{change_answer};
 ghost use Rattle.link_anew.specs.Anew.{replacing, anew, run_answer, run_whole, RunsTo, KeptBy, first_of, HasRoom};
 
 use fields::Position;
-use zealfs::{ChangeAnswer, VerdictAnswer};
+use refusals::Refusal;
 
 // The first refusal ends it, and leaves what was done.
-fn make_anew(image: &mut [u8], path: &[u8], date: &[u8], bytes: &[u8]) -> ChangeAnswer
+fn make_anew(image: &mut [u8], path: &[u8], date: &[u8], bytes: &[u8]) -> Result<(), Refusal>
     ensures { RunsTo result (replacing path.now date.now false bytes.now) image.old image.new }
 {
-    let made = zealfs::make_file(image, path, date);
-    if let ChangeAnswer::Refused(_) = made {
-        return made;
-    }
+    zealfs::make_file(image, path, date)?;
     zealfs::write(image, path, Position(0), bytes)
 }
 
 // The same in place of an old file.
-fn replace(image: &mut [u8], path: &[u8], date: &[u8], bytes: &[u8]) -> ChangeAnswer
+fn replace(image: &mut [u8], path: &[u8], date: &[u8], bytes: &[u8]) -> Result<(), Refusal>
     ensures runs_to { RunsTo result (replacing path.now date.now true bytes.now) image.old image.new }
     ensures kept_by { KeptBy (remove_file path.now) image.old image.new }
 {
-    let removed = zealfs::remove_file(image, path);
-    if let ChangeAnswer::Refused(_) = removed {
-        return removed;
-    }
+    zealfs::remove_file(image, path)?;
     make_anew(image, path, date, bytes)
 }
 
-// Whether there is an old file the make itself tells, by number 8, so that it is asked for nothing else.
+// Whether there is an old file the make itself tells, by 8 (the name is taken), so that it is asked for nothing else.
 #[tactic(auto, using(crate::proofs::InTurn::make_leaves, crate::proofs::InTurn::make_first, crate::proofs::InTurn::removal_first, crate::proofs::InTurn::taken_told), unfolding(crate::specs::Anew::then_answer, crate::specs::Anew::if_granted))]
-fn put_in_turn(image: &mut [u8], path: &[u8], date: &[u8], bytes: &[u8]) -> ChangeAnswer
+fn put_in_turn(image: &mut [u8], path: &[u8], date: &[u8], bytes: &[u8]) -> Result<(), Refusal>
     ensures runs_to { RunsTo result (anew path.now date.now bytes.now image.old) image.old image.new }
     ensures kept_by { KeptBy (first_of path.now date.now image.old) image.old image.new }
 {
     match zealfs::make_file(image, path, date) {
-        ChangeAnswer::Done => zealfs::write(image, path, Position(0), bytes),
-        ChangeAnswer::Refused(r) => {
-            if refusals::number(r) == 8 {
-                return replace(image, path, date, bytes);
-            }
-            ChangeAnswer::Refused(r)
-        }
+        Ok(()) => zealfs::write(image, path, Position(0), bytes),
+        Err(Refusal::NameTaken) => replace(image, path, date, bytes),
+        Err(r) => Err(r),
     }
 }
 
@@ -60,22 +50,19 @@ fn put_by_copy(
     path: &[u8],
     date: &[u8],
     bytes: &[u8],
-) -> ChangeAnswer
+) -> Result<(), Refusal>
     requires { length copy.old ≡ length image.old }
     ensures result_value { change_answer result ≡ run_answer (anew path.now date.now bytes.now image.old) image.old }
     ensures image_after { image.new ≡ run_whole (anew path.now date.now bytes.now image.old) image.old }
 {
     pages::copy_in(copy, 0, image);
-    let put = put_in_turn(copy, path, date, bytes);
-    if let ChangeAnswer::Refused(_) = put {
-        return put;
-    }
+    put_in_turn(copy, path, date, bytes)?;
     pages::copy_in(image, 0, copy);
-    put
+    Ok(())
 }
 
 // The same with room for the copy: no image has more bytes.
-fn put_with_room(image: &mut [u8], path: &[u8], date: &[u8], bytes: &[u8]) -> ChangeAnswer
+fn put_with_room(image: &mut [u8], path: &[u8], date: &[u8], bytes: &[u8]) -> Result<(), Refusal>
     requires { length image.old ≤ 65536 }
     ensures result_value { change_answer result ≡ run_answer (anew path.now date.now bytes.now image.old) image.old }
     ensures image_after { image.new ≡ run_whole (anew path.now date.now bytes.now image.old) image.old }
@@ -94,14 +81,14 @@ fn has_room(image: &[u8], size: usize) -> bool
         return true;
     }
     match zealfs::verdict(image) {
-        VerdictAnswer::Sound(_, free) => fields::pages_for(size) <= free,
-        VerdictAnswer::Refused(_) => true,
+        Ok(counts) => fields::pages_for(size) <= counts.free,
+        Err(_) => true,
     }
 }
 
 // Where the free pages suffice the first call alone can be refused, which changes nothing then. An old file's pages are not counted, for a copy is needed
 // only where they would matter.
-pub fn put(image: &mut [u8], path: &[u8], date: &[u8], bytes: &[u8]) -> ChangeAnswer
+pub fn put(image: &mut [u8], path: &[u8], date: &[u8], bytes: &[u8]) -> Result<(), Refusal>
     ensures result_value { change_answer result ≡ run_answer (anew path.now date.now bytes.now image.old) image.old }
     ensures image_after { image.new ≡ run_whole (anew path.now date.now bytes.now image.old) image.old }
 {

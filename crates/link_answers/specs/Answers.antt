@@ -1,34 +1,33 @@
--- The answers of `link_list` for each case of a call's enum.
-use Rattle.std.specs.Prelude.{ℕ}
-use Rattle.std.proofs.Math.Option.{Option, none, some}
-use Rattle.model.specs.Call.{Refusal, refusal, refusal_at, Answer, refused, granted}
+-- The answers of `link_list` for each case of a call's result.
+use Rattle.std.specs.Prelude.{ℕ, Option, Result, ⊤}
+use Rattle.std.proofs.Math.Option as Model
+use Rattle.model.specs.Call.{Refusal, refusal, refusal_at, Answer}
+use Rattle.outcomes.specs.Answers.{answered}
 use Rattle.refusals.specs.Told.{told}
+use Rattle.link_judge.specs.declared.RowFault.{RowFault}
+use Rattle.link_judge.specs.declared.RowFault.TheVariants as row
+use Rattle.link_rows.specs.Told.{figure_told}
 use Rattle.link_answers.specs.declared.LinkRefusal.{LinkRefusal}
-use Rattle.link_answers.specs.declared.LinkRefusal.TheVariants as link
-use Rattle.link_answers.specs.declared.ReadAnswer.{ReadAnswer}
-use Rattle.link_answers.specs.declared.ReadAnswer.TheVariants as read
-use Rattle.link_answers.specs.declared.FindLinkAnswer.{FindLinkAnswer}
-use Rattle.link_answers.specs.declared.FindLinkAnswer.TheVariants as find
-use Rattle.link_answers.specs.declared.DoneAnswer.{DoneAnswer}
-use Rattle.link_answers.specs.declared.DoneAnswer.TheVariants as done
+use Rattle.link_answers.specs.declared.LinkRefusal.TheVariants.{Base, BrokenRow, NotAbove, ListTooShort, NoFile}
 
 -- the paper's number and place
 abbrev pub link_refusal : LinkRefusal → Refusal
-link_refusal (link.Base r) = told r
-link_refusal (link.BrokenRow i) = refusal_at 21 i
-link_refusal (link.NotAbove i) = refusal_at 22 i
-link_refusal link.ListTooShort = refusal 24
-link_refusal (link.NoFile i) = refusal_at 23 i
+link_refusal (Base r) = told r
+link_refusal (BrokenRow i) = refusal_at 21 i
+link_refusal (NotAbove i) = refusal_at 22 i
+link_refusal ListTooShort = refusal 24
+link_refusal (NoFile i) = refusal_at 23 i
 
-abbrev pub read_told : ReadAnswer → Answer ℕ
-read_told (read.Rows n) = granted n
-read_told (read.Refused r) = refused (link_refusal r)
+-- a bad row's
+abbrev pub row_refused : RowFault → LinkRefusal
+row_refused (row.Broken i) = BrokenRow i
+row_refused (row.NotAbove i) = NotAbove i
 
-abbrev pub find_told : FindLinkAnswer → Answer (Option ℕ)
-find_told (find.Figure n) = granted (some n)
-find_told find.Absent = granted none
-find_told (find.Refused r) = refused (link_refusal r)
+abbrev pub read_told : Result ℕ LinkRefusal → Answer ℕ
+read_told = answered link_refusal (λ n. n)
 
-abbrev pub done_told : DoneAnswer → Answer (Unit {0})
-done_told done.Done = granted tt
-done_told (done.Refused r) = refused (link_refusal r)
+abbrev pub find_told : Result (Option ℕ) LinkRefusal → Answer (Model.Option ℕ)
+find_told = answered link_refusal figure_told
+
+abbrev pub done_told : Result ⊤ LinkRefusal → Answer (Unit {0})
+done_told = answered link_refusal (λ _. tt)

@@ -1,6 +1,11 @@
-// What the calls of the link list answer (02 §4), an enum each; `Answers` has the model's answer that a case stands for.
+// What the calls of the link list answer (02 §4): `Answers` has the model's answer that a result stands for.
 #![tactic(auto)]
 
+ghost use Rattle.std.specs.Prelude.{◌≡◌};
+ghost use Rattle.link_answers.specs.Answers.{row_refused};
+ghost use Rattle.link_answers.specs.declared.LinkRefusal.TheVariants.{Base};
+
+use link_judge::RowFault;
 use refusals::Refusal;
 
 // Why a call says no: the base's own refusal, or one of the link list's.
@@ -17,24 +22,21 @@ pub enum LinkRefusal {
     NoFile(usize),
 }
 
-// The number of rows.
-#[derive(Clone, Copy)]
-pub enum ReadAnswer {
-    Rows(usize),
-    Refused(LinkRefusal),
+impl From<Refusal> for LinkRefusal {
+    ghost from_gives = { λ refusal r. r ≡ Base refusal };
+
+    fn from(refusal: Refusal) -> LinkRefusal {
+        Self::Base(refusal)
+    }
 }
 
-// The figure of an accession, or none.
-#[derive(Clone, Copy)]
-pub enum FindLinkAnswer {
-    Figure(u64),
-    Absent,
-    Refused(LinkRefusal),
-}
+impl From<RowFault> for LinkRefusal {
+    ghost from_gives = { λ fault r. r ≡ row_refused fault };
 
-// A call that tells only that it was done.
-#[derive(Clone, Copy)]
-pub enum DoneAnswer {
-    Done,
-    Refused(LinkRefusal),
+    fn from(fault: RowFault) -> LinkRefusal {
+        match fault {
+            RowFault::Broken(at) => Self::BrokenRow(at),
+            RowFault::NotAbove(i) => Self::NotAbove(i),
+        }
+    }
 }

@@ -1,11 +1,11 @@
 -- A row names a file of the directory exactly if finding the path of its digits tells a file: digits are a legal name, and that path leads to what the
 -- directory holds under it.
-use mathlib.Core.Path.{◌≡◌, refl, sym, ap, ◌∙◌, subst}
-use Prim.Native.Nat.{ℕ, zero, suc, ◌+◌, ◌-◌, ◌/◌, ◌%◌, ◌≤◌, ◌<◌}
+use mathlib.Core.Path.{◌≡◌, refl, sym, ap, ◌∙◌}
+use Prim.Native.Nat.{ℕ, zero, suc, ◌+◌, ◌/◌, ◌%◌, ◌≤◌, ◌<◌}
 use native.Mathlib.Omega.{arith}
 use mathlib.Core.Bool.{Bool, true, false}
 use mathlib.Core.Option.{Option, none, some}
-use mathlib.Core.List.{List, [], ◌∷◌, ◌++◌}
+use mathlib.Core.List.{[], ◌∷◌, ◌++◌}
 use lib.ListN.{length, length-append}
 use lib.Dec.{T, leb-suc-zero}
 use borrow.Author.Tests.{le-leb, ne_eqb}
@@ -16,7 +16,7 @@ use Rattle.model.specs.Name.{legal_byte, legal_text, padded}
 use Rattle.model.specs.Tree.{Row, end, free_number, Node, file_node, directory_node, lookup}
 use Rattle.model.specs.Image.{tree_of}
 use Rattle.model.specs.Path.{Name, is_no_path, is_root}
-use Rattle.model.specs.Walk.{Walked, arrived, missing, blocked, walk, node_named, in_walked, walk_to, arrived_or}
+use Rattle.model.specs.Walk.{Walked, node_named, in_walked, walk_to, arrived_or}
 use Rattle.model.specs.Call.{Kind, is_file, is_directory, find, Found, refusal_at, Answer, refused, granted}
 use Rattle.model.specs.Refusal.{is_missing, is_blocked, stopped_at, is_directory_node, settle}
 use Rattle.model.specs.Meaning.{found_at, tree_answer, answer}
@@ -28,10 +28,15 @@ use Rattle.family.proofs.Onward.{one_more}
 use Rattle.link_list.specs.Coding.{accession}
 use Rattle.link_list.specs.Links.{node_in, is_file_there}
 use Rattle.link_list.proofs.Rows.{holds}
-use Rattle.answers.specs.declared.FindAnswer.{FindAnswer}
-use Rattle.answers.specs.declared.FindAnswer.TheVariants as variant
+use Rattle.std.specs.Prelude.{Result, Ok, Err}
+use Rattle.outcomes.specs.declared.Kind.{Kind as Told}
+use Rattle.outcomes.specs.declared.Kind.TheVariants.{File, Directory}
+use Rattle.outcomes.specs.declared.Found.{Found as Finding}
+use Rattle.outcomes.specs.Answers.{kind_of}
+use Rattle.refusals.specs.declared.Refusal.{Refusal}
 use Rattle.answers.specs.Answers.{find_answer}
 use Rattle.link_files.proofs.Loading.{There}
+use Rattle.link_checks.specs.Checks.{is_a_file, is_file_found}
 
 -- ---- digits are a legal name
 
@@ -68,11 +73,6 @@ accession_legal k n l h =
 
 -- ---- what finding the path of a name says
 
-abbrev pub is_file_found : FindAnswer → Bool
-is_file_found (variant.File size locked) = true
-is_file_found variant.Directory = false
-is_file_found (variant.Refused r) = false
-
 is_file_kind : Kind → Bool
 is_file_kind (is_file locked) = true
 is_file_kind is_directory = false
@@ -81,11 +81,15 @@ tells_file : Answer Found → Bool
 tells_file (refused f) = false
 tells_file (granted x) = is_file_kind x.kind
 
-said_file : (a : FindAnswer) (date : Bytes) → is_file_found a ≡ tells_file (find_answer a date)
-unfolding tells_file is_file_kind
-said_file (variant.File size locked) date = refl
-said_file variant.Directory date = refl
-said_file (variant.Refused r) date = refl
+said_kind : (k : Told) → is_a_file k ≡ is_file_kind (kind_of k)
+unfolding is_file_kind
+said_kind (File locked) = refl
+said_kind Directory = refl
+
+said_file : (a : Result Finding Refusal) → is_file_found a ≡ tells_file (find_answer a)
+unfolding tells_file
+said_file (Ok f) = said_kind f.kind
+said_file (Err r) = refl
 
 module _ (b d : Bytes) (h : There b d) (v : Bytes) (legal : T (legal_text v)) where
   tree_tells : tells_file (tree_answer (find (onward d v)) (tree_of b)) ≡ is_file_there (lookup (padded v) h.row)
@@ -100,11 +104,11 @@ module _ (b d : Bytes) (h : There b d) (v : Bytes) (legal : T (legal_text v)) wh
       go (some (file_node l k w)) = refl
       go (some (directory_node k r)) = refl
 
-  pub found_there : (a : FindAnswer) (date : Bytes) → find_answer a date ≡ answer (find (onward d v)) b → is_file_found a ≡ is_file_there (node_in d v (tree_of b))
+  pub found_there : (a : Result Finding Refusal) → find_answer a ≡ answer (find (onward d v)) b → is_file_found a ≡ is_file_there (node_in d v (tree_of b))
   unfolding arrived_or
-  found_there a date e =
-      said_file a date ∙ ap tells_file (e ∙ (as_tree_lem (find (onward d v)) b h.is_sound).answered) ∙ tree_tells ∙ sym (ap (λ (w : Walked Row). is_file_there (lookup (padded v) (arrived_or end w))) h.leads)
+  found_there a e =
+      said_file a ∙ ap tells_file (e ∙ (as_tree_lem (find (onward d v)) b h.is_sound).answered) ∙ tree_tells ∙ sym (ap (λ (w : Walked Row). is_file_there (lookup (padded v) (arrived_or end w))) h.leads)
 
 pub file_told : (b d : Bytes) → There b d → (name path : Bytes) → T (legal_text name) → path ≡ onward d name
-    → (a : FindAnswer) (date : Bytes) → find_answer a date ≡ answer (find path) b → is_file_found a ≡ is_file_there (node_in d name (tree_of b))
-file_told b d h name path legal p a date e = found_there b d h name legal a date (e ∙ ap (λ (q : Bytes). answer (find q) b) p)
+    → (a : Result Finding Refusal) → find_answer a ≡ answer (find path) b → is_file_found a ≡ is_file_there (node_in d name (tree_of b))
+file_told b d h name path legal p a e = found_there b d h name legal a (e ∙ ap (λ (q : Bytes). answer (find q) b) p)

@@ -11,12 +11,25 @@ ghost use Rattle.link_list.specs.Coding.{in_range, accession};
 ghost use Rattle.link_list.specs.Links.{node_in, is_file_there, file_lines};
 ghost use Rattle.link_rows.specs.Told.{steps_from};
 ghost use Rattle.link_answers.specs.Answers.{done_told};
-ghost use Rattle.link_checks.specs.Checks.{checked_rows, check_in};
+ghost use Rattle.link_checks.specs.Checks.{is_file_found, checked_rows, check_in};
 
-use link_answers::{DoneAnswer, LinkRefusal};
+use link_answers::LinkRefusal;
 use link_list::Row;
-use link_rows::FileJudged;
-use zealfs::FindAnswer;
+use outcomes::{Found, Kind};
+use refusals::Refusal;
+
+// What was found is a file.
+fn is_found(found: Result<Found, Refusal>) -> bool
+    ensures { result ≡ is_file_found found }
+{
+    matches!(
+        found,
+        Ok(Found {
+            kind: Kind::File { .. },
+            ..
+        })
+    )
+}
 
 // The directory of a LINKS that was loaded has a file of that name. The path is put together in the bytes lent for it.
 fn is_file(image: &[u8], directory: &[u8], name: &[u8], path: &mut [u8]) -> bool
@@ -24,13 +37,7 @@ fn is_file(image: &[u8], directory: &[u8], name: &[u8], path: &mut [u8]) -> bool
     ensures { result ≡ is_file_there (node_in directory.now name.now (tree_of image.now)) }
 {
     let len = link_files::join(directory, name, path);
-    let found = zealfs::find(image, &path[..len]);
-    let answer = found.answer;
-    match answer {
-        FindAnswer::File(_, _) => true,
-        FindAnswer::Directory => false,
-        FindAnswer::Refused(_) => false,
-    }
+    is_found(zealfs::find(image, &path[..len]))
 }
 
 // The same for the row's exact digits, with room for the path: all but the longest are short.
@@ -50,31 +57,26 @@ fn has_file(image: &[u8], directory: &[u8], row: Row) -> bool
 }
 
 // Every one of the first rows of a file that was judged names a file of the directory.
-fn check_rows(image: &[u8], directory: &[u8], file: &[u8], rows: usize) -> DoneAnswer
+fn check_rows(image: &[u8], directory: &[u8], file: &[u8], rows: usize) -> Result<(), LinkRefusal>
     requires { Passes (image_lines image.now ++ file_lines directory.now (tree_of image.now)) × (all in_range (steps_from file.now rows 0) ≡ true) }
     ensures { done_told result ≡ checked_rows 0 directory.now image.now (steps_from file.now rows 0) }
 {
     let mut at = 0;
-    let mut i = 0;
-    while i < rows {
+    for i in 0..rows {
         let step = link_rows::row_from(file, at);
         if !has_file(image, directory, step.row) {
-            return DoneAnswer::Refused(LinkRefusal::NoFile(i));
+            return Err(LinkRefusal::NoFile(i));
         }
         at = step.next;
-        i = i + 1;
     }
-    DoneAnswer::Done
+    Ok(())
 }
 
 // Every row of a file names a file of the directory.
-pub fn check_file(image: &[u8], directory: &[u8], file: &[u8]) -> DoneAnswer
+pub fn check_file(image: &[u8], directory: &[u8], file: &[u8]) -> Result<(), LinkRefusal>
     requires { Passes (image_lines image.now ++ file_lines directory.now (tree_of image.now)) }
     ensures { done_told result ≡ check_in file.now directory.now image.now }
 {
-    match link_rows::judge_file(file) {
-        FileJudged::Rows(rows) => check_rows(image, directory, file, rows),
-        FileJudged::Broken(at) => DoneAnswer::Refused(LinkRefusal::BrokenRow(at)),
-        FileJudged::NotAbove(i) => DoneAnswer::Refused(LinkRefusal::NotAbove(i)),
-    }
+    let rows = link_rows::judge_file(file)?;
+    check_rows(image, directory, file, rows)
 }

@@ -6,17 +6,13 @@ ghost use Rattle.std.specs.Prelude.{◌≡◌, min};
 ghost use Rattle.link_answers.specs.Answers.{link_refusal, done_told};
 ghost use Rattle.link_codes.specs.Codes.{most_row, link_code, link_code_of, LinkFits, AnswerFits};
 
-use link_answers::{DoneAnswer, LinkRefusal};
+use link_answers::LinkRefusal;
 
 // The place of 21, 22 and 23.
 fn row_place(at: usize) -> u64
     ensures { result ≡ min at most_row }
 {
-    if at < 72057594037927935 {
-        at as u64
-    } else {
-        72057594037927935
-    }
+    (at as u64).min(72057594037927935)
 }
 
 // A refusal's code.
@@ -34,12 +30,12 @@ pub fn code(r: LinkRefusal) -> u64
 }
 
 // The code of a call that tells nothing else.
-pub fn done_code(a: DoneAnswer) -> u64
+pub fn done_code(a: Result<(), LinkRefusal>) -> u64
     requires { AnswerFits (done_told a) }
     ensures { result ≡ link_code_of (done_told a) }
 {
     match a {
-        DoneAnswer::Done => 0,
-        DoneAnswer::Refused(r) => code(r),
+        Ok(()) => 0,
+        Err(r) => code(r),
     }
 }

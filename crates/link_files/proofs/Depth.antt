@@ -1,7 +1,7 @@
 -- A walk that arrives enters a directory with each name, and each directory and each file's content needs pages; a sound image has 255 at most
 -- beside the header. So a directory's path has at most 17 · 255 bytes and a file at most 255 · 255.
 use mathlib.Core.Path.{◌≡◌, refl, sym, ap, ◌∙◌, subst}
-use Prim.Native.Nat.{ℕ, suc, ◌+◌, ◌-◌, ◌*◌, ◌≤◌, max}
+use Prim.Native.Nat.{ℕ, suc, ◌+◌, ◌*◌, ◌≤◌, max}
 use native.Mathlib.Omega.{arith}
 use mathlib.Core.Bool.{Bool, true, false, not, ◌&&◌}
 use mathlib.Core.Option.{Option, none, some, none-ne-some}
@@ -17,7 +17,7 @@ use Rattle.model.specs.Name.{legal_text}
 use Rattle.model.specs.Sound.{sound}
 use Rattle.model.specs.Tree.{Row, end, free, file, dir, needs, free_number, Node, file_node, directory_node, lookup, needs_of}
 use Rattle.model.specs.Image.{tree_of}
-use Rattle.model.specs.Path.{Name, no_path, root, before, texts, names_from, path_to, path_of, is_no_path, names}
+use Rattle.model.specs.Path.{Name, no_path, before, texts, names_from, path_to, path_of, is_no_path, names}
 use Rattle.model.specs.Walk.{Walked, arrived, enter, walk}
 use Rattle.model.specs.Refusal.{is_missing, is_blocked}
 use Rattle.laws.proofs.Facts.{sound_facts_lem, valid_sized}

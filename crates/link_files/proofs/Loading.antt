@@ -12,7 +12,8 @@ use lib.Seq.{take_all, take-append_seam}
 use lib.Dec.{T, eqb, leb, leb-suc-zero}
 use borrow.Author.Tests.{not-true}
 use Rattle.volume.specs.Bytes.{Bytes, put}
-use Rattle.std.specs.Prelude.{if◌then◌else◌}
+use Rattle.std.specs.Prelude.{if◌then◌else◌, Result, Ok, Err, IsErrAnd}
+use Rattle.std.proofs.lemmas.Result.{err_from_is_err_and}
 use Rattle.volume.specs.Lists.{count_from}
 use Rattle.model.specs.Entry.{entries_start, entries, Entry, vacant, a_file, a_directory, entry_at}
 use Rattle.model.specs.Version1.{view}
@@ -34,14 +35,9 @@ use Rattle.family.proofs.Onward.{OneMore}
 use Rattle.link_list.specs.Links.{links_name, links_path, file_lines}
 use Rattle.link_list.proofs.Rows.{holds}
 use Rattle.link_list.proofs.Writing.{links_key, links_named, settle_passed}
-use Rattle.answers.specs.declared.ListAnswer.{ListAnswer}
-use Rattle.answers.specs.declared.ListAnswer.TheVariants as variant
-use Rattle.answers.specs.declared.ReadAnswer.{ReadAnswer}
-use Rattle.answers.specs.declared.ReadAnswer.TheVariants as variant-read
-use Rattle.answers.specs.Answers.{list_answer, read_answer}
+use Rattle.answers.specs.Answers.{read_answer}
 use Rattle.refusals.specs.declared.Refusal.{Refusal as Base}
 use Rattle.refusals.specs.Told.{told as base-told}
-use Rattle.link_files.specs.declared.Loaded.TheVariants as loaded
 use Rattle.link_files.specs.Loaded.{file_loaded, Loads}
 use Rattle.link_files.proofs.Depth.{file_short}
 
@@ -209,7 +205,7 @@ module _ (b d : Bytes) where
         go (some (directory_node k r)) l = omega arith
         go (some (file_node k date v)) l = file_short b h.is_sound (names (path_of d)) h.row links_key k date v h.leads l
 
-    pub read_copied : (n : ℕ) → granted n ≡ answer (read (links_path d) 0 buffer) b → (buffer' : Bytes) → buffer' ≡ buffer_after (read (links_path d) 0 buffer) b → Loads d b buffer' (length buffer) (loaded.Size n)
+    pub read_copied : (n : ℕ) → granted n ≡ answer (read (links_path d) 0 buffer) b → (buffer' : Bytes) → buffer' ≡ buffer_after (read (links_path d) 0 buffer) b → Loads d b buffer' (length buffer) (Ok n)
     unfolding MeaningOf.answer MeaningOf.buffer_after file_loaded MeaningOf.told MeaningOf.filled
     read_copied n e buffer' q = (omega (arith, size, length-take (length buffer) v), whole)
       where
@@ -236,29 +232,23 @@ module _ (b d : Bytes) where
             let back : take n buffer' ≡ v = ap (λ (k : ℕ). take k buffer') (size ∙ ap length all) ∙ ap (take (length v)) bytes ∙ take-append_seam v (drop (0 + length v) buffer) in
             ap (λ (w : Bytes). granted w) back ∙ sym (sym (same_lines h.is_path buffer refused (granted v)) ∙ settle_passed (lines c b) refused (granted v) p)
 
--- ---- what listing's answer says, once it is known to be no refusal
-
-pub said : {a c : ListAnswer} (name date : Bytes) {x : Answer Listed} → a ≡ c → list_answer a name date ≡ x → list_answer c name date ≡ x
-said name date e h = ap (λ (k : ListAnswer). list_answer k name date) (sym e) ∙ h
-
-pub listed_there : (a : ListAnswer) (name date : Bytes) → ((r : Base) → a ≡ variant.Refused r → ⊥) → (x : Listed) × (list_answer a name date ≡ granted x)
-listed_there variant.Empty name date k = (_, refl)
-listed_there (variant.File size locked) name date k = (_, refl)
-listed_there variant.Directory name date k = (_, refl)
-listed_there (variant.Refused r) name date k = absurd (k r refl)
-
 -- ---- what reading's answer says
 
 pub path_read : (len : ℕ) (path zeros v : Bytes) → len ≡ length v → path ≡ put 0 v zeros → take len path ≡ v
 path_read len path zeros v l e = ap (λ (n : ℕ). take n path) l ∙ ap (take (length v)) e ∙ take-append_seam v (drop (0 + length v) zeros)
 
-module _ (b d : Bytes) (is_path : T (not (is_no_path (path_of d)))) (path buffer : Bytes) (is : path ≡ links_path d) (r : ReadAnswer) (answers : read_answer r ≡ answer (read path 0 buffer) b) where
-  pub copied_loads : (n : ℕ) → r ≡ variant-read.Copied n → (buffer' : Bytes) → buffer' ≡ buffer_after (read path 0 buffer) b → Loads d b buffer' (length buffer) (loaded.Size n)
-  unfolding MeaningOf.answer
-  copied_loads n e buffer' q =
-      let a : granted n ≡ answer (read (links_path d) 0 buffer) b = ap read_answer (sym e) ∙ answers ∙ ap (λ (p : Bytes). answer (read p 0 buffer) b) is in
-      let there = read_there b d is_path buffer (granted_passed (lines (read (links_path d) 0 buffer) b) _ n (sym a)) in
-      read_copied b d there buffer n a buffer' (q ∙ ap (λ (p : Bytes). buffer_after (read p 0 buffer) b) is)
+read_as : (b d : Bytes) → T (not (is_no_path (path_of d))) → (buffer : Bytes) (r : Result ℕ Base) → read_answer r ≡ answer (read (links_path d) 0 buffer) b
+    → (buffer' : Bytes) → buffer' ≡ buffer_after (read (links_path d) 0 buffer) b → Loads d b buffer' (length buffer) r
+unfolding MeaningOf.answer
+read_as b d is_path buffer (Ok n) a buffer' q = read_copied b d (read_there b d is_path buffer (granted_passed (lines (read (links_path d) 0 buffer) b) _ n (sym a))) buffer n a buffer' q
+read_as b d is_path buffer (Err r) a buffer' q = read_refused b d is_path buffer (base-told r) a
 
-  pub refused_loads : (q : Base) → r ≡ variant-read.Refused q → refused (base-told q) ≡ file_loaded d b
-  refused_loads q e = read_refused b d is_path buffer (base-told q) (ap read_answer (sym e) ∙ answers ∙ ap (λ (p : Bytes). answer (read p 0 buffer) b) is)
+pub read_loads : (b d : Bytes) → T (not (is_no_path (path_of d))) → (path buffer : Bytes) → path ≡ links_path d → (r : Result ℕ Base) → read_answer r ≡ answer (read path 0 buffer) b
+    → (buffer' : Bytes) → buffer' ≡ buffer_after (read path 0 buffer) b → Loads d b buffer' (length buffer) r
+read_loads b d is_path path buffer is r answers buffer' q =
+    read_as b d is_path buffer r (answers ∙ ap (λ (p : Bytes). answer (read p 0 buffer) b) is) buffer' (q ∙ ap (λ (p : Bytes). buffer_after (read p 0 buffer) b) is)
+
+-- ---- the exit of a `?`
+
+pub loads_told_on : (d b v : Bytes) (room : ℕ) (r : Result ℕ Base) (x : Base) → IsErrAnd r (λ y. y ≡ x) → refused (base-told x) ≡ file_loaded d b → Loads d b v room r
+loads_told_on d b v room r x is e = let p = err_from_is_err_and r is in rw (p.1, p.2) e

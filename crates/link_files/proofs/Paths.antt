@@ -1,12 +1,10 @@
 -- A path of one name more, put together: the directory's bytes, a slash and the name; the root's path is its slash.
 use mathlib.Core.Path.{◌≡◌, refl, sym, ap, ◌∙◌}
-use Prim.Native.Nat.{ℕ, suc, ◌+◌, ◌≤◌, ◌<◌}
+use Prim.Native.Nat.{ℕ, suc, ◌+◌, ◌≤◌}
 use native.Mathlib.Omega.{arith}
-use native.Mathlib.Numerals.{add-one}
 use mathlib.Core.Bool.{Bool, true, false, not, ◌&&◌}
 use mathlib.Core.List.{List, [], ◌∷◌, ◌++◌}
-use lib.ListN.{length, get_or, set, drop, length-append, drop_of_length-le}
-use lib.Seq.{drop-cons}
+use lib.ListN.{length, set, length-append}
 use lib.Dec.{T, eqb}
 use Rattle.volume.specs.Bytes.{Bytes, put}
 use Rattle.std.specs.Prelude.{if◌then◌else◌}
@@ -14,24 +12,8 @@ use Rattle.volume.specs.Lists.{all}
 use Rattle.model.specs.Name.{legal_text}
 use Rattle.model.specs.Path.{Name, no_path, root, texts, names_from, path_to, path_of, is_no_path, is_root}
 use Rattle.family.specs.Family.{onward}
-use Rattle.link_numbers.proofs.Puts.{put_cons, put_nil, put_after}
+use Rattle.link_numbers.proofs.Puts.{put_cons, put_after}
 use Rattle.link_files.proofs.Depth.{texts_long, some_texts, names_long}
-
--- ---- bytes put one at a time
-
-pub bytes_turn : (at i : ℕ) (source b : Bytes) → i < length source → at + length source ≤ length b
-    → put (at + i) (drop i source) b ≡ put (at + (i + 1)) (drop (i + 1) source) (set b (at + i) (get_or source i 0))
-bytes_turn at i source b h l =
-    let e : at + i + 1 ≡ at + (i + 1) = omega arith in
-    ap (λ (v : Bytes). put (at + i) v b) (drop-cons source i 0 h ∙ ap (λ (k : ℕ). get_or source i 0 ∷ drop k source) (sym (add-one i)))
-    ∙ put_cons (at + i) (get_or source i 0) (drop (i + 1) source) b (omega arith)
-    ∙ ap (λ (k : ℕ). put k (drop (i + 1) source) (set b (at + i) (get_or source i 0))) e
-
-pub bytes_first : (at : ℕ) (source b : Bytes) → put (at + 0) (drop 0 source) b ≡ put at source b
-bytes_first at source b = let e : at + 0 ≡ at = omega arith in ap (λ (k : ℕ). put k source b) e
-
-pub bytes_end : (at i : ℕ) (source b : Bytes) → length source ≤ i → put (at + i) (drop i source) b ≡ b
-bytes_end at i source b h = ap (λ (v : Bytes). put (at + i) v b) (drop_of_length-le source h) ∙ put_nil (at + i) b
 
 -- ---- a path
 

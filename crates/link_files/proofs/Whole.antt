@@ -1,10 +1,6 @@
--- What the calls that judge the whole file share: the image's lines and the file's own stand above what is asked of the bytes; and what the loading
--- says.
-use mathlib.Core.Path.{◌≡◌, sym, ap, ◌∙◌, subst}
-use mathlib.Core.Logic.{◌⊎◌}
-use Prim.Native.Nat.{ℕ, ◌≤◌, ◌<◌}
+-- What the calls that judge the whole file share: the image's lines and the file's own stand above what is asked of the bytes.
+use mathlib.Core.Path.{◌≡◌, sym, ap, ◌∙◌}
 use mathlib.Core.List.{List, ◌++◌}
-use lib.ListN.{take}
 use Rattle.volume.specs.Bytes.{Bytes}
 use Rattle.model.specs.Image.{tree_of}
 use Rattle.model.specs.Call.{Refusal, refused, granted}
@@ -13,11 +9,7 @@ use Rattle.model.specs.Meaning.{image_lines}
 use Rattle.laws.proofs.Lines.{granted_passed, settle_append}
 use Rattle.link_list.specs.Links.{links_path, reading, file_lines, bad_line, judged_lines}
 use Rattle.link_list.proofs.Writing.{settle_passed}
-use Rattle.refusals.specs.declared.Refusal.{Refusal as Base}
-use Rattle.refusals.specs.Told.{told}
-use Rattle.link_files.specs.declared.Loaded.{Loaded}
-use Rattle.link_files.specs.declared.Loaded.TheVariants as loaded
-use Rattle.link_files.specs.Loaded.{file_loaded, Loads}
+use Rattle.link_files.specs.Loaded.{file_loaded}
 
 module _ (d b : Bytes) where
   abbrev content : Bytes
@@ -49,15 +41,3 @@ module _ (d b : Bytes) where
   passes v e =
       let p = granted_passed (image_lines b ++ file_lines d (tree_of b)) content v (sym e) in
       (p, let q : v ≡ content = cc (e ∙ settle_passed (image_lines b ++ file_lines d (tree_of b)) refused (granted content) p) in q)
-
--- ---- what the loading's answer says
-
-module _ (d b v : Bytes) (room : ℕ) (r : Loaded) (says : Loads d b v room r) where
-  pub loads_within : (n : ℕ) → r ≡ loaded.Size n → n ≤ room
-  loads_within n e = (subst (Loads d b v room) e says).0
-
-  pub loads_whole : (n : ℕ) → r ≡ loaded.Size n → (n < room) ⊎ (65025 ≤ room) → granted (take n v) ≡ file_loaded d b
-  loads_whole n e = (subst (Loads d b v room) e says).1
-
-  pub loads_not : (q : Base) → r ≡ loaded.Refused q → refused (told q) ≡ file_loaded d b
-  loads_not q e = subst (Loads d b v room) e says

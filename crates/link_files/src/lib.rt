@@ -10,17 +10,12 @@ ghost use Rattle.link_files.specs.Loaded.{Loads};
 
 use fields::Position;
 use refusals::Refusal;
-use zealfs::ListAnswer;
 
 pub fn put_bytes(bytes: &mut [u8], at: usize, source: &[u8])
     requires { at + length source.now ≤ length bytes.old }
     ensures { bytes.new ≡ put at source.now bytes.old }
 {
-    let mut i = 0;
-    while i < source.len() {
-        bytes[at + i] = source[i];
-        i = i + 1;
-    }
+    bytes[at..at + source.len()].copy_from_slice(source);
 }
 
 // A slash and a name; the byte behind it.
@@ -57,40 +52,31 @@ pub fn links_path(directory: &[u8], path: &mut [u8]) -> usize
     join(directory, b"LINKS", path)
 }
 
-// So many bytes of the file were put at the front of those lent.
-#[derive(Clone, Copy)]
-pub enum Loaded {
-    Size(usize),
-    Refused(Refusal),
-}
-
-// The bytes of the file LINKS of a directory, as many as there is room for. Its path is put together in the bytes lent for it.
-fn load_by(image: &[u8], directory: &[u8], path: &mut [u8], file: &mut [u8]) -> Loaded
+// The bytes of the file LINKS of a directory, as many as there is room for; how many. Its path is put together in the bytes lent for it.
+fn load_by(
+    image: &[u8],
+    directory: &[u8],
+    path: &mut [u8],
+    file: &mut [u8],
+) -> Result<usize, Refusal>
     requires { T (not (is_no_path (path_of directory.now))) × (length directory.now + 6 ≤ length path.old) }
     ensures { Loads directory.now image.now file.new (length file.old) result }
 {
     let len = links_path(directory, path);
-    match zealfs::read(image, &path[..len], Position(0), file) {
-        zealfs::ReadAnswer::Copied(size) => Loaded::Size(size),
-        zealfs::ReadAnswer::Refused(r) => Loaded::Refused(r),
-    }
+    zealfs::read(image, &path[..len], Position(0), file)
 }
 
 // The same with room for any path: that the directory is there is asked first, for then its path is short enough to be copied.
-fn load_asked(image: &[u8], directory: &[u8], file: &mut [u8]) -> Loaded
+fn load_asked(image: &[u8], directory: &[u8], file: &mut [u8]) -> Result<usize, Refusal>
     ensures { Loads directory.now image.now file.new (length file.old) result }
 {
-    let listed = zealfs::list(image, directory, 0);
-    let answer = listed.answer;
-    if let ListAnswer::Refused(r) = answer {
-        return Loaded::Refused(r);
-    }
+    zealfs::list(image, directory, 0)?;
     let mut path = [0u8; 4352];
     load_by(image, directory, &mut path, file)
 }
 
 // A short path is copied at once, and the image judged only once.
-pub fn load(image: &[u8], directory: &[u8], file: &mut [u8]) -> Loaded
+pub fn load(image: &[u8], directory: &[u8], file: &mut [u8]) -> Result<usize, Refusal>
     ensures { Loads directory.now image.now file.new (length file.old) result }
 {
     if 250 < directory.len() {

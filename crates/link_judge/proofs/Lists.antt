@@ -1,20 +1,20 @@
 -- A list to be written, a row at a time: the first fault is kept once it is told, and a row that passes is the one that the next must be above.
 use mathlib.Core.Path.{◌≡◌, refl, sym, ap, ◌∙◌}
 use mathlib.Core.Bool.{Bool, true, false}
-use mathlib.Core.Option.{none, some}
+use mathlib.Core.Option.{some}
 use Prim.Native.Nat.{ℕ, suc, ◌+◌, ◌-◌, ◌/◌, ◌≤◌, ◌<◌}
 use native.Mathlib.Omega.{arith}
 use mathlib.Core.List.{List, [], ◌∷◌}
 use lib.ListN.{length}
-use borrow.Author.Tests.{eq-eqb, ne_eqb}
-use Rattle.std.specs.Prelude.{if◌then◌else◌}
+use Rattle.std.specs.Prelude.{if◌then◌else◌, Some, None, is_some, Option}
 use Rattle.model.specs.Call.{refusal_at}
 use Rattle.link_list.specs.declared.Row.{Row}
 use Rattle.link_list.specs.Coding.{in_range}
 use Rattle.link_list.specs.Judging.{follows, bad_from, bad_row}
 use Rattle.link_judge.specs.declared.Judged.{Judged}
-use Rattle.link_judge.specs.Judged.{unjudged, follows_last, judged_next, judged_from, judged_told, row_numbered, rows_from, rows_of}
-use Rattle.link_judge.proofs.Orders.{before_of, follows_last_lem, judged_stays, judged_range, judged_order, judged_good}
+use Rattle.link_judge.specs.declared.RowFault.TheVariants.{Broken, NotAbove}
+use Rattle.link_judge.specs.Judged.{before_of, unjudged, judged_next, judged_from, judged_told, row_numbered, rows_from, rows_of}
+use Rattle.link_judge.proofs.Orders.{judged_stays, judged_range, judged_order, judged_good}
 
 -- ---- rows of numbers
 
@@ -50,45 +50,33 @@ unfolding judged_from
 judged_end ns rows i j h = ap (judged_from i j) (last_row ns rows i h)
 
 -- a fault stays
-judged_kept : (i : ℕ) (j : Judged) (rs : List Row) → (j.fault ≡ 0 → ⊥) → judged_from i j rs ≡ j
+judged_kept : (i : ℕ) (j : Judged) (rs : List Row) → is_some j.fault ≡ true → judged_from i j rs ≡ j
 unfolding judged_from
 judged_kept i j [] h = refl
 judged_kept i j (r ∷ rs) h = ap (λ (k : Judged). judged_from (i + 1) k rs) (judged_stays j i r h) ∙ judged_kept (i + 1) j rs h
 
-judged_from_lem : (i : ℕ) (j : Judged) (rs : List Row) → j.fault ≡ 0 → judged_told (judged_from i j rs) ≡ bad_from i (before_of j.any j.last) rs
-unfolding judged_from bad_from judged_told before_of
-judged_from_lem i j [] z = rw (eq-eqb j.fault 0 z)
-judged_from_lem i j (r ∷ rs) z = go (in_range r) (follows_last j.any j.last r) refl refl (judged_from_lem (i + 1) (record { fault = 0; at = 0; any = true; last = r }) rs refl)
+judged_from_lem : (i : ℕ) (last : Option Row) (rs : List Row) → judged_told (judged_from i (record { fault = None; last = last }) rs) ≡ bad_from i (before_of last) rs
+unfolding judged_from bad_from
+judged_from_lem i last [] = refl
+judged_from_lem i last (r ∷ rs) = go (in_range r) (follows (before_of last) r) refl refl (judged_from_lem (i + 1) (Some r) rs)
   where
+    j : Judged
+    j = record { fault = None; last = last }
+
     broken : Judged
-    broken = record { fault = 21; at = i; any = j.any; last = j.last }
+    broken = record { fault = Some (Broken i); last = last }
 
     low : Judged
-    low = record { fault = 22; at = i; any = j.any; last = j.last }
+    low = record { fault = Some (NotAbove i); last = last }
 
-    go : (a b : Bool) → in_range r ≡ a → follows_last j.any j.last r ≡ b
-        → judged_told (judged_from (i + 1) (record { fault = 0; at = 0; any = true; last = r }) rs) ≡ bad_from (i + 1) (some r) rs
+    go : (a b : Bool) → in_range r ≡ a → follows (before_of last) r ≡ b
+        → judged_told (judged_from (i + 1) (record { fault = None; last = Some r }) rs) ≡ bad_from (i + 1) (some r) rs
         → judged_told (judged_from (i + 1) (judged_next j i r) rs)
-        ≡ (if in_range r then (if follows (before_of j.any j.last) r then bad_from (i + 1) (some r) rs else some (refusal_at 22 i)) else some (refusal_at 21 i))
-    go false b x y ih = ap (λ (k : Judged). judged_told (judged_from (i + 1) k rs)) (judged_range j i r z x) ∙ ap judged_told (judged_kept (i + 1) broken rs (λ u. omega arith)) ∙ rw x
-    go true false x y ih =
-        ap (λ (k : Judged). judged_told (judged_from (i + 1) k rs)) (judged_order j i r z x y) ∙ ap judged_told (judged_kept (i + 1) low rs (λ u. omega arith))
-        ∙ rw (x, follows_last_lem j.any j.last r, y)
-    go true true x y ih = ap (λ (k : Judged). judged_told (judged_from (i + 1) k rs)) (judged_good j i r z x y) ∙ ih ∙ rw (x, follows_last_lem j.any j.last r, y)
+        ≡ (if in_range r then (if follows (before_of last) r then bad_from (i + 1) (some r) rs else some (refusal_at 22 i)) else some (refusal_at 21 i))
+    go false b x y ih = ap (λ (k : Judged). judged_told (judged_from (i + 1) k rs)) (judged_range j i r refl x) ∙ ap judged_told (judged_kept (i + 1) broken rs refl) ∙ rw x
+    go true false x y ih = ap (λ (k : Judged). judged_told (judged_from (i + 1) k rs)) (judged_order j i r refl x y) ∙ ap judged_told (judged_kept (i + 1) low rs refl) ∙ rw (x, y)
+    go true true x y ih = ap (λ (k : Judged). judged_told (judged_from (i + 1) k rs)) (judged_good j i r refl x y) ∙ ih ∙ rw (x, y)
 
 pub judged_bad : (rs : List Row) → judged_told (judged_from 0 unjudged rs) ≡ bad_row rs
-unfolding bad_row before_of
-judged_bad rs = judged_from_lem 0 unjudged rs refl
-
-module _ (j : Judged) where
-  pub told_good : j.fault ≡ 0 → judged_told j ≡ none
-  unfolding judged_told
-  told_good e = rw (eq-eqb j.fault 0 e)
-
-  pub told_broken : (j.fault ≡ 0 → ⊥) → j.fault ≡ 21 → judged_told j ≡ some (refusal_at 21 j.at)
-  unfolding judged_told
-  told_broken n e = rw (ne_eqb j.fault 0 n, eq-eqb j.fault 21 e)
-
-  pub told_low : (j.fault ≡ 0 → ⊥) → (j.fault ≡ 21 → ⊥) → judged_told j ≡ some (refusal_at 22 j.at)
-  unfolding judged_told
-  told_low n e = rw (ne_eqb j.fault 0 n, ne_eqb j.fault 21 e)
+unfolding bad_row
+judged_bad rs = judged_from_lem 0 None rs

@@ -1,42 +1,54 @@
 -- How far a list is judged that is to be written (02 §4), a row at a time, and the list as numbers.
-use Rattle.std.specs.Prelude.{ℕ, zero, suc, ◌+◌, ◌*◌, ◌/◌, Bool, true, false, not, ◌||◌, List, [], ◌∷◌, length, get_or, eqb, if◌then◌else◌}
-use Rattle.std.proofs.Math.Option.{Option, none, some}
+use Rattle.std.specs.Prelude.{ℕ, zero, suc, ◌+◌, ◌*◌, ◌/◌, not, List, [], ◌∷◌, length, get_or, if◌then◌else◌, Option, Some, None, is_some, Result, Ok, Err, ⊤}
+use Rattle.std.proofs.Math.Option as Model
+use Rattle.std.proofs.Math.Option.{none, some}
 use Rattle.model.specs.Call.{Refusal, refusal_at}
 use Rattle.link_list.specs.declared.Row.{Row}
-use Rattle.link_list.specs.Coding.{in_range, above}
+use Rattle.link_list.specs.Coding.{in_range}
+use Rattle.link_list.specs.Judging.{follows}
 use Rattle.link_judge.specs.declared.Judged.{Judged}
-use Rattle.link_judge.specs.declared.ListJudged.{ListJudged}
-use Rattle.link_judge.specs.declared.ListJudged.TheVariants as list
+use Rattle.link_judge.specs.declared.RowFault.{RowFault}
+use Rattle.link_judge.specs.declared.RowFault.TheVariants.{Broken, NotAbove}
 
 abbrev pub no_row : Row
 no_row = record { count = 0; value = 0; figure = 0 }
 
-abbrev pub unjudged : Judged
-unjudged = record { fault = 0; at = 0; any = false; last = no_row }
+-- the row before the next one, as the definition of a list has it
+abbrev pub before_of : Option Row → Model.Option Row
+before_of None = none
+before_of (Some last) = some last
 
-unfoldable pub follows_last : (any : Bool) (last row : Row) → Bool
-follows_last any last row = not any || above last row
+abbrev pub unjudged : Judged
+unjudged = record { fault = None; last = None }
 
 unfoldable pub judged_next : Judged → (i : ℕ) → Row → Judged
 judged_next j i r =
-    if not (eqb j.fault 0) then j else
-    (if not (in_range r) then record { fault = 21; at = i; any = j.any; last = j.last } else
-    (if not (follows_last j.any j.last r) then record { fault = 22; at = i; any = j.any; last = j.last } else
-    record { fault = 0; at = 0; any = true; last = r }))
+    if is_some j.fault then j else
+    (if not (in_range r) then record { fault = Some (Broken i); last = j.last } else
+    (if not (follows (before_of j.last) r) then record { fault = Some (NotAbove i); last = j.last } else
+    record { fault = None; last = Some r }))
 
 -- the rows of a list, of which the first has number i
 unfoldable pub judged_from : (i : ℕ) → Judged → List Row → Judged
 judged_from i j [] = j
 judged_from i j (r ∷ rs) = judged_from (i + 1) (judged_next j i r) rs
 
--- its first fault
-unfoldable pub judged_told : Judged → Option Refusal
-judged_told j = if eqb j.fault 0 then none else some (refusal_at (if eqb j.fault 21 then 21 else 22) j.at)
+-- the paper's number and place
+abbrev pub row_refusal : RowFault → Refusal
+row_refusal (Broken i) = refusal_at 21 i
+row_refusal (NotAbove i) = refusal_at 22 i
 
-abbrev pub list_told : ListJudged → Option Refusal
-list_told list.Good = none
-list_told (list.Broken i) = some (refusal_at 21 i)
-list_told (list.NotAbove i) = some (refusal_at 22 i)
+-- its first fault
+abbrev pub fault_told : Option RowFault → Model.Option Refusal
+fault_told None = none
+fault_told (Some f) = some (row_refusal f)
+
+abbrev pub judged_told : Judged → Model.Option Refusal
+judged_told j = fault_told j.fault
+
+abbrev pub list_told : Result ⊤ RowFault → Model.Option Refusal
+list_told (Ok _) = none
+list_told (Err f) = some (row_refusal f)
 
 -- ---- a slice of numbers, three a row; a remainder of one or two is not looked at
 

@@ -4,8 +4,8 @@
 
 ghost use Rattle.std.specs.Prelude.{◌≡◌, ◌+◌, ◌*◌, ◌≤◌, ◌^◌, length};
 ghost use Rattle.link_list.specs.Coding.{in_range, above};
-ghost use Rattle.link_list.specs.Judging.{bad_row};
-ghost use Rattle.link_judge.specs.Judged.{no_row, unjudged, follows_last, judged_next, judged_from, judged_told, list_told, row_numbered, rows_of};
+ghost use Rattle.link_list.specs.Judging.{follows, bad_row};
+ghost use Rattle.link_judge.specs.Judged.{no_row, before_of, unjudged, judged_next, judged_from, judged_told, list_told, row_numbered, rows_of};
 
 use link_list::Row;
 
@@ -59,66 +59,61 @@ fn is_above(low: Row, high: Row) -> bool
 }
 
 // The row is above the last one, if there was any.
-pub fn follows(any: bool, last: Row, row: Row) -> bool
-    ensures { result ≡ follows_last any last row }
+#[tactic(auto, unfolding(link_list::specs::Judging::follows))]
+pub fn follows(last: Option<Row>, row: Row) -> bool
+    ensures { result ≡ follows (before_of last) row }
 {
-    if !any {
-        return true;
-    }
-    is_above(last, row)
+    last.is_none_or(|low| is_above(low, row))
 }
 
-// How far a list is judged that is to be written: the number and the row of its first fault, 0 and 0 for none, and the row before the next.
+// What is wrong with a row: a number out of range, or it is not above the one before. By its number, or in a file that is read the first by the byte at
+// which it begins.
+#[derive(Clone, Copy)]
+pub enum RowFault {
+    Broken(usize),
+    NotAbove(usize),
+}
+
+// How far a list is judged that is to be written: its first fault, and the row before the next.
 #[derive(Clone, Copy)]
 pub struct Judged {
-    pub fault: u8,
-    pub at: usize,
-    pub any: bool,
-    pub last: Row,
+    pub fault: Option<RowFault>,
+    pub last: Option<Row>,
 }
 
 pub fn fresh() -> Judged
     ensures { result ≡ unjudged }
 {
-    let last = no_row();
     Judged {
-        fault: 0,
-        at: 0,
-        any: false,
-        last,
+        fault: None,
+        last: None,
     }
 }
 
 // One row more, of number i.
+#[tactic(auto, unfolding(crate::specs::Judged::judged_next))]
 pub fn judge_row(judged: Judged, i: usize, row: Row) -> Judged
     ensures { result ≡ judged_next judged i row }
 {
-    if judged.fault != 0 {
+    if judged.fault.is_some() {
         return judged;
     }
     let last = judged.last;
-    let any = judged.any;
     if !in_range(row) {
         return Judged {
-            fault: 21,
-            at: i,
-            any,
+            fault: Some(RowFault::Broken(i)),
             last,
         };
     }
-    if !follows(any, last, row) {
+    if !follows(last, row) {
         return Judged {
-            fault: 22,
-            at: i,
-            any,
+            fault: Some(RowFault::NotAbove(i)),
             last,
         };
     }
     Judged {
-        fault: 0,
-        at: 0,
-        any: true,
-        last: row,
+        fault: None,
+        last: Some(row),
     }
 }
 
@@ -141,39 +136,25 @@ pub fn row_of(numbers: &[u64], i: usize) -> Row
 fn judge_numbers(numbers: &[u64]) -> Judged
     ensures { result ≡ judged_from 0 unjudged (rows_of numbers.now) }
 {
-    let rows = numbers.len() / 3;
     let mut state = fresh();
-    let mut i = 0;
-    while i < rows {
-        let row = row_of(numbers, i);
-        state = judge_row(state, i, row);
-        i = i + 1;
+    for i in 0..numbers.len() / 3 {
+        state = judge_row(state, i, row_of(numbers, i));
     }
     state
 }
 
-// The first bad row of a list that is to be written: a number out of range, or not above the one before.
-#[derive(Clone, Copy)]
-pub enum ListJudged {
-    Good,
-    Broken(usize),
-    NotAbove(usize),
-}
-
 // What a list's judging comes to.
-pub fn judgement(judged: Judged) -> ListJudged
+pub fn judgement(judged: Judged) -> Result<(), RowFault>
     ensures { list_told result ≡ judged_told judged }
 {
-    if judged.fault == 0 {
-        return ListJudged::Good;
+    match judged.fault {
+        None => Ok(()),
+        Some(fault) => Err(fault),
     }
-    if judged.fault == 21 {
-        return ListJudged::Broken(judged.at);
-    }
-    ListJudged::NotAbove(judged.at)
 }
 
-pub fn judge_list(numbers: &[u64]) -> ListJudged
+// The first bad row of a list that is to be written, if there is one.
+pub fn judge_list(numbers: &[u64]) -> Result<(), RowFault>
     ensures { list_told result ≡ bad_row (rows_of numbers.now) }
 {
     judgement(judge_numbers(numbers))

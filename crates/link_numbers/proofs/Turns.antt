@@ -10,10 +10,10 @@ use mathlib.Core.List.{[], ◌∷◌}
 use lib.ListN.{length, get_or, drop, drop_of_length-le}
 use lib.Seq.{drop-cons}
 use borrow.Author.Tests.{lt-ltb, le-ltb, eq-eqb, ne_eqb}
+use Rattle.std.specs.Prelude.{Option, Some, None}
 use Rattle.volume.specs.Bytes.{Bytes}
 use Rattle.link_list.specs.Coding.{joined, take_number}
-use Rattle.link_numbers.specs.declared.NumberAt.{NumberAt}
-use Rattle.link_numbers.specs.declared.NumberAt.TheVariants as number
+use Rattle.link_numbers.specs.declared.Number.{Number}
 use Rattle.link_numbers.specs.Told.{number_told, NumberFits, Short, joined_to}
 
 pub number_none : (most : ℕ) (v : Bytes) → most ≡ 0 → none ≡ take_number most v
@@ -49,14 +49,14 @@ one_fits most c z l =
 
 -- ---- what an answer that is known says
 
-abbrev pub Says : Bytes → (most : ℕ) → Bytes → NumberAt → Type 0
+abbrev pub Says : Bytes → (most : ℕ) → Bytes → Option Number → Type 0
 Says v most w a = (number_told v a ≡ take_number most w) × NumberFits v most a
 
-pub says_number : (v : Bytes) (most : ℕ) (w : Bytes) {a : NumberAt} {n next : ℕ} → a ≡ number.Is n next → Says v most w a
-    → (some (n, drop next v) ≡ take_number most w) × ((n < 128 ^ most) × (next ≤ length v))
+pub says_number : (v : Bytes) (most : ℕ) (w : Bytes) {a : Option Number} {n : Number} → a ≡ Some n → Says v most w a
+    → (some (n.value, drop n.next v) ≡ take_number most w) × ((n.value < 128 ^ most) × (n.next ≤ length v))
 says_number v most w e h = subst (Says v most w) e h
 
-pub says_broken : (v : Bytes) (most : ℕ) (w : Bytes) {a : NumberAt} → a ≡ number.Broken → Says v most w a → none ≡ take_number most w
+pub says_broken : (v : Bytes) (most : ℕ) (w : Bytes) {a : Option Number} → a ≡ None → Says v most w a → none ≡ take_number most w
 says_broken v most w e h = (subst (Says v most w) e h).0
 
 -- ---- the byte c at a place of v
@@ -68,81 +68,81 @@ module _ (most at c : ℕ) (v : Bytes) (z : 1 ≤ most) (h : at < length v) (e :
   one_on : drop at v ≡ c ∷ drop (at + 1) v
   one_on = rw (add-one at, e) (drop-cons v at 0 h)
 
-  pub number_last : c < 128 → Says v most (drop at v) (number.Is c (at + 1))
+  pub number_last : c < 128 → Says v most (drop at v) (Some (record { value = c; next = at + 1 }))
   unfolding take_number
   number_last l = (sym (ap (λ (m : ℕ). take_number m (drop at v)) some_most ∙ rw (one_on, lt-ltb c 128 l)), (one_fits most c z l, omega (arith, h)))
 
 -- more bytes follow c, and were read as a
-pub record More (most at c : ℕ) (v : Bytes) (a : NumberAt) : Type 0 where
+pub record More (most at c : ℕ) (v : Bytes) (a : Option Number) : Type 0 where
   pub some_most : 1 ≤ most
   pub inside : at < length v
   pub byte : c ≡ get_or v at 0
   pub high : 128 ≤ c
   pub rest : Says v (most - 1) (drop (at + 1) v) a
 
-module _ {most at c : ℕ} {v : Bytes} {a : NumberAt} (m : More most at c v a) where
+module _ {most at c : ℕ} {v : Bytes} {a : Option Number} (m : More most at c v a) where
   number_more : take_number most (drop at v) ≡ joined (c % 128) (number_told v a)
   unfolding take_number
   number_more =
       ap (λ (k : ℕ). take_number k (drop at v)) (some_most most at c v m.some_most m.inside m.byte)
       ∙ rw (one_on most at c v m.some_most m.inside m.byte, le-ltb c 128 m.high) (ap (joined (c % 128)) (sym m.rest.0))
 
-  number_broken : a ≡ number.Broken → none ≡ take_number most (drop at v)
+  number_broken : a ≡ None → none ≡ take_number most (drop at v)
   unfolding joined
   number_broken is = sym (number_more ∙ rw is)
 
-  module _ {n next : ℕ} (is : a ≡ number.Is n next) where
-    fits : (n < 128 ^ (most - 1)) × (next ≤ length v)
+  module _ {n : Number} (is : a ≡ Some n) where
+    fits : (n.value < 128 ^ (most - 1)) × (n.next ≤ length v)
     fits = (says_number v (most - 1) (drop (at + 1) v) is m.rest).1
 
     -- what is behind is below 128 to the seventh
-    seven_bytes : most ≤ 8 → n < 562949953421312
+    seven_bytes : most ≤ 8 → n.value < 562949953421312
     seven_bytes l =
         let p : 128 ^ (most - 1) ≤ 128 ^ 7 = pow-le-pow_right (omega arith) {i = most - 1} {j = 7} (omega arith) in
         omega (arith, p, fits.0)
 
-    on : take_number most (drop at v) ≡ joined (c % 128) (some (n, drop next v))
-    on = number_more ∙ ap (λ (x : NumberAt). joined (c % 128) (number_told v x)) is
+    on : take_number most (drop at v) ≡ joined (c % 128) (some (n.value, drop n.next v))
+    on = number_more ∙ ap (λ (x : Option Number). joined (c % 128) (number_told v x)) is
 
-    number_zero : n ≡ 0 → none ≡ take_number most (drop at v)
-    number_zero e = sym (on ∙ joined_zero (c % 128) n (drop next v) e)
+    number_zero : n.value ≡ 0 → none ≡ take_number most (drop at v)
+    number_zero e = sym (on ∙ joined_zero (c % 128) n.value (drop n.next v) e)
 
-    number_on : (n ≡ 0 → ⊥) → Says v most (drop at v) (number.Is (c % 128 + 128 * n) next)
-    number_on ne = (sym (on ∙ joined_more (c % 128) n (drop next v) ne), (more_fits most (c % 128) n m.some_most (omega arith) fits.0, fits.1))
+    number_on : (n.value ≡ 0 → ⊥) → Says v most (drop at v) (Some (record { value = c % 128 + 128 * n.value; next = n.next }))
+    number_on ne = (sym (on ∙ joined_more (c % 128) n.value (drop n.next v) ne), (more_fits most (c % 128) n.value m.some_most (omega arith) fits.0, fits.1))
 
 -- ---- the byte c joined to what was read behind it
 
-pub short_is : {a : NumberAt} {n next : ℕ} → a ≡ number.Is n next → Short a → n < 562949953421312
+pub short_is : {a : Option Number} {n : Number} → a ≡ Some n → Short a → n.value < 562949953421312
 short_is is h = subst Short is h
 
-module _ (c : ℕ) {a : NumberAt} where
-  pub joins_broken : a ≡ number.Broken → number.Broken ≡ joined_to c a
+module _ (c : ℕ) {a : Option Number} where
+  pub joins_broken : a ≡ None → None ≡ joined_to c a
   unfolding joined_to
   joins_broken e = sym (ap (joined_to c) e)
 
-  module _ {n next : ℕ} (is : a ≡ number.Is n next) where
-    pub joins_zero : n ≡ 0 → number.Broken ≡ joined_to c a
+  module _ {n : Number} (is : a ≡ Some n) where
+    pub joins_zero : n.value ≡ 0 → None ≡ joined_to c a
     unfolding joined_to
-    joins_zero e = sym (ap (joined_to c) is ∙ rw (eq-eqb n 0 e))
+    joins_zero e = sym (ap (joined_to c) is ∙ rw (eq-eqb n.value 0 e))
 
-    pub joins_more : (n ≡ 0 → ⊥) → number.Is (c % 128 + 128 * n) next ≡ joined_to c a
+    pub joins_more : (n.value ≡ 0 → ⊥) → Some (record { value = c % 128 + 128 * n.value; next = n.next }) ≡ joined_to c a
     unfolding joined_to
-    joins_more ne = sym (ap (joined_to c) is ∙ rw (ne_eqb n 0 ne))
+    joins_more ne = sym (ap (joined_to c) is ∙ rw (ne_eqb n.value 0 ne))
 
-module _ {most at c : ℕ} {v : Bytes} {a : NumberAt} (m : More most at c v a) where
+module _ {most at c : ℕ} {v : Bytes} {a : Option Number} (m : More most at c v a) where
   pub rest_short : most ≤ 8 → Short a
   rest_short l = go a refl
     where
-      go : (x : NumberAt) → a ≡ x → Short x
-      go (number.Is n next) is = seven_bytes m is l
-      go number.Broken is = tt
+      go : (x : Option Number) → a ≡ x → Short x
+      go (Some n) is = seven_bytes m is l
+      go None is = tt
 
-  pub number_joined : {r : NumberAt} → r ≡ joined_to c a → Says v most (drop at v) r
+  pub number_joined : {r : Option Number} → r ≡ joined_to c a → Says v most (drop at v) r
   number_joined e = subst (Says v most (drop at v)) (sym e) (go a refl)
     where
-      go : (x : NumberAt) → a ≡ x → Says v most (drop at v) (joined_to c a)
-      go (number.Is n next) is = elim (ℕ_discrete n 0) [
+      go : (x : Option Number) → a ≡ x → Says v most (drop at v) (joined_to c a)
+      go (Some n) is = elim (ℕ_discrete n.value 0) [
         | yes z ↦ subst (Says v most (drop at v)) (joins_zero c is z) (number_zero m is z, tt)
         | no ne ↦ subst (Says v most (drop at v)) (joins_more c is ne) (number_on m is ne)
       ]
-      go number.Broken is = subst (Says v most (drop at v)) (joins_broken c is) (number_broken m is, tt)
+      go None is = subst (Says v most (drop at v)) (joins_broken c is) (number_broken m is, tt)

@@ -7,67 +7,62 @@ ghost use Rattle.volume.specs.Bytes.{put};
 ghost use Rattle.link_list.specs.Coding.{groups, take_number, accession};
 ghost use Rattle.link_numbers.specs.Told.{number_told, NumberFits, Short, joined_to};
 
-fn wide(x: u8) -> u64
-    ensures { result ≡ x }
-{
-    x as u64
-}
-
 // A number and the byte behind it.
 #[derive(Clone, Copy)]
-pub enum NumberAt {
-    Is(u64, usize),
-    Broken,
+pub struct Number {
+    pub value: u64,
+    pub next: usize,
 }
 
 // The seven bits of a byte with more behind it, and 128 times the number there. In the shortest form that one is not 0.
 #[tactic(auto, using(crate::proofs::Turns::joins_zero))]
-fn joined(byte: u64, rest: NumberAt) -> NumberAt
+fn joined(byte: u64, rest: Option<Number>) -> Option<Number>
     requires { Short rest }
     ensures { result ≡ joined_to byte rest }
 {
-    let NumberAt::Is(higher, next) = rest else {
-        return NumberAt::Broken;
-    };
-    if higher == 0 {
-        return NumberAt::Broken;
+    let higher = rest?;
+    if higher.value == 0 {
+        return None;
     }
-    NumberAt::Is(byte % 128 + 128 * higher, next)
+    Some(Number {
+        value: byte % 128 + 128 * higher.value,
+        next: higher.next,
+    })
 }
 
 // A number of at most so many bytes, the shortest form only.
-fn number_from(s: &[u8], at: usize, most: usize) -> NumberAt
+fn number_from(s: &[u8], at: usize, most: usize) -> Option<Number>
     requires { most ≤ 8 }
     ensures { (number_told s.now result ≡ take_number most (drop at s.now)) × NumberFits s.now most result }
 {
     if most == 0 {
-        return NumberAt::Broken;
+        return None;
     }
-    if s.len() <= at {
-        return NumberAt::Broken;
-    }
-    let byte = wide(s[at]);
+    let byte = u64::from(*s.get(at)?);
     if byte < 128 {
-        return NumberAt::Is(byte, at + 1);
+        return Some(Number {
+            value: byte,
+            next: at + 1,
+        });
     }
     let rest = number_from(s, at + 1, most - 1);
     joined(byte, rest)
 }
 
 // The same, for the second byte of a number.
-fn number_behind(s: &[u8], at: usize, most: usize) -> NumberAt
+fn number_behind(s: &[u8], at: usize, most: usize) -> Option<Number>
     requires { most ≤ 8 }
     ensures { (number_told s.now result ≡ take_number most (drop at s.now)) × NumberFits s.now most result }
 {
     if most == 0 {
-        return NumberAt::Broken;
+        return None;
     }
-    if s.len() <= at {
-        return NumberAt::Broken;
-    }
-    let byte = wide(s[at]);
+    let byte = u64::from(*s.get(at)?);
     if byte < 128 {
-        return NumberAt::Is(byte, at + 1);
+        return Some(Number {
+            value: byte,
+            next: at + 1,
+        });
     }
     let rest = number_from(s, at + 1, most - 1);
     joined(byte, rest)
@@ -75,19 +70,19 @@ fn number_behind(s: &[u8], at: usize, most: usize) -> NumberAt
 
 // The same. The first two bytes, and nearly no number has more, are read by functions that do not call themselves: the back end puts those in the place of
 // their call, so that where the next number begins is not told through memory, which would have to be waited for.
-pub fn number_at(s: &[u8], at: usize, most: usize) -> NumberAt
+pub fn number_at(s: &[u8], at: usize, most: usize) -> Option<Number>
     requires { most ≤ 8 }
     ensures { (number_told s.now result ≡ take_number most (drop at s.now)) × NumberFits s.now most result }
 {
     if most == 0 {
-        return NumberAt::Broken;
+        return None;
     }
-    if s.len() <= at {
-        return NumberAt::Broken;
-    }
-    let byte = wide(s[at]);
+    let byte = u64::from(*s.get(at)?);
     if byte < 128 {
-        return NumberAt::Is(byte, at + 1);
+        return Some(Number {
+            value: byte,
+            next: at + 1,
+        });
     }
     let rest = number_behind(s, at + 1, most - 1);
     joined(byte, rest)
@@ -103,8 +98,8 @@ pub fn put_number(bytes: &mut [u8], at: usize, number: u64) -> usize
     let mut place = at;
     while 128 <= rest {
         bytes[place] = (128 + rest % 128) as u8;
-        rest = rest / 128;
-        place = place + 1;
+        rest /= 128;
+        place += 1;
     }
     bytes[place] = rest as u8;
     place + 1
@@ -115,11 +110,9 @@ pub fn put_digits(bytes: &mut [u8], at: usize, count: usize, value: u64)
     requires { at + count ≤ length bytes.old }
     ensures { bytes.new ≡ put at (accession count value) bytes.old }
 {
-    let mut left = count;
     let mut rest = value;
-    while 0 < left {
-        left = left - 1;
+    for left in (0..count).rev() {
         bytes[at + left] = (48 + rest % 10) as u8;
-        rest = rest / 10;
+        rest /= 10;
     }
 }

@@ -2,13 +2,14 @@
 -- listing, whose 5 and 6 stand below 11; and the old file by finding it.
 use mathlib.Core.Path.{◌≡◌, refl, sym, ap, ◌∙◌, subst}
 use mathlib.Core.Logic.{◌⊎◌, inl, inr}
-use mathlib.Core.Bool.{Bool, true, false, not, true≢false}
+use mathlib.Core.Bool.{Bool, true, false, not}
 use mathlib.Core.Option.{Option, none, some}
 use mathlib.Core.List.{[], ◌∷◌, ◌++◌}
+use Prim.Native.Nat.{ℕ}
 use lib.Dec.{T, eqb, leb-suc-zero}
 use borrow.Author.Tests.{not-true, ne_eqb}
 use Rattle.volume.specs.Bytes.{Bytes}
-use Rattle.std.specs.Prelude.{if◌then◌else◌}
+use Rattle.std.specs.Prelude.{if◌then◌else◌, Option as Maybe, Result, Ok, Err}
 use Rattle.model.specs.Sound.{sound}
 use Rattle.model.specs.Judge.{Judged, fault, clean, bad_entry, bad_chain, owned_twice, marked_free, lost_page, bad_count, judge}
 use Rattle.model.specs.Date.{good_date}
@@ -16,7 +17,7 @@ use Rattle.model.specs.Tree.{Tree, Row, end, free_number, Node, file_node, direc
 use Rattle.model.specs.Image.{tree_of}
 use Rattle.model.specs.Path.{Name, path_of, is_no_path, is_root, names}
 use Rattle.model.specs.Walk.{Walked, arrived, missing, blocked, walk, node_named, in_walked, walk_to, arrived_or}
-use Rattle.model.specs.Call.{Call, make_file, list, find, Kind, is_file, is_directory, Found, Refusal, refusal, refusal_at, Answer, refused, granted}
+use Rattle.model.specs.Call.{Call, make_file, list, find, Kind, is_file, is_directory, Found, Listed, Refusal, refusal, refusal_at, Answer, refused, granted}
 use Rattle.model.specs.Refusal.{is_missing, is_blocked, stopped_at, is_there, is_directory_node, is_locked_node, refusals, settle, Passes}
 use Rattle.model.specs.Meaning.{image_lines, is_format, first_fault, lines, found_at, told, tree_answer, answer, after}
 use Rattle.model.specs.MeaningOf
@@ -24,9 +25,16 @@ use Rattle.model.specs.RefusalOf
 use Rattle.laws.proofs.Lines.{passed, granted_passed, not_granted, settle_append}
 use Rattle.laws.proofs.Passed.{image_passed, sound_passed}
 use Rattle.laws.proofs.Steps.{image_skip, as_tree_lem, untouched}
-use Rattle.answers.specs.declared.FindAnswer.{FindAnswer}
-use Rattle.answers.specs.declared.FindAnswer.TheVariants as variant
-use Rattle.answers.specs.Answers.{find_answer}
+use Rattle.faults.specs.declared.Fault.TheVariants.{BadEntry, BadChain, OwnedTwice, MarkedFree, LostPage, BadCount}
+use Rattle.refusals.specs.declared.Refusal.{Refusal as Base}
+use Rattle.refusals.specs.declared.Refusal.TheVariants.{BadLength, BadHeader, Unsound, NoPath, BadDate, IsRoot, NoSuchName, NotADirectory, NameTaken, IsADirectory, Locked, PastEnd, DirectoryFull, NoFreePages, NotEmpty, NotAPage}
+use Rattle.refusals.specs.Told.{told as base-told}
+use Rattle.outcomes.specs.declared.Kind.{Kind as Told}
+use Rattle.outcomes.specs.declared.Kind.TheVariants.{File, Directory}
+use Rattle.outcomes.specs.declared.Found.{Found as Finding}
+use Rattle.outcomes.specs.declared.Listed.{Listed as Listing}
+use Rattle.outcomes.specs.Answers.{kind_of, listed_of}
+use Rattle.answers.specs.Answers.{find_answer, list_answer}
 use Rattle.link_list.specs.Links.{links_name, links_path, node_in, is_directory_there, is_locked_there, old_lines}
 use Rattle.link_list.proofs.Rows.{holds}
 use Rattle.link_list.proofs.Writing.{links_key, old_passed, links_named}
@@ -68,6 +76,38 @@ module _ (b date : Bytes) where
   pub root_kept : (f : Refusal) → refused f ≡ answer (make_file (0x2F ∷ []) date) b → after (make_file (0x2F ∷ []) date) b ≡ b
   root_kept f e = (untouched (at_root date) b f (sym e)).image
 
+-- any other refusal than that of the date has another number
+pub not_dated : (r : Base) → (r ≡ BadDate → ⊥) → not (eqb (base-told r).number 11) ≡ true
+not_dated BadLength x = refl
+not_dated BadHeader x = refl
+not_dated (Unsound (BadEntry d i)) x = refl
+not_dated (Unsound (BadChain d i passed)) x = refl
+not_dated (Unsound (OwnedTwice p)) x = refl
+not_dated (Unsound (MarkedFree p)) x = refl
+not_dated (Unsound (LostPage p)) x = refl
+not_dated (Unsound BadCount) x = refl
+not_dated NoPath x = refl
+not_dated BadDate x = absurd (x refl)
+not_dated IsRoot x = refl
+not_dated (NoSuchName at) x = refl
+not_dated (NotADirectory at) x = refl
+not_dated NameTaken x = refl
+not_dated IsADirectory x = refl
+not_dated Locked x = refl
+not_dated PastEnd x = refl
+not_dated DirectoryFull x = refl
+not_dated NoFreePages x = refl
+not_dated NotEmpty x = refl
+not_dated NotAPage x = refl
+
+-- by the refusal of the make
+module _ (b date : Bytes) (r : Base) (said : refused (base-told r) ≡ answer (make_file (0x2F ∷ []) date) b) (is-bad : Bool) where
+  pub dated_bad : r ≡ BadDate → is-bad ≡ true → DateJudged b date (not is-bad)
+  dated_bad e m h = ap not m ∙ ap (λ (q : Base). not (eqb (base-told q).number 11)) (sym e) ∙ date_judged b date (base-told r) said h
+
+  pub dated_good : (r ≡ BadDate → ⊥) → is-bad ≡ false → DateJudged b date (not is-bad)
+  dated_good e m h = ap not m ∙ sym (not_dated r e) ∙ date_judged b date (base-told r) said h
+
 -- ---- 11 above 5 and 6
 
 pub first_good : (good : Bool) (f : Refusal) → good ≡ true → f ≡ date_first good f
@@ -87,6 +127,35 @@ kept_told false f x y = rw (x, y) refl
 
 pub first_other : (good : Bool) (f : Refusal) → (f.number ≡ 5 → ⊥) → (f.number ≡ 6 → ⊥) → f ≡ date_first good f
 first_other good f x y = sym (kept_told good f (ne_eqb f.number 5 x) (ne_eqb f.number 6 y))
+
+-- a walk that did not arrive
+pub first_stopped : (good : Bool) (r : Base) → good ≡ false → ((at : ℕ) × (r ≡ NoSuchName at)) ⊎ ((at : ℕ) × (r ≡ NotADirectory at)) → refusal 11 ≡ date_first good (base-told r)
+first_stopped good r g (inl e) = first_walk good (base-told r) g (inl (ap (λ (q : Base). (base-told q).number) e.1))
+first_stopped good r g (inr e) = first_walk good (base-told r) g (inr (ap (λ (q : Base). (base-told q).number) e.1))
+
+-- what is refused otherwise stays as it is
+pub first_stays : (good : Bool) (r : Base) → ((at : ℕ) → r ≡ NoSuchName at → ⊥) → ((at : ℕ) → r ≡ NotADirectory at → ⊥) → base-told r ≡ date_first good (base-told r)
+first_stays good BadLength x y = sym (kept_told good _ refl refl)
+first_stays good BadHeader x y = sym (kept_told good _ refl refl)
+first_stays good (Unsound (BadEntry d i)) x y = sym (kept_told good _ refl refl)
+first_stays good (Unsound (BadChain d i passed)) x y = sym (kept_told good _ refl refl)
+first_stays good (Unsound (OwnedTwice p)) x y = sym (kept_told good _ refl refl)
+first_stays good (Unsound (MarkedFree p)) x y = sym (kept_told good _ refl refl)
+first_stays good (Unsound (LostPage p)) x y = sym (kept_told good _ refl refl)
+first_stays good (Unsound BadCount) x y = sym (kept_told good _ refl refl)
+first_stays good NoPath x y = sym (kept_told good _ refl refl)
+first_stays good BadDate x y = sym (kept_told good _ refl refl)
+first_stays good IsRoot x y = sym (kept_told good _ refl refl)
+first_stays good (NoSuchName at) x y = absurd (x at refl)
+first_stays good (NotADirectory at) x y = absurd (y at refl)
+first_stays good NameTaken x y = sym (kept_told good _ refl refl)
+first_stays good IsADirectory x y = sym (kept_told good _ refl refl)
+first_stays good Locked x y = sym (kept_told good _ refl refl)
+first_stays good PastEnd x y = sym (kept_told good _ refl refl)
+first_stays good DirectoryFull x y = sym (kept_told good _ refl refl)
+first_stays good NoFreePages x y = sym (kept_told good _ refl refl)
+first_stays good NotEmpty x y = sym (kept_told good _ refl refl)
+first_stays good NotAPage x y = sym (kept_told good _ refl refl)
 
 -- ---- the directory is there
 
@@ -113,20 +182,20 @@ pub there_passes : (b d : Bytes) → There b d → Passes (image_lines b ++ dire
 unfolding directory_lines settle is_missing is_blocked
 there_passes b d h = image_skip b h.is_sound some none (directory_lines d (tree_of b)) ∙ rw (h.leads, is_path_lem d h.is_path) refl
 
+-- a listing that is not refused tells that it is there
+pub listed_there : (a : Result (Maybe Listing) Base) → ((r : Base) → a ≡ Err r → ⊥) → (x : Listed) × (list_answer a ≡ granted x)
+listed_there (Ok o) k = (listed_of o, refl)
+listed_there (Err r) k = absurd (k r refl)
+
 -- ---- the old file
 
-abbrev pub old_found : FindAnswer → Answer Bool
-old_found (variant.File size locked) = if locked then refused (refusal 25) else granted true
-old_found variant.Directory = refused (refusal 7)
-old_found (variant.Refused r) = granted false
+abbrev pub told_old : Told → Answer Bool
+told_old (File locked) = if locked then refused (refusal 25) else granted true
+told_old Directory = refused (refusal 7)
 
-pub locked_told : (locked : Bool) {a : Answer Bool} → locked ≡ true → (if locked then refused (refusal 25) else granted true) ≡ a → refused (refusal 25) ≡ a
-locked_told true l e = e
-locked_told false l e = absurd (true≢false (sym l))
-
-pub unlocked_told : (locked : Bool) {a : Answer Bool} → locked ≡ false → (if locked then refused (refusal 25) else granted true) ≡ a → granted true ≡ a
-unlocked_told false l e = e
-unlocked_told true l e = absurd (true≢false l)
+abbrev pub old_found : Result Finding Base → Answer Bool
+old_found (Ok f) = told_old f.kind
+old_found (Err r) = granted false
 
 kind_old : Kind → Answer Bool
 kind_old (is_file locked) = if locked then refused (refusal 25) else granted true
@@ -136,11 +205,15 @@ seen_old : Answer Found → Answer Bool
 seen_old (refused f) = granted false
 seen_old (granted x) = kind_old x.kind
 
-said_old : (a : FindAnswer) (date : Bytes) → old_found a ≡ seen_old (find_answer a date)
-unfolding seen_old kind_old
-said_old (variant.File size locked) date = refl
-said_old variant.Directory date = refl
-said_old (variant.Refused r) date = refl
+said_kind : (k : Told) → told_old k ≡ kind_old (kind_of k)
+unfolding kind_old
+said_kind (File locked) = refl
+said_kind Directory = refl
+
+said_old : (a : Result Finding Base) → old_found a ≡ seen_old (find_answer a)
+unfolding seen_old
+said_old (Ok f) = said_kind f.kind
+said_old (Err r) = refl
 
 module _ (b d : Bytes) (h : There b d) where
   tree_old : seen_old (tree_answer (find (links_path d)) (tree_of b)) ≡ old_file d (tree_of b)
@@ -156,9 +229,9 @@ module _ (b d : Bytes) (h : There b d) where
       go (some (file_node l k w)) = refl
       go (some (directory_node k r)) = refl
 
-  pub old_found_lem : (path : Bytes) → path ≡ links_path d → (a : FindAnswer) (date : Bytes) → find_answer a date ≡ answer (find path) b → old_found a ≡ old_file d (tree_of b)
-  old_found_lem path is a date e =
-      said_old a date ∙ ap seen_old (e ∙ ap (λ (p : Bytes). answer (find p) b) is ∙ (as_tree_lem (find (links_path d)) b h.is_sound).answered) ∙ tree_old
+  pub old_found_lem : (path : Bytes) → path ≡ links_path d → (a : Result Finding Base) → find_answer a ≡ answer (find path) b → old_found a ≡ old_file d (tree_of b)
+  old_found_lem path is a e =
+      said_old a ∙ ap seen_old (e ∙ ap (λ (p : Bytes). answer (find p) b) is ∙ (as_tree_lem (find (links_path d)) b h.is_sound).answered) ∙ tree_old
 
 -- ---- all of it
 

@@ -8,8 +8,8 @@ ghost use Rattle.model.specs.Meaning.{image_lines};
 ghost use Rattle.refusals.specs.Told.{told};
 ghost use Rattle.link_old.specs.Before.{DateJudged, date_first, directory_lines, old_told, old_file, old_settled};
 
+use outcomes::Kind;
 use refusals::Refusal;
-use zealfs::{ChangeAnswer, FindAnswer, ListAnswer};
 
 // The date is good, by a make that is always refused: the root's name is taken. Where the image is refused nothing is said of the date.
 fn date_is_good(image: &mut [u8], date: &[u8]) -> bool
@@ -17,8 +17,8 @@ fn date_is_good(image: &mut [u8], date: &[u8]) -> bool
     ensures image_unchanged { image.new ≡ image.old }
 {
     match zealfs::make_file(image, b"/", date) {
-        ChangeAnswer::Done => true,
-        ChangeAnswer::Refused(r) => refusals::number(r) != 11,
+        Ok(()) => true,
+        Err(r) => !matches!(r, Refusal::BadDate),
     }
 }
 
@@ -29,45 +29,34 @@ fn date_first(good: bool, r: Refusal) -> Refusal
     if good {
         return r;
     }
-    let number = refusals::number(r);
-    if number == 5 {
-        return Refusal::BadDate;
+    match r {
+        Refusal::NoSuchName(_) | Refusal::NotADirectory(_) => Refusal::BadDate,
+        _ => r,
     }
-    if number == 6 {
-        return Refusal::BadDate;
-    }
-    r
 }
 
-// Whether there is an old LINKS, which may be removed.
-#[derive(Clone, Copy)]
-pub enum Old {
-    There(bool),
-    Refused(Refusal),
-}
-
-// The old LINKS of a directory that is there: it must be a file, and not locked. Its path is put together in the bytes lent for it.
-fn old_file(image: &[u8], directory: &[u8], path: &mut [u8]) -> Old
+// Whether there is an old LINKS in a directory that is there, which may be removed: it must be a file, and not locked. Its path is put together in the bytes lent for it.
+fn old_file(image: &[u8], directory: &[u8], path: &mut [u8]) -> Result<bool, Refusal>
     requires { Passes (image_lines image.now ++ directory_lines directory.now (tree_of image.now)) × (min (length directory.now) 4335 + 6 ≤ length path.old) }
     ensures { old_told result ≡ old_file directory.now (tree_of image.now) }
 {
     let len = link_files::links_path(directory, path);
-    let found = zealfs::find(image, &path[..len]);
-    let answer = found.answer;
-    match answer {
-        FindAnswer::File(_, locked) => {
+    let Ok(found) = zealfs::find(image, &path[..len]) else {
+        return Ok(false);
+    };
+    match found.kind {
+        Kind::File { locked } => {
             if locked {
-                return Old::Refused(Refusal::Locked);
+                return Err(Refusal::Locked);
             }
-            Old::There(true)
+            Ok(true)
         }
-        FindAnswer::Directory => Old::Refused(Refusal::IsADirectory),
-        FindAnswer::Refused(_) => Old::There(false),
+        Kind::Directory => Err(Refusal::IsADirectory),
     }
 }
 
 // The same with room for the path: all but the longest are short.
-fn old_in(image: &[u8], directory: &[u8]) -> Old
+fn old_in(image: &[u8], directory: &[u8]) -> Result<bool, Refusal>
     requires { Passes (image_lines image.now ++ directory_lines directory.now (tree_of image.now)) }
     ensures { old_told result ≡ old_file directory.now (tree_of image.now) }
 {
@@ -80,18 +69,16 @@ fn old_in(image: &[u8], directory: &[u8]) -> Old
 }
 
 // All that is asked before the rows: the image, the directory's path, the date, the directory and its old LINKS.
-pub fn old_links(image: &mut [u8], directory: &[u8], date: &[u8]) -> Old
+pub fn old_links(image: &mut [u8], directory: &[u8], date: &[u8]) -> Result<bool, Refusal>
     ensures result_value { old_told result ≡ old_settled directory.now date.now image.old }
     ensures image_unchanged { image.new ≡ image.old }
 {
     let good = date_is_good(image, date);
-    let listed = zealfs::list(image, directory, 0);
-    let answer = listed.answer;
-    if let ListAnswer::Refused(r) = answer {
-        return Old::Refused(date_first(good, r));
+    if let Err(r) = zealfs::list(image, directory, 0) {
+        return Err(date_first(good, r));
     }
     if !good {
-        return Old::Refused(Refusal::BadDate);
+        return Err(Refusal::BadDate);
     }
     old_in(image, directory)
 }

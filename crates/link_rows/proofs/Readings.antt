@@ -2,7 +2,8 @@
 -- of the file.
 use mathlib.Core.Path.{◌≡◌, refl, sym, ap, subst, ◌∙◌}
 use mathlib.Core.Bool.{Bool, true, false, not}
-use mathlib.Core.Option.{Option, none, some, some-injective, none-ne-some}
+use mathlib.Core.Option as Model
+use mathlib.Core.Option.{none, some, some-injective, none-ne-some}
 use Prim.Native.Nat.{ℕ, zero, suc, ◌+◌, ◌-◌, ◌*◌, ◌%◌, ◌≤◌, ◌<◌}
 use native.Mathlib.Omega.{arith}
 use mathlib.Core.List.{List, [], ◌∷◌}
@@ -11,16 +12,14 @@ use lib.Seq.{drop-drop}
 use lib.Dec.{T, eqb, ltb}
 use borrow.Author.Tests.{ne_eqb, not-true, not-false}
 use Rattle.volume.specs.Bytes.{Bytes}
-use Rattle.std.specs.Prelude.{if◌then◌else◌}
+use Rattle.std.specs.Prelude.{if◌then◌else◌, Option, Some, None}
 use Rattle.model.specs.Call.{Refusal, refusal_at, Answer, refused, granted}
 use Rattle.laws.proofs.Lines.{not_granted}
 use Rattle.link_list.specs.declared.Row.{Row}
 use Rattle.link_list.specs.Coding.{Taken, joined, take_number, in_range, and_then, kept, take_row}
 use Rattle.link_list.specs.Judging.{follows, Reading, bad, rows, row, read_row, read_from, read_list}
-use Rattle.link_judge.specs.Judged.{follows_last}
-use Rattle.link_judge.proofs.Orders.{before_of, follows_last_lem}
-use Rattle.link_rows.specs.declared.RowAt.{RowAt}
-use Rattle.link_rows.specs.declared.RowAt.TheVariants as row_at
+use Rattle.link_judge.specs.Judged.{before_of}
+use Rattle.link_rows.specs.declared.Step.{Step}
 use Rattle.link_rows.specs.Told.{row_told, RowFits, step_of, step_at, steps_from, counted}
 
 -- ---- what is left is shorter
@@ -77,80 +76,71 @@ row_shorter v r w e =
 -- ---- where a file that is read stands
 
 -- i rows and `at` bytes of v are behind
-unfoldable pub counted_at : Bytes → (i at : ℕ) → Bool → Row → Answer ℕ
-counted_at v i at any last = counted i (read_from (length v - i) (length v) i (before_of any last) (drop at v))
+unfoldable pub counted_at : Bytes → (i at : ℕ) → Option Row → Answer ℕ
+counted_at v i at last = counted i (read_from (length v - i) (length v) i (before_of last) (drop at v))
 
 counted_row : (i : ℕ) (r : Row) (rest : Reading) → counted i (row r rest) ≡ counted (i + 1) rest
 unfolding counted row
 counted_row i r (bad f) = refl
 counted_row i r (rows rs) = let e : i + suc (length rs) ≡ i + 1 + length rs = omega arith in ap (λ (n : ℕ). granted n) e
 
-pub counted_first : (v : Bytes) (last : Row) → counted_at v 0 0 false last ≡ counted 0 (read_list v)
-unfolding counted_at read_list before_of
-counted_first v last = let e : length v - 0 ≡ length v = omega arith in ap (λ (n : ℕ). counted 0 (read_from n (length v) 0 none v)) e
+pub counted_first : (v : Bytes) → counted_at v 0 0 None ≡ counted 0 (read_list v)
+unfolding counted_at read_list
+counted_first v = let e : length v - 0 ≡ length v = omega arith in ap (λ (n : ℕ). counted 0 (read_from n (length v) 0 none v)) e
 
-pub counted_end : (v : Bytes) (i at : ℕ) (any : Bool) (last : Row) {x : Answer ℕ} → length v ≤ at → counted_at v i at any last ≡ x → granted i ≡ x
+pub counted_end : (v : Bytes) (i at : ℕ) (last : Option Row) {x : Answer ℕ} → length v ≤ at → counted_at v i at last ≡ x → granted i ≡ x
 unfolding counted_at counted read_from
-counted_end v i at any last h e = sym (rw (drop_of_length-le v h) (go (length v - i))) ∙ e
+counted_end v i at last h e = sym (rw (drop_of_length-le v h) (go (length v - i))) ∙ e
   where
     plain : i + 0 ≡ i
     plain = omega arith
 
-    go : (most : ℕ) → counted i (read_from most (length v) i (before_of any last) []) ≡ granted i
+    go : (most : ℕ) → counted i (read_from most (length v) i (before_of last) []) ≡ granted i
     go zero = ap (λ (n : ℕ). granted n) plain
     go (suc most) = ap (λ (n : ℕ). granted n) plain
 
--- ---- what a row that is known says
-
-abbrev Says : Bytes → ℕ → RowAt → Type 0
-Says v at a = (row_told v a ≡ take_row (drop at v)) × RowFits v a
-
-says_row : (v : Bytes) (at : ℕ) {a : RowAt} {r : Row} {next : ℕ} → a ≡ row_at.Is r next → Says v at a → (take_row (drop at v) ≡ some (r, drop next v)) × (at < next) × (next ≤ length v)
-says_row v at {a} {r} {next} e h =
-    let s : Says v at (row_at.Is r next) = subst (Says v at) e h in
-    let l = row_shorter (drop at v) r (drop next v) (sym s.0) in
-    (sym s.0, omega (arith, l, length-drop at v, length-drop next v, s.1), s.1)
+-- ---- what a row that was read says
 
 -- a row that begins before the end was read as a, and all comes to x
-pub record Reads (v : Bytes) (i at : ℕ) (any : Bool) (last : Row) (a : RowAt) (x : Answer ℕ) : Type 0 where
+pub record Reads (v : Bytes) (i at : ℕ) (last : Option Row) (a : Option Step) (x : Answer ℕ) : Type 0 where
   pub few : i ≤ at
   pub inside : at < length v
-  pub says : Says v at a
-  pub comes : counted_at v i at any last ≡ x
+  pub says : (row_told v a ≡ take_row (drop at v)) × RowFits v a
+  pub comes : counted_at v i at last ≡ x
 
-module _ {v : Bytes} {i at : ℕ} {any : Bool} {last : Row} {a : RowAt} {x : Answer ℕ} (s : Reads v i at any last a x) where
+module _ (v : Bytes) (i at : ℕ) (last : Option Row) where
   here : Taken Row → Reading
-  here t = read_row i at (before_of any last) (λ r rest. read_from (length v - (i + 1)) (length v) (i + 1) (some r) rest) t
+  here t = read_row i at (before_of last) (λ r rest. read_from (length v - (i + 1)) (length v) (i + 1) (some r) rest) t
 
-  opened : counted_at v i at any last ≡ counted i (here (take_row (drop at v)))
+  opened : i ≤ at → at < length v → counted_at v i at last ≡ counted i (here (take_row (drop at v)))
   unfolding counted_at read_from here
-  opened =
-      let l = s.few in
-      let h = s.inside in
+  opened l h =
       let more : length v - i ≡ suc (length v - (i + 1)) = omega arith in
       let some_left : length (drop at v) ≡ 0 → ⊥ = λ z. let q = length-drop at v in omega arith in
       let place : length v - length (drop at v) ≡ at = let q = length-drop at v in omega arith in
       rw (more, ne_eqb (length (drop at v)) 0 some_left, place)
 
-  pub counted_broken : a ≡ row_at.Broken → refused (refusal_at 21 at) ≡ x
+module _ {v : Bytes} {i at : ℕ} {last : Option Row} {x : Answer ℕ} where
+  pub counted_broken : Reads v i at last None x → refused (refusal_at 21 at) ≡ x
   unfolding here read_row counted
-  counted_broken e =
-      let no : take_row (drop at v) ≡ none = sym (subst (Says v at) e s.says).0 in
-      sym (opened ∙ rw no) ∙ s.comes
+  counted_broken s = sym (opened v i at last s.few s.inside ∙ rw (sym s.says.0)) ∙ s.comes
 
-  module _ {r : Row} {next : ℕ} (is : a ≡ row_at.Is r next) where
+  module _ {r : Row} {next : ℕ} (s : Reads v i at last (Some (record { row = r; next = next })) x) where
     -- what is left is shorter
     pub further : (at < next) × (next ≤ length v)
-    further = let k = says_row v at is s.says in (k.1, k.2)
+    further =
+        let l = row_shorter (drop at v) r (drop next v) (sym s.says.0) in
+        let n = s.says.1 in
+        (omega (arith, l, length-drop at v, length-drop next v), n)
 
-    module _ {f : Bool} (tested : f ≡ follows_last any last r) where
+    module _ {f : Bool} (tested : f ≡ follows (before_of last) r) where
       pub counted_low : not f ≡ true → refused (refusal_at 22 i) ≡ x
       unfolding here read_row counted
-      counted_low h = sym (opened ∙ rw ((says_row v at is s.says).0, follows_last_lem any last r, sym tested ∙ not-true f h)) ∙ s.comes
+      counted_low h = sym (opened v i at last s.few s.inside ∙ rw (sym s.says.0, sym tested ∙ not-true f h)) ∙ s.comes
 
-      pub counted_next : not f ≡ false → counted_at v (i + 1) next true r ≡ x
-      unfolding here read_row counted_at before_of
-      counted_next h = sym (opened ∙ rw ((says_row v at is s.says).0, follows_last_lem any last r, sym tested ∙ not-false f h) (counted_row i r _)) ∙ s.comes
+      pub counted_next : not f ≡ false → counted_at v (i + 1) next (Some r) ≡ x
+      unfolding here read_row counted_at
+      counted_next h = sym (opened v i at last s.few s.inside ∙ rw (sym s.says.0, sym tested ∙ not-false f h) (counted_row i r _)) ∙ s.comes
 
 -- ---- what is left is the file from a byte on
 
@@ -231,7 +221,7 @@ steps_cons v at r w (rows qs) rs t ih e =
     let z : rs ≡ r ∷ qs = sym (ap rows_or e) in
     rw (z, t) (ap (λ (xs : List Row). r ∷ xs) (ih qs refl))
 
-steps_from_lem : (most size i : ℕ) (before : Option Row) (v : Bytes) (at : ℕ) (rs : List Row) → at ≤ length v → read_from most size i before (drop at v) ≡ rows rs → steps_from v (length rs) at ≡ rs
+steps_from_lem : (most size i : ℕ) (before : Model.Option Row) (v : Bytes) (at : ℕ) (rs : List Row) → at ≤ length v → read_from most size i before (drop at v) ≡ rows rs → steps_from v (length rs) at ≡ rs
 unfolding read_from read_row
 steps_from_lem zero size i before v at rs h e = steps_nil v at rs e
 steps_from_lem (suc most) size i before v at rs h e = go (eqb (length (drop at v)) 0) (take_row (drop at v)) refl (λ r w l qs. steps_from_lem most size (i + 1) (some r) v (length v - length w) qs l) e

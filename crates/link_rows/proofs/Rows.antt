@@ -1,26 +1,25 @@
 -- A row, a number at a time, and the step to the next one.
-use mathlib.Core.Path.{◌≡◌, sym, ap, subst, ◌∙◌}
+use mathlib.Core.Path.{◌≡◌, sym, ap, ◌∙◌}
 use mathlib.Core.Bool.{Bool, true, false, not}
 use mathlib.Core.Option.{none, some}
 use Prim.Native.Nat.{ℕ, ◌-◌, ◌≤◌}
 use native.Mathlib.Omega.{arith}
 use lib.ListN.{length, drop, length-drop}
 use borrow.Author.Tests.{not-true, not-false}
+use Rattle.std.specs.Prelude.{Option, Some, None}
+use Rattle.std.specs.Option.{unwrap_or}
 use Rattle.volume.specs.Bytes.{Bytes}
 use Rattle.link_list.specs.declared.Row.{Row}
 use Rattle.link_list.specs.Coding.{Taken, take_number, in_range, and_then, kept, take_row}
-use Rattle.link_numbers.specs.declared.NumberAt.{NumberAt}
-use Rattle.link_numbers.specs.declared.NumberAt.TheVariants as number
-use Rattle.link_numbers.proofs.Turns.{Says as Numbered, says_number, says_broken}
+use Rattle.link_numbers.specs.declared.Number.{Number}
 use Rattle.link_judge.specs.Judged.{no_row}
-use Rattle.link_rows.specs.declared.RowAt.{RowAt}
-use Rattle.link_rows.specs.declared.RowAt.TheVariants as row
+use Rattle.link_rows.specs.declared.Step.{Step}
 use Rattle.link_rows.specs.Told.{row_told, RowFits, step_of, step_at}
 
-abbrev Says : Bytes → Taken Row → RowAt → Type 0
+abbrev Says : Bytes → Taken Row → Option Step → Type 0
 Says v x r = (row_told v r ≡ x) × RowFits v r
 
--- ---- a row, whose numbers were read as a, a₂ and a₃ of v
+-- ---- a row, whose numbers were read from v
 
 -- three numbers stand at the front of w, and what is behind them is v from a byte on
 pub record Three (v w : Bytes) (count value figure next : ℕ) : Type 0 where
@@ -31,31 +30,23 @@ pub record Three (v w : Bytes) (count value figure next : ℕ) : Type 0 where
   pub figured : take_number 8 (drop n₂ v) ≡ some (figure, drop next v)
   pub inside : next ≤ length v
 
-module _ (v w : Bytes) (a : NumberAt) where
-  pub row_none : a ≡ number.Broken → Numbered v 8 w a → none ≡ take_row w
+module _ (v w : Bytes) where
+  pub row_none : none ≡ take_number 8 w → none ≡ take_row w
   unfolding take_row and_then
-  row_none b read = let e : take_number 8 w ≡ none = sym (says_broken v 8 w b read) in sym (rw e)
+  row_none e = sym (rw (sym e))
 
-  module _ {count n : ℕ} (is : a ≡ number.Is count n) (read : Numbered v 8 w a) (a₂ : NumberAt) where
-    e : take_number 8 w ≡ some (count, drop n v)
-    e = sym (says_number v 8 w is read).0
-
-    pub row_counted : a₂ ≡ number.Broken → Numbered v 8 (drop n v) a₂ → none ≡ take_row w
+  module _ (a : Number) (e : some (a.value, drop a.next v) ≡ take_number 8 w) where
+    pub row_counted : none ≡ take_number 8 (drop a.next v) → none ≡ take_row w
     unfolding take_row and_then
-    row_counted b read₂ = let f : take_number 8 (drop n v) ≡ none = sym (says_broken v 8 (drop n v) b read₂) in sym (rw (e, f))
+    row_counted f = sym (rw (sym e, sym f))
 
-    module _ {value n₂ : ℕ} (is₂ : a₂ ≡ number.Is value n₂) (read₂ : Numbered v 8 (drop n v) a₂) (a₃ : NumberAt) where
-      f : take_number 8 (drop n v) ≡ some (value, drop n₂ v)
-      f = sym (says_number v 8 (drop n v) is₂ read₂).0
-
-      pub row_valued : a₃ ≡ number.Broken → Numbered v 8 (drop n₂ v) a₃ → none ≡ take_row w
+    module _ (b : Number) (f : some (b.value, drop b.next v) ≡ take_number 8 (drop a.next v)) where
+      pub row_valued : none ≡ take_number 8 (drop b.next v) → none ≡ take_row w
       unfolding take_row and_then
-      row_valued b read₃ = let g : take_number 8 (drop n₂ v) ≡ none = sym (says_broken v 8 (drop n₂ v) b read₃) in sym (rw (e, f, g))
+      row_valued g = sym (rw (sym e, sym f, sym g))
 
-      pub three_read : {figure next : ℕ} → a₃ ≡ number.Is figure next → Numbered v 8 (drop n₂ v) a₃ → Three v w count value figure next
-      three_read is₃ read₃ =
-          let last = says_number v 8 (drop n₂ v) is₃ read₃ in
-          record { n = n; n₂ = n₂; counted = e; valued = f; figured = sym last.0; inside = last.1.1 }
+      pub three_read : {c : Number} → some (c.value, drop c.next v) ≡ take_number 8 (drop b.next v) → c.next ≤ length v → Three v w a.value b.value c.value c.next
+      three_read g l = record { n = a.next; n₂ = b.next; counted = sym e; valued = sym f; figured = sym g; inside = l }
 
 module _ {v w : Bytes} {count value figure next : ℕ} (three : Three v w count value figure next) {t : Bool} (tested : t ≡ in_range (record { count = count; value = value; figure = figure })) where
   pub row_out : not t ≡ true → none ≡ take_row w
@@ -68,17 +59,9 @@ module _ {v w : Bytes} {count value figure next : ℕ} (three : Three v w count 
 
 -- ---- a step
 
-pub step_is : (v : Bytes) (at : ℕ) (a : RowAt) (r : Row) (next : ℕ) → a ≡ row.Is r next → Says v (take_row (drop at v)) a
-    → step_at v at ≡ record { row = r; next = next }
+pub step_from : (v : Bytes) (at : ℕ) (a : Option Step) → Says v (take_row (drop at v)) a → unwrap_or a (record { row = no_row; next = at }) ≡ step_at v at
 unfolding step_at step_of
-step_is v at a r next e h =
-    let said : Says v (take_row (drop at v)) (row.Is r next) = subst (Says v (take_row (drop at v))) e h in
-    let back : length v - (length v - next) ≡ next = let inside = said.1 in omega arith in
-    ap (step_of v at) (sym said.0) ∙ rw (length-drop next v, back)
-
-pub step_none : (v : Bytes) (at : ℕ) (a : RowAt) → a ≡ row.Broken → Says v (take_row (drop at v)) a
-    → step_at v at ≡ record { row = no_row; next = at }
-unfolding step_at step_of
-step_none v at a e h =
-    let said : Says v (take_row (drop at v)) row.Broken = subst (Says v (take_row (drop at v))) e h in
-    ap (step_of v at) (sym said.0)
+step_from v at (Some s) h =
+    let back : length v - (length v - s.next) ≡ s.next = let inside = h.1 in omega arith in
+    sym (ap (step_of v at) (sym h.0) ∙ rw (length-drop s.next v, back))
+step_from v at None h = sym (ap (step_of v at) (sym h.0))

@@ -1,13 +1,10 @@
 -- The rows of a file that was judged, a step at a time.
 use mathlib.Core.Path.{◌≡◌, ap, ◌∙◌}
-use mathlib.Core.Bool.{false}
 use mathlib.Core.Option.{none, some}
 use Prim.Native.Nat.{ℕ, suc, ◌+◌, ◌-◌, ◌*◌, ◌≤◌, ◌<◌}
 use native.Mathlib.Omega.{arith}
 use mathlib.Core.List.{List, ◌∷◌}
 use lib.ListN.{length, set, length-set}
-use lib.Dec.{eqb}
-use borrow.Author.Tests.{eq-eqb, ne_eqb}
 use Rattle.volume.specs.Bytes.{Bytes, put}
 use Rattle.std.specs.Prelude.{if◌then◌else◌}
 use Rattle.link_list.specs.declared.Row.{Row}
@@ -67,14 +64,5 @@ pub figure_end : (v : Bytes) (count value rows i at : ℕ) → rows ≤ i → fi
 unfolding figure_of steps_from
 figure_end v count value rows i at h = let e : rows - i ≡ 0 = omega arith in rw e
 
-pub other_count : (count value : ℕ) (r : Row) → (r.count ≡ count → ⊥) → is_accession count value r ≡ false
-other_count count value r h = rw (ne_eqb r.count count h)
-
-pub same_count : (count value : ℕ) (r : Row) → r.count ≡ count → is_accession count value r ≡ eqb r.value value
-same_count count value r e = rw (eq-eqb r.count count e)
-
 pub place_first : (v : Bytes) (count : ℕ) (ns : List ℕ) → placed v (count - 0) 0 0 ns ≡ put 0 (numbers_of (steps_from v count 0)) ns
 place_first v count ns = let e : count - 0 ≡ count = omega arith in rw e
-
-pub figure_first : (v : Bytes) (count value rows : ℕ) → figure_of count value (steps_from v (rows - 0) 0) ≡ figure_of count value (steps_from v rows 0)
-figure_first v count value rows = let e : rows - 0 ≡ rows = omega arith in rw e

@@ -1,29 +1,23 @@
 -- What the answers of this crate say of the bytes v that were read, of a file that is judged, and of a list that is packed.
-use Rattle.std.specs.Prelude.{◌≡◌, ℕ, zero, suc, ◌+◌, ◌-◌, ◌≤◌, ◌<◌, List, [], ◌∷◌, length, drop}
-use Rattle.std.proofs.Math.Option.{Option, none, some}
+use Rattle.std.specs.Prelude.{◌≡◌, ℕ, zero, suc, ◌+◌, ◌-◌, ◌≤◌, ◌<◌, List, [], ◌∷◌, length, drop, Option, Some, None, Result, Ok, Err}
+use Rattle.std.proofs.Math.Option as Model
+use Rattle.std.proofs.Math.Option.{none, some}
 use Rattle.volume.specs.Bytes.{Bytes, put}
-use Rattle.model.specs.Call.{refusal_at, Answer, refused, granted}
+use Rattle.model.specs.Call.{Answer, refused, granted}
 use Rattle.link_list.specs.declared.Row.{Row}
 use Rattle.link_list.specs.Coding.{Taken, take_row}
 use Rattle.link_list.specs.Judging.{Reading, bad, rows}
-use Rattle.link_judge.specs.Judged.{no_row}
-use Rattle.link_rows.specs.declared.RowAt.{RowAt}
-use Rattle.link_rows.specs.declared.RowAt.TheVariants as row
+use Rattle.link_judge.specs.declared.RowFault.{RowFault}
+use Rattle.link_judge.specs.Judged.{no_row, row_refusal}
 use Rattle.link_rows.specs.declared.Step.{Step}
-use Rattle.link_rows.specs.declared.FileJudged.{FileJudged}
-use Rattle.link_rows.specs.declared.FileJudged.TheVariants as file
-use Rattle.link_rows.specs.declared.Figure.{Figure}
-use Rattle.link_rows.specs.declared.Figure.TheVariants as figure
-use Rattle.link_rows.specs.declared.Packed.{Packed}
-use Rattle.link_rows.specs.declared.Packed.TheVariants as packed
 
-abbrev pub row_told : Bytes → RowAt → Taken Row
-row_told v (row.Is r next) = some (r, drop next v)
-row_told v row.Broken = none
+abbrev pub row_told : Bytes → Option Step → Taken Row
+row_told v (Some s) = some (s.row, drop s.next v)
+row_told v None = none
 
-abbrev pub RowFits : Bytes → RowAt → Type 0
-RowFits v (row.Is r next) = next ≤ length v
-RowFits v row.Broken = Unit {0}
+abbrev pub RowFits : Bytes → Option Step → Type 0
+RowFits v (Some s) = s.next ≤ length v
+RowFits v None = Unit {0}
 
 -- the row taken off the bytes from `at` on, and the byte of v at which what is left begins
 unfoldable pub step_of : Bytes → (at : ℕ) → Taken Row → Step
@@ -48,16 +42,15 @@ unfoldable pub counted : (i : ℕ) → Reading → Answer ℕ
 counted i (bad f) = refused f
 counted i (rows rs) = granted (i + length rs)
 
-abbrev pub file_told : FileJudged → Answer ℕ
-file_told (file.Rows n) = granted n
-file_told (file.Broken at) = refused (refusal_at 21 at)
-file_told (file.NotAbove i) = refused (refusal_at 22 i)
+abbrev pub file_told : Result ℕ RowFault → Answer ℕ
+file_told (Ok n) = granted n
+file_told (Err f) = refused (row_refusal f)
 
-abbrev pub figure_told : Figure → Option ℕ
-figure_told (figure.Is n) = some n
-figure_told figure.Absent = none
+abbrev pub figure_told : Option ℕ → Model.Option ℕ
+figure_told (Some n) = some n
+figure_told None = none
 
 -- v at the front of the bytes, if there is room for it and one row more; otherwise they may hold anything
-abbrev pub Packs : (v before after : Bytes) → Packed → Type 0
-Packs v before after (packed.Size n) = (n ≡ length v) × (after ≡ put 0 v before)
-Packs v before after packed.TooLong = (length before < length v + 24) × (length after ≡ length before)
+abbrev pub Packs : (v before after : Bytes) → Option ℕ → Type 0
+Packs v before after (Some n) = (n ≡ length v) × (after ≡ put 0 v before)
+Packs v before after None = (length before < length v + 24) × (length after ≡ length before)

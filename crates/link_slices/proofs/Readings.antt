@@ -4,8 +4,9 @@ use Prim.Native.Nat.{ℕ, zero, suc, ◌+◌, ◌≤◌, ◌<◌}
 use native.Mathlib.Omega.{arith}
 use mathlib.Core.List.{List, [], ◌∷◌, ◌++◌}
 use lib.ListN.{length, set, take, drop}
-use lib.Seq.{length-take-le}
 use borrow.Author.Tests.{lt-ltb, le-ltb}
+use Rattle.std.specs.Prelude.{Result, Ok, Err, IsErrAnd}
+use Rattle.std.proofs.lemmas.Result.{err_from_is_err_and}
 use Rattle.volume.specs.Bytes.{Bytes}
 use Rattle.model.specs.Image.{tree_of}
 use Rattle.model.specs.Call.{Refusal, refusal, refused, granted}
@@ -16,16 +17,16 @@ use Rattle.link_list.specs.declared.Row.{Row}
 use Rattle.link_list.specs.Judging.{read_list}
 use Rattle.link_list.specs.Links.{read_links, links_path, reading, rows_in, file_lines, bad_line, short_line, link_lines, link_told, list_filled, link_answer, link_list}
 use Rattle.link_list.proofs.Writing.{settle_passed}
-use Rattle.link_rows.specs.declared.FileJudged.{FileJudged}
-use Rattle.link_rows.specs.declared.FileJudged.TheVariants as file
-use Rattle.link_rows.specs.Told.{step_at, steps_from, counted, file_told}
+use Rattle.link_judge.specs.declared.RowFault.{RowFault}
+use Rattle.link_judge.specs.Judged.{row_refusal}
+use Rattle.link_rows.specs.Told.{step_at, steps_from, counted}
 use Rattle.link_rows.proofs.Readings.{steps_read, reading_rows, reading_bad}
 use Rattle.refusals.specs.declared.Refusal.{Refusal as Base}
 use Rattle.refusals.specs.Told.{told}
 use Rattle.link_answers.specs.declared.LinkRefusal.{LinkRefusal}
-use Rattle.link_answers.specs.declared.LinkRefusal.TheVariants as link
-use Rattle.link_answers.specs.declared.ReadAnswer.TheVariants as read
-use Rattle.link_answers.specs.Answers.{link_refusal}
+use Rattle.link_answers.specs.declared.LinkRefusal.TheVariants.{Base as OfBase, ListTooShort}
+use Rattle.link_answers.specs.Answers.{link_refusal, row_refused}
+use Rattle.link_answers.proofs.Exits.{row_same}
 use Rattle.link_files.specs.Loaded.{file_loaded}
 use Rattle.link_files.proofs.Whole.{above, passes}
 use Rattle.link_slices.specs.declared.Found.{Found}
@@ -59,10 +60,6 @@ filled_placed v count list h = filled_from v count 0 list h
 
 -- ---- by the file's bytes
 
-none_placed : (v : Bytes) (list : List Row) → placed v 0 list ≡ list
-unfolding placed steps_from
-none_placed v list = refl
-
 module _ (v : Bytes) (list : List Row) where
   pub rows_found : (n : ℕ) → granted n ≡ counted 0 (read_list v) → n ≤ length list → (granted n ≡ rows_read v list) × (placed v n list ≡ list_read v list)
   unfolding placed rows_read list_read bad_line rows_in settle
@@ -72,46 +69,31 @@ module _ (v : Bytes) (list : List Row) where
       let steps : steps_from v n 0 ≡ r.0 = ap (λ (k : ℕ). steps_from v k 0) r.2 ∙ steps_read v r.0 r.1 in
       rw (r.1, enough) (ap (λ (k : ℕ). granted k) r.2, ap (λ (rs : List Row). rs ++ drop n list) steps ∙ ap (λ (k : ℕ). r.0 ++ drop k list) r.2)
 
-  pub short_found : (n : ℕ) → granted n ≡ counted 0 (read_list v) → length list < n → (refused (refusal 24) ≡ rows_read v list) × (placed v 0 list ≡ list_read v list)
+  pub short_found : (n : ℕ) → granted n ≡ counted 0 (read_list v) → length list < n → (refused (refusal 24) ≡ rows_read v list) × (list ≡ list_read v list)
   unfolding rows_read list_read bad_line rows_in settle
   short_found n e l =
       let r = reading_rows (read_list v) n e in
       let short = lt-ltb (length list) (length r.0) (omega (arith, r.2)) in
-      rw (r.1, short) (refl, none_placed v list)
+      rw (r.1, short) (refl, refl)
 
-  pub bad_found : (f : Refusal) → refused f ≡ counted 0 (read_list v) → (refused f ≡ rows_read v list) × (placed v 0 list ≡ list_read v list)
+  pub bad_found : (f : Refusal) → refused f ≡ counted 0 (read_list v) → (refused f ≡ rows_read v list) × (list ≡ list_read v list)
   unfolding rows_read list_read bad_line rows_in settle
-  bad_found f e = rw (reading_bad (read_list v) f e) (refl, none_placed v list)
+  bad_found f e = rw (reading_bad (read_list v) f e) (refl, refl)
 
 -- ---- in the code's words
 
-module _ (v : Bytes) (room : ℕ) (j : FileJudged) (tells : file_told j ≡ counted 0 (read_list v)) where
-  pub found_rows : (n : ℕ) → j ≡ file.Rows n → n ≤ room → FoundIn v room (record { answer = read.Rows n; size = length v; count = n })
-  found_rows n e l = record {
-    size = refl;
-    few = l;
-    right = λ list k. rows_found v list n (ap file_told (sym e) ∙ tells) (omega (arith, k));
-  }
+module _ (v : Bytes) (room : ℕ) where
+  pub found_rows : (n : ℕ) → granted n ≡ counted 0 (read_list v) → n ≤ room → FoundIn v room (Ok n)
+  found_rows n e l = record { few = l; right = λ list k. rows_found v list n e (omega (arith, k)) }
 
-  pub found_short : (n : ℕ) → j ≡ file.Rows n → room < n → FoundIn v room (record { answer = read.Refused link.ListTooShort; size = length v; count = 0 })
-  found_short n e l = record {
-    size = refl;
-    few = omega arith;
-    right = λ list k. short_found v list n (ap file_told (sym e) ∙ tells) (omega (arith, k));
-  }
+  pub found_short : (n : ℕ) → granted n ≡ counted 0 (read_list v) → room < n → FoundIn v room (Err ListTooShort)
+  found_short n e l = record { few = tt; right = λ list k. short_found v list n e (omega (arith, k)) }
 
-  found_bad : (q : LinkRefusal) → file_told j ≡ refused (link_refusal q) → FoundIn v room (record { answer = read.Refused q; size = length v; count = 0 })
-  found_bad q e = record {
-    size = refl;
-    few = omega arith;
-    right = λ list k. bad_found v list (link_refusal q) (sym e ∙ tells);
-  }
-
-  pub found_broken : (at : ℕ) → j ≡ file.Broken at → FoundIn v room (record { answer = read.Refused (link.BrokenRow at); size = length v; count = 0 })
-  found_broken at e = found_bad (link.BrokenRow at) (ap file_told e)
-
-  pub found_low : (i : ℕ) → j ≡ file.NotAbove i → FoundIn v room (record { answer = read.Refused (link.NotAbove i); size = length v; count = 0 })
-  found_low i e = found_bad (link.NotAbove i) (ap file_told e)
+  -- the exit of a `?`
+  pub found_bad : (r : Result ℕ LinkRefusal) (f : RowFault) → IsErrAnd r (λ y. y ≡ row_refused f) → refused (row_refusal f) ≡ counted 0 (read_list v) → FoundIn v room r
+  found_bad r f is e =
+      let p = err_from_is_err_and r is in
+      rw (p.1, p.2) (record { few = tt; right = λ list k. bad_found v list (link_refusal (row_refused f)) (ap (λ (x : Refusal). refused x) (row_same f) ∙ e) })
 
 -- ---- in a directory
 
@@ -131,25 +113,26 @@ module _ (d b : Bytes) (list : List Row) where
       let kept = above d b (λ f. list) ms (rs ++ drop (length rs) list) ∙ settle_passed _ (λ f. list) _ p.0 in
       rw p.1 (sym answered, sym kept)
 
-  pub refused_found : (f : Refusal) → refused f ≡ file_loaded d b → (v : Bytes) → (refused f ≡ link_answer (read_links d list) b) × (placed v 0 list ≡ link_list (read_links d list) b)
+  pub refused_found : (f : Refusal) → refused f ≡ file_loaded d b → (refused f ≡ link_answer (read_links d list) b) × (list ≡ link_list (read_links d list) b)
   unfolding file_loaded link_answer link_list link_lines
-  refused_found f e v =
+  refused_found f e =
       let ls = image_lines b ++ file_lines d (tree_of b) in
       let ms = short_line list rs ∷ [] in
-      (sym (above d b refused ms _ ∙ settle_refused ls content f refused _ (sym e)), none_placed v list ∙ sym (above d b (λ r. list) ms _ ∙ settle_refused ls content f (λ r. list) _ (sym e)))
+      (sym (above d b refused ms _ ∙ settle_refused ls content f refused _ (sym e)), sym (above d b (λ r. list) ms _ ∙ settle_refused ls content f (λ r. list) _ (sym e)))
 
 module _ (d b : Bytes) (room : ℕ) (bytes : Bytes) where
-  pub found_loaded : (n : ℕ) → granted (take n bytes) ≡ file_loaded d b → (m : ℕ) → n ≤ m → length bytes ≡ m → (r : Found) → FoundIn (take n bytes) room r → FoundFor d b room bytes r
-  found_loaded n h m l long r f =
-      let size : r.size ≡ n = f.size ∙ length-take-le n bytes (omega (arith, long)) in
-      record {
-        inside = omega (arith, size, long);
-        few = f.few;
-        right = λ list k.
-            let loaded = loaded_found d b list (take n bytes) h in
-            let front : placed (take r.size bytes) r.count list ≡ placed (take n bytes) r.count list = ap (λ (m : ℕ). placed (take m bytes) r.count list) size in
-            ((f.right list k).0 ∙ loaded.0, front ∙ (f.right list k).1 ∙ loaded.1);
-      }
+  pub found_loaded : (n : ℕ) → granted (take n bytes) ≡ file_loaded d b → n ≤ length bytes → (count : ℕ) → FoundIn (take n bytes) room (Ok count) → FoundFor d b room bytes (Ok (record { size = n; count = count }))
+  found_loaded n h l count f = record {
+    inside = l;
+    few = f.few;
+    right = λ list k. let loaded = loaded_found d b list (take n bytes) h in ((f.right list k).0 ∙ loaded.0, (f.right list k).1 ∙ loaded.1);
+  }
 
-  pub found_refused : (q : Base) → refused (told q) ≡ file_loaded d b → FoundFor d b room bytes (record { answer = read.Refused (link.Base q); size = 0; count = 0 })
-  found_refused q e = record { inside = omega arith; few = omega arith; right = λ list k. refused_found d b list (told q) e (take 0 bytes) }
+  -- the exits of a `?`
+  pub found_not : (r : Result Found LinkRefusal) (q : LinkRefusal) → IsErrAnd r (λ y. y ≡ q) → (n : ℕ) → granted (take n bytes) ≡ file_loaded d b → FoundIn (take n bytes) room (Err q) → FoundFor d b room bytes r
+  found_not r q is n h f =
+      let p = err_from_is_err_and r is in
+      rw (p.1, p.2) (λ list k. let loaded = loaded_found d b list (take n bytes) h in ((f.right list k).0 ∙ loaded.0, (f.right list k).1 ∙ loaded.1))
+
+  pub found_refused : (r : Result Found LinkRefusal) (q : Base) → IsErrAnd r (λ y. y ≡ OfBase q) → refused (told q) ≡ file_loaded d b → FoundFor d b room bytes r
+  found_refused r q is e = let p = err_from_is_err_and r is in rw (p.1, p.2) (λ list k. refused_found d b list (told q) e)

@@ -10,68 +10,43 @@ ghost use Rattle.link_judge.specs.Judged.{unjudged, judged_from};
 ghost use Rattle.link_slices.specs.Writing.{packed_at, packed_bytes, packed_from, WrittenFor};
 ghost use Rattle.link_slices.specs.Reading.{placed, FoundIn, FoundFor};
 
-use link_answers::{DoneAnswer, LinkRefusal, ReadAnswer};
-use link_files::Loaded;
+use link_answers::LinkRefusal;
 use link_judge::Judged;
 use link_list::Row;
-use link_rows::FileJudged;
 
 // ---- reading
 
-// The size of a file, how many of its rows go to the list, none where it is refused, and what the reading answers.
+// The size of a file, and how many rows it has, which all go to the list.
 #[derive(Clone, Copy)]
 struct Found {
     size: usize,
     count: usize,
-    answer: ReadAnswer,
 }
 
-// A file's bytes are judged for a list with room for so many rows.
-fn judge_found(file: &[u8], room: usize) -> Found
+// A file's bytes are judged for a list with room for so many rows; how many there are.
+fn judge_found(file: &[u8], room: usize) -> Result<usize, LinkRefusal>
     ensures { FoundIn file.now room result }
 {
-    let size = file.len();
-    match link_rows::judge_file(file) {
-        FileJudged::Rows(count) => {
-            if room < count {
-                return Found {
-                    size,
-                    count: 0,
-                    answer: ReadAnswer::Refused(LinkRefusal::ListTooShort),
-                };
-            }
-            Found {
-                size,
-                count,
-                answer: ReadAnswer::Rows(count),
-            }
-        }
-        FileJudged::Broken(at) => Found {
-            size,
-            count: 0,
-            answer: ReadAnswer::Refused(LinkRefusal::BrokenRow(at)),
-        },
-        FileJudged::NotAbove(i) => Found {
-            size,
-            count: 0,
-            answer: ReadAnswer::Refused(LinkRefusal::NotAbove(i)),
-        },
+    let count = link_rows::judge_file(file)?;
+    if room < count {
+        return Err(LinkRefusal::ListTooShort);
     }
+    Ok(count)
 }
 
 // LINKS of a directory, put at the front of the bytes and judged.
-fn find_rows(image: &[u8], directory: &[u8], room: usize, file: &mut [u8]) -> Found
+fn find_rows(
+    image: &[u8],
+    directory: &[u8],
+    room: usize,
+    file: &mut [u8],
+) -> Result<Found, LinkRefusal>
     requires { 65025 ≤ length file.old }
     ensures { FoundFor directory.now image.now room file.new result }
 {
-    match link_files::load(image, directory, file) {
-        Loaded::Size(size) => judge_found(&file[..size], room),
-        Loaded::Refused(r) => Found {
-            size: 0,
-            count: 0,
-            answer: ReadAnswer::Refused(LinkRefusal::Base(r)),
-        },
-    }
+    let size = link_files::load(image, directory, file)?;
+    let count = judge_found(&file[..size], room)?;
+    Ok(Found { size, count })
 }
 
 // So many rows of a file that was judged, put at the front of the list; past them it stays.
@@ -80,23 +55,21 @@ fn place_rows(file: &[u8], count: usize, rows: &mut [Row])
     ensures { rows.new ≡ placed file.now count rows.old }
 {
     let mut at = 0;
-    let mut i = 0;
-    while i < count {
+    for i in 0..count {
         let step = link_rows::row_from(file, at);
         rows[i] = step.row;
         at = step.next;
-        i = i + 1;
     }
 }
 
 // Reads the rows of a directory's LINKS, in the file's order; past them the list stays. No file has more bytes than the array.
-pub fn read_rows(image: &[u8], directory: &[u8], rows: &mut [Row]) -> ReadAnswer
+pub fn read_rows(image: &[u8], directory: &[u8], rows: &mut [Row]) -> Result<usize, LinkRefusal>
     ensures { (read_told result ≡ link_answer (read_links directory.now rows.old) image.now) × (rows.new ≡ link_list (read_links directory.now rows.old) image.now) }
 {
     let mut file = [0u8; 65025];
-    let found = find_rows(image, directory, rows.len(), &mut file);
+    let found = find_rows(image, directory, rows.len(), &mut file)?;
     place_rows(&file[..found.size], found.count, rows);
-    found.answer
+    Ok(found.count)
 }
 
 // ---- writing
@@ -106,10 +79,8 @@ fn judge_rows(rows: &[Row]) -> Judged
     ensures { result ≡ judged_from 0 unjudged rows.now }
 {
     let mut state = link_judge::fresh();
-    let mut i = 0;
-    while i < rows.len() {
-        state = link_judge::judge_row(state, i, rows[i]);
-        i = i + 1;
+    for (i, &row) in rows.iter().enumerate() {
+        state = link_judge::judge_row(state, i, row);
     }
     state
 }
@@ -136,10 +107,8 @@ fn pack_rows(rows: &[Row], bytes: &mut [u8]) -> usize
     ensures { (result, bytes.new) ≡ packed_from 0 bytes.old rows.now }
 {
     let mut at = 0;
-    let mut i = 0;
-    while i < rows.len() {
-        at = pack_row(bytes, at, rows[i]);
-        i = i + 1;
+    for &row in rows {
+        at = pack_row(bytes, at, row);
     }
     at
 }
@@ -151,7 +120,7 @@ fn write_judged(
     date: &[u8],
     judged: Judged,
     bytes: &[u8],
-) -> DoneAnswer
+) -> Result<(), LinkRefusal>
     ensures { WrittenFor judged bytes.now directory.now date.now image.old (done_told result) image.new }
 {
     link_writes::write_packed(image, directory, date, link_judge::judgement(judged), bytes)
@@ -159,7 +128,12 @@ fn write_judged(
 
 // Writes the rows as a directory's LINKS: any old one is removed, and it is made anew with the date. No image has room for a file that the array has no
 // room for.
-pub fn write_rows(image: &mut [u8], directory: &[u8], date: &[u8], rows: &[Row]) -> DoneAnswer
+pub fn write_rows(
+    image: &mut [u8],
+    directory: &[u8],
+    date: &[u8],
+    rows: &[Row],
+) -> Result<(), LinkRefusal>
     ensures { (done_told result ≡ link_answer (write_links directory.now date.now rows.now) image.old) × (image.new ≡ link_after (write_links directory.now date.now rows.now) image.old) }
 {
     let mut bytes = [0u8; 65536];

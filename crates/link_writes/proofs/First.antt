@@ -18,7 +18,7 @@ use Rattle.model.specs.Path.{path_of, is_no_path, is_root, names}
 use Rattle.model.specs.Walk.{Walked, arrived, missing, blocked, walk, node_named, in_walked, walk_to, arrived_or}
 use Rattle.model.specs.Call.{make_file, write, remove_file, Refusal, refusal, refusal_at, Answer, refused, granted}
 use Rattle.model.specs.Refusal.{Line, is_missing, is_blocked, stopped_at, is_there, is_directory_node, is_locked_node, refusals, settle}
-use Rattle.model.specs.Meaning.{image_lines, is_format, lines, told, answer}
+use Rattle.model.specs.Meaning.{image_lines, is_format, told, answer}
 use Rattle.model.specs.MeaningOf
 use Rattle.model.specs.RefusalOf
 use Rattle.laws.proofs.Lines.{granted_passed, settle_append, settle_refused}

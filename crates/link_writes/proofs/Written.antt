@@ -2,7 +2,7 @@
 -- and leave what the writing leaves. A file that no image has room for is refused alike, whatever its bytes.
 use mathlib.Core.Path.{◌≡◌, refl, sym, ap, ◌∙◌, subst}
 use mathlib.Core.Logic.{inl, inr}
-use Prim.Native.Nat.{◌+◌, ◌-◌, ◌≤◌, ◌<◌}
+use Prim.Native.Nat.{◌≤◌, ◌<◌}
 use native.Mathlib.Omega.{arith}
 use mathlib.Core.Bool.{Bool, true, false, not}
 use mathlib.Core.Option.{none, some}
@@ -18,7 +18,7 @@ use Rattle.model.specs.Path.{path_of, is_no_path, is_root, names}
 use Rattle.model.specs.Walk.{node_named, in_walked, walk_to, arrived_or}
 use Rattle.model.specs.Call.{Call, make_file, write, remove_file, Refusal, refusal, Answer, refused, granted}
 use Rattle.model.specs.Refusal.{Line, is_missing, is_blocked, is_there, is_directory_node, is_locked_node, content_in, size, wanted, earlier, refusals, settle, Passes}
-use Rattle.model.specs.Meaning.{image_lines, told, tree_after, after}
+use Rattle.model.specs.Meaning.{image_lines, tree_after, after}
 use Rattle.model.specs.Demands.{replay}
 use Rattle.model.specs.DemandsOf
 use Rattle.model.specs.MeaningOf

@@ -12,11 +12,9 @@ ghost use Rattle.link_old.specs.Before.{old_settled};
 ghost use Rattle.link_anew.specs.Anew.{anew, then_answer, run_answer, run_whole};
 ghost use Rattle.link_writes.specs.Writing.{MayBe, GoodWrittenAs, WrittenAs};
 
-use link_answers::{DoneAnswer, LinkRefusal};
-use link_judge::ListJudged;
-use link_old::Old;
+use link_answers::LinkRefusal;
+use link_judge::RowFault;
 use refusals::Refusal;
-use zealfs::ChangeAnswer;
 
 // LINKS made anew with these bytes. Its path is put together in those lent for it.
 fn put_by(
@@ -25,7 +23,7 @@ fn put_by(
     path: &mut [u8],
     date: &[u8],
     bytes: &[u8],
-) -> ChangeAnswer
+) -> Result<(), Refusal>
     requires { T (not (is_no_path (path_of directory.now))) × (length directory.now + 6 ≤ length path.old) }
     ensures result_value { change_answer result ≡ run_answer (anew (links_path directory.now) date.now bytes.now image.old) image.old }
     ensures image_after { image.new ≡ run_whole (anew (links_path directory.now) date.now bytes.now image.old) image.old }
@@ -35,7 +33,7 @@ fn put_by(
 }
 
 // The same with room for the path: all but the longest are short.
-fn put_file(image: &mut [u8], directory: &[u8], date: &[u8], bytes: &[u8]) -> ChangeAnswer
+fn put_file(image: &mut [u8], directory: &[u8], date: &[u8], bytes: &[u8]) -> Result<(), Refusal>
     requires { T (not (is_no_path (path_of directory.now))) × (length directory.now ≤ 4335) }
     ensures result_value { change_answer result ≡ run_answer (anew (links_path directory.now) date.now bytes.now image.old) image.old }
     ensures image_after { image.new ≡ run_whole (anew (links_path directory.now) date.now bytes.now image.old) image.old }
@@ -59,27 +57,33 @@ fn may_be(directory: &[u8]) -> bool
 }
 
 // Nothing is written: what is asked before the rows stands above this refusal.
-fn refuse(image: &mut [u8], directory: &[u8], date: &[u8], refusal: LinkRefusal) -> DoneAnswer
+fn refuse(
+    image: &mut [u8],
+    directory: &[u8],
+    date: &[u8],
+    refusal: LinkRefusal,
+) -> Result<(), LinkRefusal>
     ensures result_value { done_told result ≡ then_answer (old_settled directory.now date.now image.old) (refused (link_refusal refusal)) }
     ensures image_unchanged { image.new ≡ image.old }
 {
-    match link_old::old_links(image, directory, date) {
-        Old::There(_) => DoneAnswer::Refused(refusal),
-        Old::Refused(r) => DoneAnswer::Refused(LinkRefusal::Base(r)),
-    }
+    link_old::old_links(image, directory, date)?;
+    Err(refusal)
 }
 
 // A list whose rows are good. A path that no directory has is always refused before the rows.
-fn write_good(image: &mut [u8], directory: &[u8], date: &[u8], bytes: &[u8]) -> DoneAnswer
+fn write_good(
+    image: &mut [u8],
+    directory: &[u8],
+    date: &[u8],
+    bytes: &[u8],
+) -> Result<(), LinkRefusal>
     ensures { GoodWrittenAs bytes.now directory.now date.now image.old (done_told result) image.new }
 {
     if !may_be(directory) {
         return refuse(image, directory, date, LinkRefusal::Base(Refusal::NoPath));
     }
-    match put_file(image, directory, date, bytes) {
-        ChangeAnswer::Done => DoneAnswer::Done,
-        ChangeAnswer::Refused(r) => DoneAnswer::Refused(LinkRefusal::Base(r)),
-    }
+    put_file(image, directory, date, bytes)?;
+    Ok(())
 }
 
 // Writes a list of rows of which only the judgement and the file are known: whatever list these are of, it is written. Of a list that may not be
@@ -88,14 +92,13 @@ pub fn write_packed(
     image: &mut [u8],
     directory: &[u8],
     date: &[u8],
-    judged: ListJudged,
+    judged: Result<(), RowFault>,
     bytes: &[u8],
-) -> DoneAnswer
+) -> Result<(), LinkRefusal>
     ensures { WrittenAs judged bytes.now directory.now date.now image.old (done_told result) image.new }
 {
     match judged {
-        ListJudged::Good => write_good(image, directory, date, bytes),
-        ListJudged::Broken(i) => refuse(image, directory, date, LinkRefusal::BrokenRow(i)),
-        ListJudged::NotAbove(i) => refuse(image, directory, date, LinkRefusal::NotAbove(i)),
+        Ok(()) => write_good(image, directory, date, bytes),
+        Err(fault) => refuse(image, directory, date, LinkRefusal::from(fault)),
     }
 }

@@ -3,6 +3,6 @@
 // leaves the image as `link_after` says and the numbers as `numbers_after` says. A refused call changes neither.
 #![tactic(auto)]
 
-pub use link_answers::{DoneAnswer, FindLinkAnswer, LinkRefusal, ReadAnswer};
+pub use link_answers::LinkRefusal;
 pub use link_looks::{check, find, read};
 pub use link_packs::write;

@@ -1,10 +1,9 @@
 -- List: the row of a directory is read entry by entry, so entry i of the row is what the i-th entry on the page says.
-use mathlib.Core.Path.{◌≡◌, refl, sym, ap, ap₂, ◌∙◌, subst}
+use mathlib.Core.Path.{◌≡◌, refl, sym, ap, ap₂, ◌∙◌}
 use Prim.Native.Nat.{ℕ, zero, suc, ◌+◌, ◌*◌, ◌≤◌, ◌<◌}
 use native.Mathlib.Omega.{arith}
 use mathlib.Core.Bool.{Bool}
 use mathlib.Core.List.{map}
-use lib.ListN.{replicate}
 use lib.Dec.{leb, leb-zero, leb-suc-zero, leb-suc-suc}
 use Rattle.volume.specs.Bytes.{Bytes}
 use Rattle.std.specs.Prelude.{if◌then◌else◌}
@@ -13,21 +12,14 @@ use Rattle.model.specs.Layout.{page_size}
 use Rattle.model.specs.Entry.{entry_count, entries_start, entries, is_locked, name_at, date_at, Entry, vacant, a_file, a_directory, entry_at}
 use Rattle.model.specs.Version1.{view}
 use Rattle.model.specs.Version.{v1}
-use Rattle.model.specs.Call.{list, Kind, is_file, is_directory, Listed, empty, holds, Refusal, refusal, refusal_at, Answer, refused, granted}
+use Rattle.model.specs.Call.{list, is_file, is_directory, Listed, empty, holds, Refusal, refusal, refusal_at, Answer, refused, granted}
 use Rattle.model.specs.Meaning.{answer}
 use Rattle.arrivals.specs.Listed as Of
 use Rattle.arrivals.proofs.Lists as Any
 use Rattle.places.specs.Places.{Spot, the_root, the_file, the_directory, placed}
 use Rattle.places.proofs.Arrivals.{reads}
 use borrow.Author.Tests.{le-leb, lt-leb}
-use Rattle.refusals.specs.declared.Refusal.{Refusal as Why}
-use Rattle.refusals.specs.Told.{told}
-use Rattle.answers.specs.declared.ListAnswer.{ListAnswer}
-use Rattle.answers.specs.declared.ListAnswer.TheVariants.{Empty, Refused}
-use Rattle.answers.specs.declared.Listed.{Listed as Result}
-use Rattle.answers.specs.Answers.{list_answer, list_name, list_date, ListSays, entry_told, entry_listed}
-
--- ---- entry i of a row
+use Rattle.answers.specs.Answers.{entry_told, entry_listed}
 
 -- ---- the entries of a page
 
@@ -62,22 +54,8 @@ module _ (b path : Bytes) (i : ℕ) where
   list_at_file {at} {begins} {start} {size} e = Any.list_at_lem reads b path i (the_file at begins start size) e
 
   -- what is said of a place is said by the call
-  pub list_at_lem : (r : Result) (s : Spot) → granted s ≡ placed b path → ListSays r (list_at b i s) → ListSays r (answer (list path i) b)
-  list_at_lem r s e h = subst (ListSays r) (sym (listed_there b i s) ∙ Any.list_at_lem reads b path i s e) h
-
--- ---- the values beside the answer
-
--- an answer that has neither name nor date
-abbrev pub Blank : Result → ListAnswer → Type 0
-Blank r x = (r.answer ≡ x) × (r.name ≡ replicate 16 0) × (r.date ≡ replicate 8 0)
-
-pub blank_refused : (r : Result) {x : Why} {a : Answer Listed} → Blank r (Refused x) → refused (told x) ≡ a → ListSays r a
-unfolding list_name list_date
-blank_refused r h e = (ap (λ (y : ListAnswer). list_answer y r.name r.date) h.0 ∙ e, h.1 ∙ ap list_name e, h.2 ∙ ap list_date e)
-
-pub blank_empty : (r : Result) {a : Answer Listed} → Blank r Empty → granted empty ≡ a → ListSays r a
-unfolding list_name list_date
-blank_empty r h e = (ap (λ (y : ListAnswer). list_answer y r.name r.date) h.0 ∙ e, h.1 ∙ ap list_name e, h.2 ∙ ap list_date e)
+  pub list_at_lem : {x : Answer Listed} (s : Spot) → granted s ≡ placed b path → x ≡ list_at b i s → x ≡ answer (list path i) b
+  list_at_lem s e h = h ∙ sym (listed_there b i s) ∙ Any.list_at_lem reads b path i s e
 
 -- ---- one entry
 
@@ -96,20 +74,16 @@ module _ (b : Bytes) (p i : ℕ) where
     listed_vacant e = here vacant e
 
     module _ {name date : Bytes} (is_name : name ≡ name_at b at) (is_date : date ≡ date_at b at) where
-      -- with name and date beside the answer
-      abbrev Says : Kind → ℕ → Type 0
-      Says kind size = (granted (holds kind name size date) ≡ entry_listed b p i) × (name ≡ list_name (entry_listed b p i)) × (date ≡ list_date (entry_listed b p i))
-
-      pub listed_file : {locked : Bool} {start k : ℕ} → locked ≡ is_locked b at → a_file (is_locked b at) (name_at b at) (date_at b at) start k ≡ entry_at b at → Says (is_file locked) k
-      unfolding Of.entry_told list_name list_date
+      pub listed_file : {locked : Bool} {start k : ℕ} → locked ≡ is_locked b at → a_file (is_locked b at) (name_at b at) (date_at b at) start k ≡ entry_at b at
+          → granted (holds (is_file locked) name k date) ≡ entry_listed b p i
+      unfolding Of.entry_told
       listed_file {locked} {start} {k} l e =
-          let a : granted (holds (is_file locked) name k date) ≡ entry_listed b p i =
           ap (λ (c : Bool). granted (holds (is_file c) name k date)) l ∙ ap₂ (λ (n d : Bytes). granted (holds (is_file (is_locked b at)) n k d)) is_name is_date
-          ∙ here (a_file (is_locked b at) (name_at b at) (date_at b at) start k) e in
-          (a, ap list_name a, ap list_date a)
+          ∙ here (a_file (is_locked b at) (name_at b at) (date_at b at) start k) e
 
-      pub listed_directory : {start k : ℕ} → a_directory (name_at b at) (date_at b at) start k ≡ entry_at b at → Says is_directory page_size
-      unfolding Of.entry_told list_name list_date
+      pub listed_directory : {start k : ℕ} → a_directory (name_at b at) (date_at b at) start k ≡ entry_at b at
+          → granted (holds is_directory name page_size date) ≡ entry_listed b p i
+      unfolding Of.entry_told
       listed_directory {start} {k} e =
-          let a : granted (holds is_directory name page_size date) ≡ entry_listed b p i = ap₂ (λ (n d : Bytes). granted (holds is_directory n page_size d)) is_name is_date ∙ here (a_directory (name_at b at) (date_at b at) start k) e in
-          (a, ap list_name a, ap list_date a)
+          ap₂ (λ (n d : Bytes). granted (holds is_directory n page_size d)) is_name is_date
+          ∙ here (a_directory (name_at b at) (date_at b at) start k) e

@@ -2,8 +2,8 @@
 // version 2. The image is lent for reading.
 #![tactic(auto)]
 
-ghost use Rattle.std.specs.Prelude.{◌≡◌, ◌+◌, ◌≤◌, length, replicate};
-ghost use Rattle.model.specs.Call.{list, granted};
+ghost use Rattle.std.specs.Prelude.{◌≡◌, ◌+◌, ◌≤◌, length};
+ghost use Rattle.model.specs.Call.{list};
 ghost use Rattle.model.specs.MeaningOf.{answer};
 ghost use Rattle.model2.specs.Entry.{entry_at};
 ghost use Rattle.model2.specs.Version2.{view2};
@@ -11,82 +11,74 @@ ghost use Rattle.model2.specs.Calls.{v2};
 ghost use Rattle.arrivals.specs.Listed.{entry_told, entry_listed};
 ghost use Rattle.known2.specs.Known.{Known};
 ghost use Rattle.known2.specs.Housed.{Housed};
-ghost use Rattle.answers2.specs.Answers.{ListSays};
+ghost use Rattle.outcomes.specs.Answers.{listed_of};
+ghost use Rattle.answers2.specs.Answers.{list_answer};
 
-use answers2::{ListAnswer, Listed};
-use cursor2::Step;
 use fields::{Entry, Page};
-use places2::{Arrival, Place};
+use outcomes::{Kind, Listed};
+use paths::Place;
 use refusals2::Refusal;
 use shape2::Cartridge;
 
-fn unnamed(answer: ListAnswer) -> Listed
-    ensures { (result.answer ≡ answer) × (result.name ≡ replicate 16 0) × (result.date ≡ replicate 8 0) }
-{
-    let name = [0u8; 16];
-    Listed {
-        answer,
-        name,
-        date: [0u8; 8],
-    }
-}
-
-// What the entry at a position holds, with pages of a size, which is a directory's.
-pub fn entry_told(image: &[u8], size: usize, at: usize) -> Listed
+// What the entry at a position holds, with pages of a size, which is a directory's; none where it is empty.
+pub fn entry_told(image: &[u8], size: usize, at: usize) -> Option<Listed>
     requires { at + 32 ≤ length image.now }
-    ensures { ListSays result (granted (entry_told size (entry_at image.now at))) }
+    ensures { listed_of result ≡ entry_told size (entry_at image.now at) }
 {
     match fields2::entry_at(image, at) {
-        Entry::Vacant => unnamed(ListAnswer::Empty),
+        Entry::Vacant => None,
         Entry::File(_, long) => {
             let locked = fields::is_locked(image, at);
             let name = fields::name_of(image, at);
             let date = fields2::date_of(image, at);
-            Listed {
-                answer: ListAnswer::File(long, locked),
+            Some(Listed {
+                kind: Kind::File { locked },
                 name,
+                size: long,
                 date,
-            }
+            })
         }
         Entry::Directory(_, _) => {
             let name = fields::name_of(image, at);
             let date = fields2::date_of(image, at);
-            Listed {
-                answer: ListAnswer::Directory(size),
+            Some(Listed {
+                kind: Kind::Directory,
                 name,
+                size,
                 date,
-            }
+            })
         }
     }
 }
 
 // What entry i of a directory holds, or 12 past its last entry.
-fn list_entry(image: &[u8], cartridge: Cartridge, directory: Page, i: usize) -> Listed
+fn list_entry(
+    image: &[u8],
+    cartridge: Cartridge,
+    directory: Page,
+    i: usize,
+) -> Result<Option<Listed>, Refusal>
     requires { Known image.now cartridge.shape cartridge.pages × Housed (view2 image.now) directory.0 }
-    ensures { ListSays result (entry_listed v2 image.now directory.0 i) }
+    ensures { list_answer result ≡ entry_listed v2 image.now directory.0 i }
 {
     let shape = cartridge.shape;
     let pages = cartridge.pages;
-    let Step::At(cursor) = numbered2::entry_numbered(image, shape, pages, directory, i) else {
-        return unnamed(ListAnswer::Refused(Refusal::PastEnd));
+    let Some(cursor) = numbered2::entry_numbered(image, shape, pages, directory, i) else {
+        return Err(Refusal::PastEnd);
     };
     let at = cursor2::position_of(image, shape, pages, cursor);
-    entry_told(image, shape.size, at)
+    Ok(entry_told(image, shape.size, at))
 }
 
 // What entry i of the directory holds that a path leads to.
-pub fn list(image: &[u8], path: &[u8], i: usize) -> Listed
-    ensures { ListSays result (answer v2 (list path.now i) image.now) }
+pub fn list(image: &[u8], path: &[u8], i: usize) -> Result<Option<Listed>, Refusal>
+    ensures { list_answer result ≡ answer v2 (list path.now i) image.now }
 {
-    let arrival = places2::arrive(image, path);
-    let Arrival::At(cartridge, place) = arrival else {
-        return unnamed(ListAnswer::Refused(places2::refusal_of(arrival)));
-    };
-    match place {
+    let arrived = places2::arrive(image, path)?;
+    let cartridge = arrived.cartridge;
+    match arrived.place {
         Place::Root => list_entry(image, cartridge, Page(0), i),
-        Place::File(target) => {
-            unnamed(ListAnswer::Refused(Refusal::NotADirectory(target.begins)))
-        }
+        Place::File(target) => Err(Refusal::NotADirectory(target.begins)),
         Place::Directory(target) => list_entry(image, cartridge, target.start, i),
     }
 }

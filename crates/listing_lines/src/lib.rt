@@ -29,7 +29,7 @@ pub fn pour(out: &mut [u8], sink: Sink, piece: &[u8]) -> Sink
     if out.len() <= done {
         return Sink { skip: 0, done };
     }
-    let count = fields::least(piece.len() - skip, out.len() - done);
+    let count = (piece.len() - skip).min(out.len() - done);
     let end = skip + count;
     pages::copy_in(out, done, &piece[skip..end]);
     Sink {

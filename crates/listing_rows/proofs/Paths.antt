@@ -11,8 +11,7 @@ use Rattle.std.proofs.lemmas.List.{get_or-take, get_or-drop}
 use borrow.Author.Tests.{ne_eqb}
 use lib.Dec.{eqb}
 use Rattle.volume.specs.Bytes.{Bytes, put}
-use Rattle.std.specs.Prelude.{if◌then◌else◌}
-use Rattle.volume.proofs.Splice.{take_splice_head, drop_take}
+use Rattle.volume.proofs.Splice.{take_splice_head}
 use Rattle.model.specs.Entry.{name_at}
 use Rattle.model.specs.Name.{unpadded}
 use Rattle.model.specs.Text.{text}

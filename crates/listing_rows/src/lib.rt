@@ -19,14 +19,12 @@ fn name_end(image: &[u8], at: usize) -> usize
     requires { at + 32 ≤ length image.now }
     ensures { NameEnds image.now at result }
 {
-    let mut to = at + 1;
-    while to < at + 17 {
+    for to in at + 1..at + 17 {
         if image[to] == 0 {
             return to;
         }
-        to += 1;
     }
-    to
+    at + 17
 }
 
 // Writes the path of the entry at position `at` behind that of its directory, which is the first `len` bytes, and answers its length.

@@ -18,14 +18,13 @@ ghost use Rattle.listing_lines.specs.Window.{window, poured};
 use fields::Page;
 use listing_lines::Sink;
 use refusals::Refusal;
-use zealfs::VerdictAnswer;
 
 fn list_refused(out: &mut [u8], sink: Sink, refusal: Refusal) -> Sink
     ensures { window result out.new ≡
         poured (text "refused " ++ decimal (told refusal).number ++ newline) (window sink out.old) }
 {
     let sink = listing_lines::pour(out, sink, b"refused ");
-    let sink = listing_lines::pour_decimal(out, sink, fields::wide(refusals::number(refusal)));
+    let sink = listing_lines::pour_decimal(out, sink, usize::from(refusals::number(refusal)));
     listing_lines::pour_byte(out, sink, b'\n')
 }
 
@@ -43,8 +42,8 @@ fn list_image(image: &[u8], out: &mut [u8], sink: Sink) -> Sink
     ensures { window result out.new ≡ poured (listing image.now) (window sink out.old) }
 {
     match zealfs::verdict(image) {
-        VerdictAnswer::Sound(pages, free) => list_sound(image, pages, free, out, sink),
-        VerdictAnswer::Refused(refusal) => list_refused(out, sink, refusal),
+        Ok(counts) => list_sound(image, counts.pages, counts.free, out, sink),
+        Err(refusal) => list_refused(out, sink, refusal),
     }
 }
 

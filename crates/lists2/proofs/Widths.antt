@@ -1,15 +1,14 @@
 -- The number of a directory's entries, page by page: those passed, with those that the row has left, are all.
-use mathlib.Core.Path.{◌≡◌, refl, sym, ap, ◌∙◌, subst}
+use mathlib.Core.Path.{◌≡◌, ap, ◌∙◌}
 use Prim.Native.Nat.{ℕ, zero, suc, ◌+◌, ◌-◌, ◌*◌, ◌≤◌, ◌<◌}
 use native.Mathlib.Omega.{arith}
 use mathlib.Core.Bool.{Bool, true, false}
-use mathlib.Core.List.{List, [], ◌∷◌, ◌++◌, flat_map}
+use mathlib.Core.List.{List, [], ◌∷◌, flat_map}
 use lib.ListN.{length, drop, length-drop, length-append}
 use lib.Dec.{eqb}
 use Rattle.volume.specs.Bytes.{Bytes}
 use Rattle.std.specs.Prelude.{if◌then◌else◌}
 use Rattle.volume.specs.Chain.{linked}
-use Rattle.volume.specs.Lists.{count_from}
 use Rattle.volume.specs.Geometry as On
 use Rattle.volume.proofs.Chains.{chain_length}
 use Rattle.model2.specs.Version2.{linked_pages, entry_count, entries_on}
@@ -18,9 +17,7 @@ use Rattle.shape.specs.Geometry.{geometry_of}
 use Rattle.rows2.specs.Roomy.{Roomy}
 use Rattle.rows2.proofs.On.{few_entries}
 use Rattle.cursor2.specs.declared.Cursor.{Cursor}
-use Rattle.cursor2.specs.declared.Step.{Step}
-use Rattle.cursor2.specs.declared.Step.TheVariants.{At, End}
-use Rattle.cursor2.specs.Row.{row, behind, entries_from, row_from, row_after, Stands, StandsAfter}
+use Rattle.cursor2.specs.Row.{row, entries_from, row_from, Stands}
 use Rattle.cursor2.proofs.Turns.{turn_same}
 use Rattle.judge2.proofs.Places.{on_length}
 
@@ -68,18 +65,16 @@ module _ {s : Shape} {n : ℕ} {b : Bytes} {c₀ : Cursor} {passed : ℕ} {c : C
   pub count_small : Roomy s.size n → (p : ℕ) → row_from s n b c₀ ≡ row s n b p → passed + (count - c.number) ≤ 32768
   count_small r p whole = omega (arith, held, here_few, o.sum, ap (λ (xs : List ℕ). length xs) whole, all_few s r b p)
 
-  module _ (r : Step) (row : row_after s n b r ≡ drop (entry_count s.size n c.page.0 - c.number) (row_from s n b c)) where
-    rest : length (row_after s n b r) ≡ length (row_from s n b c) - (entry_count s.size n c.page.0 - c.number)
-    rest = ap (λ (xs : List ℕ). length xs) row ∙ length-drop (entry_count s.size n c.page.0 - c.number) (row_from s n b c)
+  -- and the page behind leaves the row xs
+  module _ {xs : List ℕ} (row : xs ≡ drop (entry_count s.size n c.page.0 - c.number) (row_from s n b c)) where
+    rest : length xs ≡ length (row_from s n b c) - (entry_count s.size n c.page.0 - c.number)
+    rest = ap (λ (ys : List ℕ). length ys) row ∙ length-drop (entry_count s.size n c.page.0 - c.number) (row_from s n b c)
 
-    pub count_fewer : {next : Cursor} → r ≡ At next → length (row_from s n b next) < length (row_from s n b c)
-    count_fewer z = omega (arith, rest, here_few, o.stands.within, ap (λ (x : Step). length (row_after s n b x)) z)
+    pub count_fewer : (next : Cursor) → xs ≡ row_from s n b next → length (row_from s n b next) < length (row_from s n b c)
+    count_fewer next e = omega (arith, rest, here_few, o.stands.within, ap (λ (ys : List ℕ). length ys) e)
 
-    pub count_next : {next : Cursor} → r ≡ At next → StandsAfter s n b r → Counting s n b c₀ (passed + (count - c.number)) next
-    count_next z t = record {
-      stands = subst (λ (x : Step). StandsAfter s n b x) z t;
-      sum = omega (arith, held, rest, here_few, o.sum, ap (λ (x : Step). length (row_after s n b x)) z);
-    }
+    pub count_next : {next : Cursor} → xs ≡ row_from s n b next → Stands s n b next → Counting s n b c₀ (passed + (count - c.number)) next
+    count_next e t = record { stands = t; sum = omega (arith, held, rest, here_few, o.sum, ap (λ (ys : List ℕ). length ys) e) }
 
-    pub count_end : {all : List ℕ} → row_from s n b c₀ ≡ all → r ≡ End → passed + (count - c.number) ≡ length all
-    count_end whole z = omega (arith, held, rest, here_few, o.sum, ap (λ (xs : List ℕ). length xs) whole, ap (λ (x : Step). length (row_after s n b x)) z)
+    pub count_end : {all : List ℕ} → row_from s n b c₀ ≡ all → xs ≡ [] → passed + (count - c.number) ≡ length all
+    count_end whole e = omega (arith, held, rest, here_few, o.sum, ap (λ (ys : List ℕ). length ys) whole, ap (λ (ys : List ℕ). length ys) e)

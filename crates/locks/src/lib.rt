@@ -7,28 +7,23 @@ ghost use Rattle.model.specs.Call.{set_lock};
 ghost use Rattle.model.specs.Meaning.{answer, after};
 ghost use Rattle.answers.specs.Answers.{change_answer};
 
-use answers::ChangeAnswer;
-use places::{Arrival, Place};
+use paths::Place;
 use refusals::Refusal;
 
 // Sets or clears a file's lock, bit 6 of its flags (02 §10). Where it is so already no byte changes.
-fn set_lock(image: &mut [u8], path: &[u8], locked: bool) -> ChangeAnswer
+fn set_lock(image: &mut [u8], path: &[u8], locked: bool) -> Result<(), Refusal>
     ensures result_value { change_answer result ≡ answer (set_lock locked path.now) image.old }
     ensures image_after { image.new ≡ after (set_lock locked path.now) image.old }
 {
-    let arrival = places::arrive(image, path);
-    let Arrival::At(place) = arrival else {
-        return ChangeAnswer::Refused(places::refusal_of(arrival));
-    };
-    let Place::File(target) = place else {
-        return ChangeAnswer::Refused(Refusal::IsADirectory);
+    let Place::File(target) = places::arrive(image, path)? else {
+        return Err(Refusal::IsADirectory);
     };
     entry_bytes::lock_entry(image, target.entry, locked);
-    ChangeAnswer::Done
+    Ok(())
 }
 
 // Locks a file: it can be read, but neither written nor removed.
-pub fn lock(image: &mut [u8], path: &[u8]) -> ChangeAnswer
+pub fn lock(image: &mut [u8], path: &[u8]) -> Result<(), Refusal>
     ensures result_value { change_answer result ≡ answer (set_lock true path.now) image.old }
     ensures image_after { image.new ≡ after (set_lock true path.now) image.old }
 {
@@ -36,7 +31,7 @@ pub fn lock(image: &mut [u8], path: &[u8]) -> ChangeAnswer
 }
 
 // Unlocks a file.
-pub fn unlock(image: &mut [u8], path: &[u8]) -> ChangeAnswer
+pub fn unlock(image: &mut [u8], path: &[u8]) -> Result<(), Refusal>
     ensures result_value { change_answer result ≡ answer (set_lock false path.now) image.old }
     ensures image_after { image.new ≡ after (set_lock false path.now) image.old }
 {

@@ -1,6 +1,5 @@
 -- Lock and unlock: what any version says of them at a place, for what the code has arrived at.
-use mathlib.Core.Path.{◌≡◌, sym, ap, ◌∙◌}
-use mathlib.Core.Logic.{◌⊎◌}
+use mathlib.Core.Path.{◌≡◌}
 use Prim.Native.Nat.{◌<◌}
 use native.Mathlib.Omega.{arith}
 use mathlib.Core.Bool.{Bool}
@@ -12,25 +11,22 @@ use Rattle.model.specs.MeaningOf.{answer, after}
 use Rattle.model2.specs.Calls.{v2}
 use Rattle.arrivals.proofs.Settled.{Refuses}
 use Rattle.arrivals.proofs.Locks as Any
-use Rattle.shape2.specs.declared.Cartridge.{Cartridge}
-use Rattle.places2.specs.declared.Target.{Target}
-use Rattle.places2.specs.declared.Place.{Place}
-use Rattle.places2.specs.declared.Place.TheVariants as place
-use Rattle.places2.specs.declared.Arrival.{Arrival}
-use Rattle.places2.specs.declared.Arrival.TheVariants.{At}
-use Rattle.places2.specs.Places.{spot_of, arrival_of}
+use Rattle.paths.specs.declared.Target.{Target}
+use Rattle.paths.specs.declared.Place.TheVariants as place
+use Rattle.places2.specs.declared.Arrived.{Arrived}
+use Rattle.paths.specs.Places.{spot_of}
 use Rattle.places2.proofs.Held.{reads2, Arrives, at_file, file_entry, no_file}
 
-module _ (b path : Bytes) {a : Arrival} {c : Cartridge} {p : Place} (here : a ≡ At c p) (arrives : Arrives b path a) (k : Bool) where
-  pub lock_directory : ((t : Target) → p ≡ place.File t → ⊥) → Refuses v2 (set_lock k path) b (refusal 7)
-  lock_directory n = Any.lock_no_file reads2 b path k (spot_of p) (no_file p n) (ap arrival_of (sym here) ∙ arrives.1)
+module _ (b path : Bytes) (a : Arrived) (arrives : Arrives b path a) (k : Bool) where
+  pub lock_directory : ((t : Target) → a.place ≡ place.File t → ⊥) → Refuses v2 (set_lock k path) b (refusal 7)
+  lock_directory n = Any.lock_no_file reads2 b path k (spot_of a.place) (no_file a.place n) arrives.1
 
-  module _ {t : Target} (is : p ≡ place.File t) where
+  module _ {t : Target} (is : a.place ≡ place.File t) where
     pub lock_done : {b' : Bytes} → b' ≡ set b t.entry (with_lock k (byte_at b t.entry))
         → (granted (tt {0}) ≡ answer v2 (set_lock k path) b) × (b' ≡ after v2 (set_lock k path) b)
-    lock_done = Any.lock_done reads2 b path k (at_file b path here arrives is)
+    lock_done = Any.lock_done reads2 b path k (at_file b path a arrives is)
 
 -- the flags that are set
-pub file_flags : (b path : Bytes) {a : Arrival} {c : Cartridge} {p : Place} → a ≡ At c p → Arrives b path a → {t : Target} → p ≡ place.File t
+pub file_flags : (b path : Bytes) (a : Arrived) → Arrives b path a → {t : Target} → a.place ≡ place.File t
     → t.entry < length b
-file_flags b path here arrives is = omega (arith, file_entry b path here arrives is)
+file_flags b path a arrives is = omega (arith, file_entry b path a arrives is)

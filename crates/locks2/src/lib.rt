@@ -8,28 +8,24 @@ ghost use Rattle.model.specs.MeaningOf.{answer, after};
 ghost use Rattle.model2.specs.Calls.{v2};
 ghost use Rattle.answers2.specs.Answers.{change_answer};
 
-use answers2::ChangeAnswer;
-use places2::{Arrival, Place};
+use paths::Place;
 use refusals2::Refusal;
 
 // Sets or clears a file's lock, bit 6 of its flags ("Locking applies as in version 1"). Where it is so already no byte changes.
-fn set_lock(image: &mut [u8], path: &[u8], locked: bool) -> ChangeAnswer
+fn set_lock(image: &mut [u8], path: &[u8], locked: bool) -> Result<(), Refusal>
     ensures result_value { change_answer result ≡ answer v2 (set_lock locked path.now) image.old }
     ensures image_after { image.new ≡ after v2 (set_lock locked path.now) image.old }
 {
-    let arrival = places2::arrive(image, path);
-    let Arrival::At(_, place) = arrival else {
-        return ChangeAnswer::Refused(places2::refusal_of(arrival));
-    };
-    let Place::File(target) = place else {
-        return ChangeAnswer::Refused(Refusal::IsADirectory);
+    let arrived = places2::arrive(image, path)?;
+    let Place::File(target) = arrived.place else {
+        return Err(Refusal::IsADirectory);
     };
     entry_bytes::lock_entry(image, target.entry, locked);
-    ChangeAnswer::Done
+    Ok(())
 }
 
 // Locks a file: it can be read, but neither written nor removed.
-pub fn lock(image: &mut [u8], path: &[u8]) -> ChangeAnswer
+pub fn lock(image: &mut [u8], path: &[u8]) -> Result<(), Refusal>
     ensures result_value { change_answer result ≡ answer v2 (set_lock true path.now) image.old }
     ensures image_after { image.new ≡ after v2 (set_lock true path.now) image.old }
 {
@@ -37,7 +33,7 @@ pub fn lock(image: &mut [u8], path: &[u8]) -> ChangeAnswer
 }
 
 // Unlocks a file.
-pub fn unlock(image: &mut [u8], path: &[u8]) -> ChangeAnswer
+pub fn unlock(image: &mut [u8], path: &[u8]) -> Result<(), Refusal>
     ensures result_value { change_answer result ≡ answer v2 (set_lock false path.now) image.old }
     ensures image_after { image.new ≡ after v2 (set_lock false path.now) image.old }
 {

@@ -2,59 +2,49 @@
 // model's `answer` says. The image is lent for reading.
 #![tactic(auto)]
 
-ghost use Rattle.std.specs.Prelude.{◌≡◌, replicate};
+ghost use Rattle.std.specs.Prelude.{◌≡◌};
 ghost use Rattle.model.specs.Call.{verdict, find};
 ghost use Rattle.model.specs.Meaning.{answer};
-ghost use Rattle.answers.specs.Answers.{verdict_answer, FindSays};
+ghost use Rattle.answers.specs.Answers.{verdict_answer, find_answer};
 
-use answers::{FindAnswer, Found, VerdictAnswer};
-use judge::Judgement;
-use places::{Arrival, Place};
+use outcomes::{Counts, Found, Kind};
+use paths::Place;
 use refusals::Refusal;
 
 // Whether the image is sound; every other call but format asks this first.
-pub fn verdict(image: &[u8]) -> VerdictAnswer
+#[tactic(auto, using(crate::proofs::Verdicts::judged_told))]
+pub fn verdict(image: &[u8]) -> Result<Counts, Refusal>
     ensures { verdict_answer result ≡ answer verdict image.now }
 {
-    match judge::judge_image(image) {
-        Judgement::Sound(pages, free) => VerdictAnswer::Sound(pages, free),
-        Judgement::BadLength => VerdictAnswer::Refused(Refusal::BadLength),
-        Judgement::BadHeader => VerdictAnswer::Refused(Refusal::BadHeader),
-        Judgement::Unsound(fault) => VerdictAnswer::Refused(Refusal::Unsound(fault)),
-    }
-}
-
-fn undated(answer: FindAnswer) -> Found
-    ensures { (result.answer ≡ answer) × (result.date ≡ replicate 8 0) }
-{
-    let date = [0u8; 8];
-    Found { answer, date }
+    judge::judge_image(image)
 }
 
 // Kind, size, lock and date of what a path leads to. The root has no entry; its date is zeros.
-pub fn find(image: &[u8], path: &[u8]) -> Found
-    ensures { FindSays result (answer (find path.now) image.now) }
+pub fn find(image: &[u8], path: &[u8]) -> Result<Found, Refusal>
+    ensures { find_answer result ≡ answer (find path.now) image.now }
 {
-    let arrival = places::arrive(image, path);
-    let Arrival::At(place) = arrival else {
-        return undated(FindAnswer::Refused(places::refusal_of(arrival)));
-    };
-    match place {
-        Place::Root => undated(FindAnswer::Directory),
+    match places::arrive(image, path)? {
+        Place::Root => {
+            Ok(Found {
+                kind: Kind::Directory,
+                size: 256,
+                date: [0u8; 8],
+            })
+        }
         Place::File(target) => {
             let locked = fields::is_locked(image, target.entry);
-            let date = fields::date_of(image, target.entry);
-            Found {
-                answer: FindAnswer::File(target.size, locked),
-                date,
-            }
+            Ok(Found {
+                kind: Kind::File { locked },
+                size: target.size,
+                date: fields::date_of(image, target.entry),
+            })
         }
         Place::Directory(target) => {
-            let date = fields::date_of(image, target.entry);
-            Found {
-                answer: FindAnswer::Directory,
-                date,
-            }
+            Ok(Found {
+                kind: Kind::Directory,
+                size: 256,
+                date: fields::date_of(image, target.entry),
+            })
         }
     }
 }

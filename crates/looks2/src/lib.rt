@@ -2,62 +2,56 @@
 // the bytes, a call answers what the model's `answer` says of version 2. The image is lent for reading.
 #![tactic(auto)]
 
-ghost use Rattle.std.specs.Prelude.{◌≡◌, replicate};
+ghost use Rattle.std.specs.Prelude.{◌≡◌};
 ghost use Rattle.model.specs.Call.{verdict, find};
 ghost use Rattle.model.specs.MeaningOf.{answer};
 ghost use Rattle.model2.specs.Calls.{v2};
-ghost use Rattle.answers2.specs.Answers.{verdict_answer, FindSays};
+ghost use Rattle.answers2.specs.Answers.{verdict_answer, find_answer};
 
-use answers2::{FindAnswer, Found, VerdictAnswer};
-use judge2::Judgement;
-use places2::{Arrival, Place};
+use outcomes::{Counts, Found, Kind};
+use paths::Place;
 use refusals2::Refusal;
 
 // Whether the image is sound; every other call but format asks this first.
-pub fn verdict(image: &[u8]) -> VerdictAnswer
+#[tactic(auto, using(crate::proofs::Verdicts::judged_told, crate::proofs::Verdicts::judged_refused))]
+pub fn verdict(image: &[u8]) -> Result<Counts, Refusal>
     ensures { verdict_answer result ≡ answer v2 verdict image.now }
 {
-    match judge2::judge_image(image) {
-        Judgement::Sound(cartridge, free) => VerdictAnswer::Sound(cartridge.pages, free),
-        Judgement::BadLength => VerdictAnswer::Refused(Refusal::BadLength),
-        Judgement::BadVersion => VerdictAnswer::Refused(Refusal::BadVersion),
-        Judgement::BadShape => VerdictAnswer::Refused(Refusal::BadShape),
-        Judgement::Unsound(fault) => VerdictAnswer::Refused(Refusal::Unsound(fault)),
-    }
-}
-
-fn undated(answer: FindAnswer) -> Found
-    ensures { (result.answer ≡ answer) × (result.date ≡ replicate 8 0) }
-{
-    let date = [0u8; 8];
-    Found { answer, date }
+    let judged = judge2::judge_image(image)?;
+    Ok(Counts {
+        pages: judged.cartridge.pages,
+        free: judged.free,
+    })
 }
 
 // Kind, size, lock and date of what a path leads to; a directory's size is that of a page. The root has no entry; its date is zeros.
-pub fn find(image: &[u8], path: &[u8]) -> Found
-    ensures { FindSays result (answer v2 (find path.now) image.now) }
+pub fn find(image: &[u8], path: &[u8]) -> Result<Found, Refusal>
+    ensures { find_answer result ≡ answer v2 (find path.now) image.now }
 {
-    let arrival = places2::arrive(image, path);
-    let Arrival::At(cartridge, place) = arrival else {
-        return undated(FindAnswer::Refused(places2::refusal_of(arrival)));
-    };
-    let size = cartridge.shape.size;
-    match place {
-        Place::Root => undated(FindAnswer::Directory(size)),
+    let arrived = places2::arrive(image, path)?;
+    let size = arrived.cartridge.shape.size;
+    match arrived.place {
+        Place::Root => Ok(Found {
+            kind: Kind::Directory,
+            size,
+            date: [0u8; 8],
+        }),
         Place::File(target) => {
             let locked = fields::is_locked(image, target.entry);
             let date = fields2::date_of(image, target.entry);
-            Found {
-                answer: FindAnswer::File(target.size, locked),
+            Ok(Found {
+                kind: Kind::File { locked },
+                size: target.size,
                 date,
-            }
+            })
         }
         Place::Directory(target) => {
             let date = fields2::date_of(image, target.entry);
-            Found {
-                answer: FindAnswer::Directory(size),
+            Ok(Found {
+                kind: Kind::Directory,
+                size,
                 date,
-            }
+            })
         }
     }
 }

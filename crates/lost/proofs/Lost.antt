@@ -22,11 +22,6 @@ use Rattle.shape.specs.declared.Shape.{Shape}
 use Rattle.shape.specs.Geometry.{geometry_of}
 use Rattle.shape_bitmap.specs.Words.{Clear}
 use Rattle.lost.specs.Searched.{Searched, is_lost}
-use Rattle.faults.specs.declared.Check.{Check}
-use Rattle.faults.specs.declared.Check.TheVariants.{Clean, Faulty}
-use Rattle.faults.specs.declared.Fault.{Fault}
-use Rattle.faults.specs.Answers.{fault_of, outcome}
-use Rattle.faults.proofs.Answers.{clean_of, fault_of_lem}
 use Rattle.view_laws.proofs.Comes.{never}
 
 -- the first of two answers
@@ -139,9 +134,8 @@ module _ (m : List ℕ) where
 
 module _ (b : Bytes) (s : Shape) (m : List ℕ) (asked : Searched b s m) (byte : ℕ)
     (so_far : lost_from (geometry_of s) b m (length m) s.aside ≡ lost_from (geometry_of s) b m (length m) (max s.aside (8 * byte))) where
-  -- the answer for the pages of that byte is q
-  module _ (more : 8 * byte < length m) (q : Check)
-      (here : outcome q m ≡ lost_or (clean m) (lost_from (geometry_of s) b m (min (8 * byte + 8) (length m)) (max s.aside (8 * byte)))) where
+  -- the answer for the pages of that byte
+  module _ (more : 8 * byte < length m) where
     abbrev from : ℕ
     from = max s.aside (8 * byte)
 
@@ -151,19 +145,21 @@ module _ (b : Bytes) (s : Shape) (m : List ℕ) (asked : Searched b s m) (byte :
     split : lost_from (geometry_of s) b m (length m) s.aside ≡ or_else (lost_from (geometry_of s) b m to from) (lost_from (geometry_of s) b m (length m) to)
     split = so_far ∙ lost_on (geometry_of s) b m to (length m) from (omega (arith, more, asked.low, asked.some)) (omega arith)
 
-    pub byte_faulty : (x : Fault) → q ≡ Faulty x → fault (fault_of x) ≡ lost_or (clean m) (lost_from (geometry_of s) b m (length m) s.aside)
-    byte_faulty x e =
-        some_faulty m (lost_from (geometry_of s) b m to from) (lost_from (geometry_of s) b m (length m) to) (fault_of_lem m here e) ∙ ap (lost_or (clean m)) (sym split)
+    pub byte_faulty : {x : Model.Fault} → fault x ≡ lost_or (clean m) (lost_from (geometry_of s) b m (min (8 * byte + 8) (length m)) (max s.aside (8 * byte)))
+        → fault x ≡ lost_or (clean m) (lost_from (geometry_of s) b m (length m) s.aside)
+    byte_faulty here =
+        some_faulty m (lost_from (geometry_of s) b m to from) (lost_from (geometry_of s) b m (length m) to) here ∙ ap (lost_or (clean m)) (sym split)
 
-    pub byte_clean : q ≡ Clean → (clear step : ℕ) → clear ≡ 0 → step ≡ max 1 clear
+    pub byte_clean : clean m ≡ lost_or (clean m) (lost_from (geometry_of s) b m (min (8 * byte + 8) (length m)) (max s.aside (8 * byte)))
+        → (clear step : ℕ) → clear ≡ 0 → step ≡ max clear 1
         → lost_from (geometry_of s) b m (length m) s.aside ≡ lost_from (geometry_of s) b m (length m) (max s.aside (8 * (byte + step)))
-    byte_clean e clear step c d =
+    byte_clean here clear step c d =
         let next : byte + 1 ≡ byte + step = omega arith in
-        split ∙ some_clean m (lost_from (geometry_of s) b m to from) (lost_from (geometry_of s) b m (length m) to) (clean_of here e)
+        split ∙ some_clean m (lost_from (geometry_of s) b m to from) (lost_from (geometry_of s) b m (length m) to) here
         ∙ behind_byte (geometry_of s) b m (length m) s.aside byte asked.low
         ∙ ap (λ (k : ℕ). lost_from (geometry_of s) b m (length m) (max s.aside (8 * k))) next
 
-  pub bytes_clear : (clear step : ℕ) → Clear (geometry_of s) b byte clear → clear ≢ 0 → step ≡ max 1 clear
+  pub bytes_clear : (clear step : ℕ) → Clear (geometry_of s) b byte clear → clear ≢ 0 → step ≡ max clear 1
       → lost_from (geometry_of s) b m (length m) s.aside ≡ lost_from (geometry_of s) b m (length m) (max s.aside (8 * (byte + step)))
   bytes_clear clear step c n d =
       let next : byte + clear ≡ byte + step = omega (arith, n) in

@@ -6,7 +6,8 @@ use native.Mathlib.Omega.{arith}
 use native.Mathlib.Decide.{dec_lt}
 use mathlib.Core.Bool.{Bool, true, not, ◌&&◌, and-true, and_assoc}
 use mathlib.Core.List.{List}
-use lib.ListN.{length, get_or}
+use lib.ListN.{length, get_or, take, drop}
+use lib.Seq.{get_or-take, get_or-drop}
 use lib.Dec.{eqb}
 use borrow.Author.Tests.{ne_eqb}
 use Rattle.volume.specs.Bytes.{Bytes}
@@ -23,7 +24,7 @@ pub none_yet : (marks : List ℕ) (from : ℕ) → owned_from marks from 8 ≡ o
 none_yet marks from = let e : from + 0 ≡ from = omega arith in ap (λ (p : ℕ). owned_from marks p 8) (sym e)
 
 module _ (marks : List ℕ) (from i : ℕ) (f : Bool) (so_far : owned_from marks from 8 ≡ (f && owned_from marks (from + i) (8 - i))) where
-  pub owned_on : i < 8 → owned_from marks from 8 ≡ ((f && not (eqb (get_or marks (from + i) 0) 0)) && owned_from marks (from + (i + 1)) (8 - (i + 1)))
+  owned_on : i < 8 → owned_from marks from 8 ≡ ((f && not (eqb (get_or marks (from + i) 0) 0)) && owned_from marks (from + (i + 1)) (8 - (i + 1)))
   unfolding owned_from
   owned_on h =
       let e : 8 - i ≡ suc (8 - (i + 1)) = omega arith in
@@ -31,6 +32,13 @@ module _ (marks : List ℕ) (from i : ℕ) (f : Bool) (so_far : owned_from marks
       so_far ∙ ap (λ (k : ℕ). f && owned_from marks (from + i) k) e
       ∙ ap (λ (p : ℕ). f && (not (eqb (get_or marks (from + i) 0) 0) && owned_from marks p (8 - (i + 1)))) next
       ∙ sym (and_assoc f (not (eqb (get_or marks (from + i) 0) 0)) (owned_from marks (from + (i + 1)) (8 - (i + 1))))
+
+  -- where mark i of the eight was read
+  pub owned_read : (k : ℕ) → i < 8 → i < k
+      → owned_from marks from 8 ≡ ((f && not (eqb (get_or (take k (drop from marks)) i 0) 0)) && owned_from marks (from + (i + 1)) (8 - (i + 1)))
+  owned_read k h l =
+      owned_on h
+      ∙ ap (λ (m : ℕ). (f && not (eqb m 0)) && owned_from marks (from + (i + 1)) (8 - (i + 1))) (sym (get_or-take k (drop from marks) i 0 l ∙ get_or-drop from marks i 0))
 
   pub owned_all : 8 ≤ i → f ≡ owned_from marks from 8
   unfolding owned_from

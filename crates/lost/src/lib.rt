@@ -9,12 +9,12 @@ ghost use Rattle.shape.specs.Geometry.{geometry_of};
 ghost use Rattle.faults.specs.Answers.{outcome};
 ghost use Rattle.lost.specs.Searched.{Searched, is_lost, owned_from};
 
-use faults::{Check, Fault};
+use faults::Fault;
 use fields::Page;
 use shape::Shape;
 
 // The lowest page from `from` on and below `to` that is marked in the bitmap and has no owner.
-fn lost_among(image: &[u8], shape: Shape, marks: &[u8], from: usize, to: usize) -> Check
+fn lost_among(image: &[u8], shape: Shape, marks: &[u8], from: usize, to: usize) -> Result<(), Fault>
     requires { Searched image.now shape marks.now × (to ≤ length marks.now) }
     ensures { outcome result marks.now
         ≡ lost_or (clean marks.now) (first (is_lost (geometry_of shape) image.now marks.now) (count_from from (to - from))) }
@@ -22,11 +22,11 @@ fn lost_among(image: &[u8], shape: Shape, marks: &[u8], from: usize, to: usize) 
     for p in from..to {
         if marks[p] == 0 {
             if shape_bits::bit(image, shape, Page(p)) == 1 {
-                return Check::Faulty(Fault::LostPage(Page(p)));
+                return Err(Fault::LostPage(Page(p)));
             }
         }
     }
-    Check::Clean
+    Ok(())
 }
 
 // The eight pages from `from` on have their owner. There is no early end, so that all eight are looked at at once.
@@ -35,14 +35,14 @@ fn eight_are_owned(marks: &[u8], from: usize) -> bool
     ensures { result ≡ owned_from marks.now from 8 }
 {
     let mut owned = true;
-    for i in 0..8 {
-        owned = owned & (marks[from + i] != 0);
+    for mark in &marks[from..from + 8] {
+        owned = owned & (*mark != 0);
     }
     owned
 }
 
 // The lowest lost page among those of one byte of the bitmap. A page set aside is none: the rest of the judge asks for its bit.
-fn lost_in_byte(image: &[u8], shape: Shape, marks: &[u8], byte: usize) -> Check
+fn lost_in_byte(image: &[u8], shape: Shape, marks: &[u8], byte: usize) -> Result<(), Fault>
     requires { Searched image.now shape marks.now × (8 * byte < length marks.now) }
     ensures { outcome result marks.now
         ≡ lost_or (clean marks.now) (first (is_lost (geometry_of shape) image.now marks.now)
@@ -51,20 +51,20 @@ fn lost_in_byte(image: &[u8], shape: Shape, marks: &[u8], byte: usize) -> Check
     let from = 8 * byte;
     if from + 8 <= marks.len() {
         if eight_are_owned(marks, from) {
-            return Check::Clean;
+            return Ok(());
         }
     }
     lost_among(
         image,
         shape,
         marks,
-        fields::larger(shape.aside, from),
-        fields::least(from + 8, marks.len()),
+        shape.aside.max(from),
+        marks.len().min(from + 8),
     )
 }
 
 // The lowest of all, a byte of the bitmap at a time, or a word: where no bit is set no page is lost.
-pub fn lost_page(image: &[u8], shape: Shape, marks: &[u8]) -> Check
+pub fn lost_page(image: &[u8], shape: Shape, marks: &[u8]) -> Result<(), Fault>
     requires { Searched image.now shape marks.now }
     ensures { outcome result marks.now
         ≡ lost_or (clean marks.now)
@@ -75,12 +75,9 @@ pub fn lost_page(image: &[u8], shape: Shape, marks: &[u8]) -> Check
     while 8 * byte < n {
         let clear = shape_bitmap::clear_bytes(image, shape, byte);
         if clear == 0 {
-            let lost = lost_in_byte(image, shape, marks, byte);
-            if let Check::Faulty(fault) = lost {
-                return Check::Faulty(fault);
-            }
+            lost_in_byte(image, shape, marks, byte)?;
         }
-        byte += fields::larger(1, clear);
+        byte += clear.max(1);
     }
-    Check::Clean
+    Ok(())
 }

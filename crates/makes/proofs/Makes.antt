@@ -21,7 +21,7 @@ use Rattle.model.specs.Walk.{Walked, arrived_or, parent_page}
 use Rattle.model.specs.Effect.{lowest_vacant, made}
 use Rattle.model.specs.Call.{make_file, make_directory, Refusal, refusal, Answer, refused, granted}
 use Rattle.model.specs.Refusal.{Line, make_lines, settle, Passes}
-use Rattle.model.specs.Meaning.{image_lines, is_format, lines, answer, after}
+use Rattle.model.specs.Meaning.{image_lines, is_format, answer, after}
 use Rattle.model.specs.EffectOf
 use Rattle.model.specs.MeaningOf
 use Rattle.model.specs.RefusalOf
@@ -34,9 +34,7 @@ use Rattle.laws.proofs.Make.{place_of}
 use Rattle.arrivals.proofs.Settled.{opened, settle_opened, settle_granted}
 use Rattle.changes.specs.Asked.{Making}
 use Rattle.changes.proofs.Makes.{place_making}
-use Rattle.openings.specs.Openings.{Place, found, opening, Named}
-use Rattle.openings.specs.declared.Opening.{Opening}
-use Rattle.openings.specs.declared.Opening.TheVariants.{At}
+use Rattle.openings.specs.Openings.{Place, found, opening}
 use Rattle.makes.specs.Makes.{make_settled, make_answer, make_after}
 
 -- ---- the calls
@@ -60,12 +58,9 @@ module _ (b path date : Bytes) where
 
 -- ---- a make
 
--- the name lies in the path
-pub begins_inside : (path : Bytes) (o : Opening) (at begins : ℕ) → Named path o → o ≡ At at begins → begins ≤ length path
-begins_inside path o at begins named is = (rw is at named).0
-
-pub name_fits : (path : Bytes) (o : Opening) (at begins : ℕ) → Named path o → o ≡ At at begins → length (take (length path - begins) (drop begins path)) ≤ 16
-name_fits path o at begins named is = let s = rw is at named in simp length-take (omega (arith, s.1))
+-- the name that ends with the path fits an entry
+pub name_fits : (path : Bytes) (begins : ℕ) → length path - begins ≤ 16 → length (take (length path - begins) (drop begins path)) ≤ 16
+name_fits path begins short = simp length-take (omega (arith, short))
 
 module _ (b path date : Bytes) (k : ℕ) where
   abbrev space : Line

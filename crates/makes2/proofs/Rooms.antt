@@ -9,7 +9,8 @@ use mathlib.Core.List.{List}
 use lib.ListN.{length}
 use lib.Dec.{T}
 use Rattle.volume.specs.Bytes.{Bytes, put}
-use Rattle.std.specs.Prelude.{if◌then◌else◌}
+use Rattle.std.specs.Prelude as Std
+use Rattle.std.specs.Prelude.{if◌then◌else◌, Some, None, unwrap_or}
 use Rattle.volume.specs.Lists.{first}
 use Rattle.volume.specs.Geometry as On
 use Rattle.model.specs.View.{View}
@@ -29,8 +30,6 @@ use Rattle.arrivals.specs.Openings.{is_none, vacancy_in}
 use Rattle.arrivals.proofs.Vacancies.{directory_full}
 use Rattle.shape.specs.declared.Shape.{Shape}
 use Rattle.shape.specs.Geometry.{geometry_of}
-use Rattle.cursor2.specs.declared.Found.{Found}
-use Rattle.cursor2.specs.declared.Found.TheVariants.{There, Nowhere}
 use Rattle.cursor2.specs.Row.{row, found_of}
 use Rattle.known2.specs.Known.{Known}
 use Rattle.known2.specs.Housed.{Housed}
@@ -43,18 +42,16 @@ use Rattle.makes2.specs.Asked.{Fillable}
 
 -- ---- the lowest vacant entry, as a search finds it
 
-module _ {b : Bytes} {s : Shape} {n : ℕ} (k : Known b s n) (p : ℕ) (v : Found) (found : found_of v ≡ first (λ at. is_vacant (entry_at b at)) (row s n b p)) where
-  searched : (x : Found) → v ≡ x → get_or (found_of x) 0 ≡ lowest_vacant (view2 b) p
+module _ {b : Bytes} {s : Shape} {n : ℕ} (k : Known b s n) (p : ℕ) (v : Std.Option ℕ) (found : found_of v ≡ first (λ at. is_vacant (entry_at b at)) (row s n b p)) where
+  pub lowest_found : unwrap_or v 0 ≡ lowest_vacant (view2 b) p
   unfolding lowest_vacant
-  searched x e =
-      ap (λ (o : Option ℕ). get_or o 0)
-      (ap found_of (sym e) ∙ found ∙ ap (λ (ats : List ℕ). first (λ at. is_vacant (entry_at b at)) ats) (formed_row k.formed p))
-
-  pub lowest_there : (at : ℕ) → v ≡ There at → at ≡ lowest_vacant (view2 b) p
-  lowest_there at = searched (There at)
-
-  pub lowest_nowhere : v ≡ Nowhere → 0 ≡ lowest_vacant (view2 b) p
-  lowest_nowhere = searched Nowhere
+  lowest_found =
+      or_found v
+      ∙ ap (λ (o : Option ℕ). get_or o 0) (found ∙ ap (λ (ats : List ℕ). first (λ at. is_vacant (entry_at b at)) ats) (formed_row k.formed p))
+    where
+      or_found : (x : Std.Option ℕ) → unwrap_or x 0 ≡ get_or (found_of x) 0
+      or_found (Some at) = refl
+      or_found None = refl
 
 -- ---- an image with room for an entry of k pages in the directory p
 
@@ -149,16 +146,16 @@ module _ {s : Shape} {n p k : ℕ} {o : Option ℕ} {b : Bytes} (f : Fillable s 
 
 -- ---- the entry that it fills: the answer for the lowest vacant one is v
 
-module _ {s : Shape} {n p k : ℕ} {b : Bytes} (v : Found) (f : Fillable s n p (found_of v) k b) where
-  pub there_lowest : (at : ℕ) → v ≡ There at → at ≡ lowest_vacant (view2 b) p
+module _ {s : Shape} {n p k : ℕ} {b : Bytes} (v : Std.Option ℕ) (f : Fillable s n p (found_of v) k b) where
+  pub there_lowest : (at : ℕ) → v ≡ Some at → at ≡ lowest_vacant (view2 b) p
   unfolding lowest_vacant
   there_lowest at e = ap (λ (o : Option ℕ). get_or o 0) (ap found_of (sym e) ∙ f.lowest)
 
-  pub there_roomy : (at : ℕ) → v ≡ There at → b ≡ roomy layout2 (view2 b) p
+  pub there_roomy : (at : ℕ) → v ≡ Some at → b ≡ roomy layout2 (view2 b) p
   unfolding lengthened_if_full
   there_roomy at e = ap (lengthened_if_full layout2 (view2 b) p) (ap found_of (sym e) ∙ f.lowest)
 
-  module _ (full : v ≡ Nowhere) where
+  module _ (full : v ≡ None) where
     one : 1 ≤ On.zero_bits (view2 b).geometry b (view2 b).pages
     unfolding is_none
     one = let h : suc k ≤ On.zero_bits (view2 b).geometry b (view2 b).pages = rw full at f.enough in omega (arith, h)
@@ -186,11 +183,11 @@ module _ {s : Shape} {n p k : ℕ} {b : Bytes} (v : Found) (f : Fillable s n p (
 
 -- ---- the pages that it takes
 
-module _ (v : Found) where
-  pub wanted_there : (at : ℕ) → v ≡ There at → ◌≡◌ {A = ℕ} 1 (if is_none (found_of v) then 2 else 1)
+module _ (v : Std.Option ℕ) where
+  pub wanted_there : (at : ℕ) → v ≡ Some at → ◌≡◌ {A = ℕ} 1 (if is_none (found_of v) then 2 else 1)
   unfolding is_none
   wanted_there at e = rw e
 
-  pub wanted_full : v ≡ Nowhere → ◌≡◌ {A = ℕ} 2 (if is_none (found_of v) then 2 else 1)
+  pub wanted_full : v ≡ None → ◌≡◌ {A = ℕ} 2 (if is_none (found_of v) then 2 else 1)
   unfolding is_none
   wanted_full e = rw e

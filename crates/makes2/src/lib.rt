@@ -17,26 +17,23 @@ ghost use Rattle.known2.specs.Housed.{Housed};
 ghost use Rattle.answers2.specs.Answers.{change_answer};
 ghost use Rattle.makes2.specs.Asked.{Fillable};
 
-use answers2::ChangeAnswer;
-use cursor2::Found;
 use fields::Page;
-use openings2::Opening;
 use refusals2::Refusal;
 use shape2::Cartridge;
 
 // Writes the pages set aside, whatever they held; every other byte stays. The page code may be any number: one that does not fit is refused.
-pub fn format(image: &mut [u8], code: usize) -> ChangeAnswer
+pub fn format(image: &mut [u8], code: usize) -> Result<(), Refusal>
     ensures { (change_answer result ≡ answer v2 (format_as code) image.old) × (image.new ≡ after v2 (format_as code) image.old) }
 {
     let bytes = image.len();
     if !header2::length_is_allowed(bytes) {
-        return ChangeAnswer::Refused(Refusal::BadLength);
+        return Err(Refusal::BadLength);
     }
     if !header2::code_fits(code, bytes) {
-        return ChangeAnswer::Refused(Refusal::BadShape);
+        return Err(Refusal::BadShape);
     }
     format2::format_image(image, code);
-    ChangeAnswer::Done
+    Ok(())
 }
 
 // ---- the entry that a make fills
@@ -46,21 +43,24 @@ fn lowest_vacant(image: &[u8], cartridge: Cartridge, directory: Page) -> usize
     requires { Known image.now cartridge.shape cartridge.pages × Housed (view2 image.now) directory.0 }
     ensures { result ≡ lowest_vacant (view2 image.now) directory.0 }
 {
-    match cursor2::vacant_entry(image, cartridge.shape, cartridge.pages, directory) {
-        Found::There(entry) => entry,
-        Found::Nowhere => 0,
-    }
+    let shape = cartridge.shape;
+    cursor2::vacant_entry(image, shape, cartridge.pages, directory).unwrap_or(0)
 }
 
 // The entry that a make fills. A full directory gets a page first, and what is vacant then is on that page.
-fn entry_in(image: &mut [u8], cartridge: Cartridge, directory: Page, vacancy: Found) -> usize
+fn entry_in(
+    image: &mut [u8],
+    cartridge: Cartridge,
+    directory: Page,
+    vacancy: Option<usize>,
+) -> usize
     requires { Fillable cartridge.shape cartridge.pages directory.0 (found_of vacancy) 1 image.old }
     ensures value { result ≡ lowest_vacant (view2 image.new) directory.0 }
     ensures image_after { image.new ≡ roomy layout2 (view2 image.old) directory.0 }
 {
     match vacancy {
-        Found::There(entry) => entry,
-        Found::Nowhere => {
+        Some(entry) => entry,
+        None => {
             changes2::lengthen(image, cartridge.shape, cartridge.pages, directory);
             lowest_vacant(image, cartridge, directory)
         }
@@ -68,12 +68,12 @@ fn entry_in(image: &mut [u8], cartridge: Cartridge, directory: Page, vacancy: Fo
 }
 
 // The pages that a make takes: the new entry's own, and one more where the directory must grow.
-fn pages_wanted(vacancy: Found) -> usize
+fn pages_wanted(vacancy: Option<usize>) -> usize
     ensures { result ≡ (if is_none (found_of vacancy) then 2 else 1) }
 {
     match vacancy {
-        Found::There(_) => 1,
-        Found::Nowhere => 2,
+        Some(_) => 1,
+        None => 2,
     }
 }
 
@@ -84,7 +84,7 @@ fn fill(
     image: &mut [u8],
     cartridge: Cartridge,
     directory: Page,
-    vacancy: Found,
+    vacancy: Option<usize>,
     flags: u8,
     size: usize,
     name: &[u8],
@@ -111,32 +111,33 @@ fn fill(
 
 // Makes an entry with these flags in the directory that the path names it in; the size that it tells is that of so many pages. Nothing is written before the
 // last refusal that can be given: 10 counts the page that a full directory gets.
-fn make(image: &mut [u8], path: &[u8], date: &[u8], flags: u8, told: usize) -> ChangeAnswer
+fn make(image: &mut [u8], path: &[u8], date: &[u8], flags: u8, told: usize) -> Result<(), Refusal>
     requires { told ≤ 1 }
     ensures result_value { change_answer result ≡ make_answer v2 image.old path.now date.now 1 }
     ensures image_after { image.new ≡ make_after v2 flags (told * page_size (code_in image.old)) 1 image.old path.now date.now }
 {
-    let opening = openings2::find_opening(image, path, date);
-    let Opening::At(cartridge, directory, vacancy, begins) = opening else {
-        return ChangeAnswer::Refused(openings2::refusal_of(opening));
-    };
+    let opening = openings2::find_opening(image, path, date)?;
+    let cartridge = opening.cartridge;
+    let vacancy = opening.vacancy;
     let shape = cartridge.shape;
     let count = shape.count;
     let wanted = pages_wanted(vacancy);
     if shape::load(image, count) < wanted {
-        return ChangeAnswer::Refused(Refusal::NoFreePages);
+        return Err(Refusal::NoFreePages);
     }
+    let begins = opening.begins;
     let end = path.len();
     let name = names::pad(&path[begins..end]);
+    let directory = opening.directory;
     let size = told * shape.size;
     fill(
         image, cartridge, directory, vacancy, flags, size, &name, date,
     );
-    ChangeAnswer::Done
+    Ok(())
 }
 
 // Makes an empty file, with the zeroed page that it owns.
-pub fn make_file(image: &mut [u8], path: &[u8], date: &[u8]) -> ChangeAnswer
+pub fn make_file(image: &mut [u8], path: &[u8], date: &[u8]) -> Result<(), Refusal>
     ensures result_value { change_answer result ≡ answer v2 (make_file path.now date.now) image.old }
     ensures image_after { image.new ≡ after v2 (make_file path.now date.now) image.old }
 {
@@ -144,7 +145,7 @@ pub fn make_file(image: &mut [u8], path: &[u8], date: &[u8]) -> ChangeAnswer
 }
 
 // Makes a directory without entries, on a page of its own, whose size it tells.
-pub fn make_directory(image: &mut [u8], path: &[u8], date: &[u8]) -> ChangeAnswer
+pub fn make_directory(image: &mut [u8], path: &[u8], date: &[u8]) -> Result<(), Refusal>
     ensures result_value { change_answer result ≡ answer v2 (make_directory path.now date.now) image.old }
     ensures image_after { image.new ≡ after v2 (make_directory path.now date.now) image.old }
 {

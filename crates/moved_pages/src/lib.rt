@@ -28,9 +28,7 @@ fn held_entry(source: &[u8]) -> [u8; 32]
     ensures { result ≡ source.now }
 {
     let mut entry = [0u8; 32];
-    for i in 0..32 {
-        entry[i] = source[i];
-    }
+    entry.copy_from_slice(source);
     entry
 }
 

@@ -4,3 +4,4 @@ pub mod Names
 pub mod Legal
 pub mod Occupied
 pub mod Paths
+pub mod Split

@@ -1,52 +1,40 @@
 -- What a loop over bytes sees at index k: each test runs along the list, so before the end it is the test of byte k and then that of the rest.
 use mathlib.Core.Path.{◌≡◌, refl, sym, ap, ◌∙◌}
 use mathlib.Core.Logic.{◌≢◌}
-use mathlib.Core.Bool.{Bool, true, false, not, ◌&&◌}
-use Prim.Native.Nat.{ℕ, suc, ◌+◌, ◌≤◌, ◌<◌}
+use mathlib.Core.Bool.{Bool, true, false, ◌&&◌}
+use Prim.Native.Nat.{ℕ, suc, ◌+◌, ◌-◌, ◌≤◌, ◌<◌}
 use native.Mathlib.Numerals.{add-one}
 use native.Mathlib.Omega.{arith}
 use mathlib.Core.List.{[], ◌∷◌}
-use lib.ListN.{length, get_or, drop, drop_of_length-le}
-use lib.Seq.{drop-cons}
+use lib.ListN.{length, get_or, take, drop, drop_of_length-le, length-drop}
+use lib.Seq.{drop-cons, take_all}
 use lib.Dec.{eqb}
 use borrow.Author.Tests.{eq-eqb, ne_eqb}
 use Rattle.volume.specs.Bytes.{Bytes, same}
-use Rattle.volume.specs.Lists.{all}
-use Rattle.volume.proofs.Tests.{all_next, all_end}
-use Rattle.model.specs.Name.{legal_byte}
-use Rattle.fields.proofs.Plain.{told, untold}
+use Rattle.std.specs.Prelude.{Option, Some, None, unwrap_or}
+use Rattle.std.specs.Option.{MatchOption}
+use Rattle.std.specs.List.{HoldsAt, AllWithin}
+use Rattle.std.proofs.lemmas.Iterator.{index_from_first}
 use Rattle.names.specs.Texts.{text_length}
-
--- x is what all the bytes are tested as, and so those of l from k on
-
-module _ {x : Bool} (l : Bytes) (k : ℕ) (so_far : x ≡ all legal_byte (drop k l)) where
-  -- r is the answer for byte k
-  module _ (h : k < length l) (r : Bool) (byte : r ≡ legal_byte (get_or l k 0)) where
-    pub text_not : not r ≡ true → false ≡ x
-    text_not t = sym (so_far ∙ all_next l k h legal_byte ∙ rw (untold byte t))
-
-    pub text_on : not r ≡ false → x ≡ all legal_byte (drop (k + 1) l)
-    text_on t = so_far ∙ all_next l k h legal_byte ∙ rw (told byte t)
-
-  pub text_all : length l ≤ k → true ≡ x
-  text_all h = sym (so_far ∙ all_end l k h legal_byte)
 
 pub byte_next : (l : Bytes) (k : ℕ) → k < length l → drop k l ≡ get_or l k 0 ∷ drop (k + 1) l
 byte_next l k h = rw (add-one, drop-cons l k 0)
 
--- the text that ends at x ends where the one does that begins at k
-module _ {x : ℕ} (l : Bytes) (k : ℕ) (so_far : x ≡ k + text_length (drop k l)) where
-  pub slash_here : k < length l → get_or l k 0 ≡ 47 → k ≡ x
-  unfolding text_length
-  slash_here h e = let stop : text_length (drop k l) ≡ 0 = rw (byte_next l k h, eq-eqb _ _ e) in omega arith
+-- the bytes from k on, as a part that ends with the bytes
+pub part_to_end : (k : ℕ) (l : Bytes) → take (length l - k) (drop k l) ≡ drop k l
+part_to_end k l = take_all (length l - k) (drop k l) (omega (arith, length-drop k l))
 
-  pub slash_on : k < length l → get_or l k 0 ≢ 47 → x ≡ k + 1 + text_length (drop (k + 1) l)
+-- r says where the first slash stands, or that there is none: the text ends there, or is all bytes
+module _ (l : Bytes) (r : Option ℕ) (found : MatchOption r (AllWithin (λ c. c ≢ 47) l 0 (length l)) (λ i. (i < length l) × HoldsAt (λ c. c ≡ 47) l i × AllWithin (λ c. c ≢ 47) l 0 i)) where
+  text_by : text_length l ≡ unwrap_or r (length l)
   unfolding text_length
-  slash_on h e = let step : text_length (drop k l) ≡ suc (text_length (drop (k + 1) l)) = rw (byte_next l k h, ne_eqb _ _ e) in omega arith
+  text_by = index_from_first text_length (λ c. c ≡ 47) (λ c. c ≢ 47) refl (λ c l h. rw (eq-eqb c 47 h)) (λ c l h. rw (ne_eqb c 47 h, add-one)) l r found
 
-  pub slash_none : length l ≤ k → k ≤ length l → k ≡ x
-  unfolding text_length
-  slash_none h g = let stop : text_length (drop k l) ≡ 0 = rw (drop_of_length-le l h) in omega arith
+  pub text_to : (k : ℕ) → r ≡ Some k → text_length l ≡ k
+  text_to k e = text_by ∙ ap (λ (o : Option ℕ). unwrap_or o (length l)) e
+
+  pub text_whole : r ≡ None → text_length l ≡ length l
+  text_whole e = text_by ∙ ap (λ (o : Option ℕ). unwrap_or o (length l)) e
 
 -- ---- two lists of bytes
 

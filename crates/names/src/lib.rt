@@ -4,11 +4,10 @@
 
 ghost use Rattle.std.specs.Prelude.{◌≡◌, not, ◌+◌, ◌≤◌, length, drop};
 ghost use Rattle.volume.specs.Bytes.{same, byte_at};
-ghost use Rattle.volume.specs.Lists.{all};
 ghost use Rattle.model.specs.Entry.{name_at, entry_at};
 ghost use Rattle.model.specs.Sound.{is_named};
 ghost use Rattle.model.specs.Name.{legal_byte, legal_name, legal_text, padded};
-ghost use Rattle.model.specs.Path.{texts, path_of, is_no_path};
+ghost use Rattle.model.specs.Path.{path_of, is_no_path};
 ghost use Rattle.names.specs.Texts.{text_length};
 ghost use Rattle.names.specs.Names.{may_follow};
 
@@ -36,7 +35,7 @@ pub fn same_bytes(a: &[u8], b: &[u8]) -> bool
     }
     let mut equal = true;
     for k in 0..a.len() {
-        equal = equal & (a[k] == b[k]);
+        equal &= a[k] == b[k];
     }
     equal
 }
@@ -47,9 +46,7 @@ pub fn has_name(image: &[u8], at: usize, name: &[u8]) -> bool
     requires { at + 32 ≤ length image.now }
     ensures { result ≡ same (name_at image.now at) name.now }
 {
-    let from = at + 1;
-    let to = at + 17;
-    same_bytes(&image[from..to], name)
+    same_bytes(&image[at + 1..at + 17], name)
 }
 
 // The entry has this name. A vacant one has none, whatever its bytes.
@@ -73,11 +70,7 @@ pub fn has_name_of(image: &[u8], at: usize, other: usize) -> bool
     if let Entry::Vacant = entry {
         return false;
     }
-    let from = other + 1;
-    let to = other + 17;
-    let begin = at + 1;
-    let end = at + 17;
-    same_bytes(&image[begin..end], &image[from..to])
+    same_bytes(&image[at + 1..at + 17], &image[other + 1..other + 17])
 }
 
 // What stands behind a byte in a legal name: a zero, or a legal byte behind one that is no zero.
@@ -95,7 +88,7 @@ pub fn name_is_legal(image: &[u8], at: usize) -> bool
 {
     let mut legal = true;
     for k in 0..16 {
-        legal = legal & may_follow(image[at + k], image[at + 1 + k]);
+        legal &= may_follow(image[at + k], image[at + 1 + k]);
     }
     legal & (image[at + 1] != 0)
 }
@@ -111,14 +104,7 @@ pub fn legal_text(text: &[u8]) -> bool
     if 16 < text.len() {
         return false;
     }
-    let mut k = 0;
-    while k < text.len() {
-        if !legal_byte(text[k]) {
-            return false;
-        }
-        k += 1;
-    }
-    true
+    text.iter().all(|c| legal_byte(*c))
 }
 
 pub fn pad(text: &[u8]) -> [u8; 16]
@@ -137,34 +123,13 @@ pub fn text_end(path: &[u8], from: usize) -> usize
     requires { from ≤ length path.now }
     ensures { (result ≡ from + text_length (drop from path.now)) × (result ≤ length path.now) }
 {
-    let mut k = from;
-    while k < path.len() {
-        if path[k] == b'/' {
-            return k;
-        }
-        k += 1;
-    }
-    k
-}
-
-// The texts from `from` on, also an empty one behind a slash at the end, are legal.
-fn texts_are_legal(path: &[u8], from: usize) -> bool
-    requires { from ≤ length path.now }
-    ensures { result ≡ all legal_text (texts (drop from path.now)) }
-{
-    let mut begin = from;
-    loop {
-        let end = text_end(path, begin);
-        if !legal_text(&path[begin..end]) {
-            return false;
-        }
-        if end == path.len() {
-            return true;
-        }
-        begin = end + 1;
+    match path[from..].iter().position(|c| *c == b'/') {
+        Some(k) => from + k,
+        None => path.len(),
     }
 }
 
+// The texts behind the first slash are legal: behind a slash at the end stands an empty one, which is not.
 pub fn is_path(path: &[u8]) -> bool
     ensures { result ≡ not (is_no_path (path_of path.now)) }
 {
@@ -177,5 +142,5 @@ pub fn is_path(path: &[u8]) -> bool
     if path.len() == 1 {
         return true;
     }
-    texts_are_legal(path, 1)
+    path[1..].split(|c| *c == b'/').all(|text| legal_text(text))
 }

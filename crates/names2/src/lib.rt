@@ -13,7 +13,7 @@ ghost use Rattle.cursor2.specs.Row.{position_at};
 ghost use Rattle.known2.specs.Known.{Formed};
 ghost use Rattle.names2.specs.Reached.{earlier, Reached, apart, steps};
 
-use cursor2::{Cursor, Step};
+use cursor2::Cursor;
 use fields::Page;
 use shape::Shape;
 
@@ -22,12 +22,10 @@ fn names_differ(image: &[u8], start: usize, count: usize, at: usize) -> bool
     requires { (start + 32 * count ≤ length image.now) × (at + 32 ≤ length image.now) }
     ensures { result ≡ all (apart image.now (name_at image.now at)) (steps start 0 count) }
 {
-    let mut k = 0;
-    while k < count {
+    for k in 0..count {
         if names::has_name_of(image, start + 32 * k, at) {
             return false;
         }
-        k += 1;
     }
     true
 }
@@ -69,9 +67,9 @@ pub fn name_is_fresh(
             return false;
         }
         left -= count;
-        match occupied2::next_page(image, shape, pages, other) {
-            Step::At(next) => other = next,
-            Step::End => return true,
-        }
+        let Some(next) = occupied2::next_page(image, shape, pages, other) else {
+            return true;
+        };
+        other = next;
     }
 }

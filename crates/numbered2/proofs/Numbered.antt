@@ -1,6 +1,6 @@
 -- Entry i of a directory, page by page: what is left of a row behind k entries of a page is the row from k entries further on, and behind all that the page has
 -- left it is the row of the pages behind.
-use mathlib.Core.Path.{◌≡◌, refl, sym, ap, ◌∙◌, subst}
+use mathlib.Core.Path.{◌≡◌, refl, sym, ap, ◌∙◌}
 use Prim.Native.Nat.{ℕ, zero, suc, ◌+◌, ◌-◌, ◌≤◌, ◌<◌}
 use native.Mathlib.Omega.{arith}
 use mathlib.Core.List.{List, [], ◌∷◌}
@@ -12,9 +12,7 @@ use Rattle.model2.specs.Version2.{entry_count}
 use Rattle.shape.specs.declared.Shape.{Shape}
 use Rattle.shape.specs.Geometry.{geometry_of}
 use Rattle.cursor2.specs.declared.Cursor.{Cursor}
-use Rattle.cursor2.specs.declared.Step.{Step}
-use Rattle.cursor2.specs.declared.Step.TheVariants.{At, End}
-use Rattle.cursor2.specs.Row.{entries_from, position_at, row_from, row_after, Stands, StandsAfter}
+use Rattle.cursor2.specs.Row.{entries_from, position_at, row_from, Stands}
 use Rattle.cursor2.proofs.Turns.{turn_same}
 
 drop_steps : (size n : ℕ) (next : ℕ → ℕ) (p left k i : ℕ) → i + k ≤ entry_count size n p
@@ -36,10 +34,10 @@ module _ {s : Shape} {n : ℕ} {b : Bytes} {c : Cursor} (t : Stands s n b c) whe
   on_row : (k : ℕ) → c.number + k ≤ entry_count s.size n c.page.0 → drop k (row_from s n b c) ≡ row_from s n b (on (c.number + k))
   on_row k h = drop_steps s.size n (On.next (geometry_of s) b) c.page.0 c.left k c.number h
 
-  -- the last entry of the page is the cursor, and r is its next
-  pub over_page : {k : ℕ} → k ≡ entry_count s.size n c.page.0 - 1 → (r : Step) → row_from s n b (on k) ≡ position_at s n (on k) ∷ row_after s n b r
-      → row_after s n b r ≡ drop (entry_count s.size n c.page.0 - c.number) (row_from s n b c)
-  over_page {k} last r row =
+  -- the last entry of the page is the cursor, and the rest is behind it
+  pub over_page : {k : ℕ} → k ≡ entry_count s.size n c.page.0 - 1 → {rest : List ℕ} → row_from s n b (on k) ≡ position_at s n (on k) ∷ rest
+      → rest ≡ drop (entry_count s.size n c.page.0 - c.number) (row_from s n b c)
+  over_page {k} last row =
       let w = t.within in
       let m : ℕ = k - c.number in
       let same : c.number + m ≡ k = omega arith in
@@ -65,8 +63,8 @@ module _ {s : Shape} {n : ℕ} {b : Bytes} {i : ℕ} {c₀ : Cursor} {further : 
     on_stands o.stands (omega (arith, held)),
   )
 
-  module _ (h : count - c.number ≤ further) (r : Step) (row : row_after s n b r ≡ drop (entry_count s.size n c.page.0 - c.number) (row_from s n b c)) where
-    past : drop (further - (count - c.number)) (row_after s n b r) ≡ drop i (row_from s n b c₀)
+  module _ (h : count - c.number ≤ further) {rest : List ℕ} (row : rest ≡ drop (entry_count s.size n c.page.0 - c.number) (row_from s n b c)) where
+    past : drop (further - (count - c.number)) rest ≡ drop i (row_from s n b c₀)
     past =
         let e : entry_count s.size n c.page.0 - c.number + (further - (count - c.number)) ≡ further = omega (arith, held) in
         ap (drop (further - (count - c.number))) row
@@ -74,25 +72,21 @@ module _ {s : Shape} {n : ℕ} {b : Bytes} {i : ℕ} {c₀ : Cursor} {further : 
         ∙ ap (λ (j : ℕ). drop j (row_from s n b c)) e ∙ o.left
 
     -- or behind it, and the row grows shorter
-    pub seek_fewer : {next : Cursor} → r ≡ At next → length (row_from s n b next) < length (row_from s n b c)
-    seek_fewer z = omega (
+    pub seek_fewer : length rest < length (row_from s n b c)
+    seek_fewer = omega (
       arith,
       o.stands.within,
       ap (λ (xs : List ℕ). length xs) row,
-      ap (λ (x : Step). length (row_after s n b x)) z,
       length-drop (entry_count s.size n c.page.0 - c.number) (row_from s n b c),
       ap (λ (xs : List ℕ). length xs) (turn_same s.size n (On.next (geometry_of s) b) c.page.0 c.number o.stands.within c.left),
     )
 
-    pub seek_next : {next : Cursor} → r ≡ At next → StandsAfter s n b r → Seeking s n b i c₀ (further - (count - c.number)) next
-    seek_next {next} z t = record {
-      stands = subst (λ (x : Step). StandsAfter s n b x) z t;
-      left = ap (λ (x : Step). drop (further - (count - c.number)) (row_after s n b x)) (sym z) ∙ past;
-    }
+    pub seek_next : {next : Cursor} → rest ≡ row_from s n b next → Stands s n b next → Seeking s n b i c₀ (further - (count - c.number)) next
+    seek_next {next} z t = record { stands = t; left = ap (drop (further - (count - c.number))) (sym z) ∙ past }
 
     -- or there is none
-    pub seek_end : {all : List ℕ} → row_from s n b c₀ ≡ all → r ≡ End → [] ≡ drop i all
-    seek_end whole z = sym (nothing (further - (count - c.number))) ∙ ap (λ (x : Step). drop (further - (count - c.number)) (row_after s n b x)) (sym z) ∙ past ∙ ap (drop i) whole
+    pub seek_end : {all : List ℕ} → row_from s n b c₀ ≡ all → rest ≡ [] → [] ≡ drop i all
+    seek_end whole z = sym (nothing (further - (count - c.number))) ∙ ap (drop (further - (count - c.number))) (sym z) ∙ past ∙ ap (drop i) whole
       where
         nothing : (k : ℕ) → ◌≡◌ {A = List ℕ} (drop k []) []
         nothing zero = refl

@@ -9,12 +9,12 @@ ghost use Rattle.shape.specs.Geometry.{geometry_of};
 ghost use Rattle.rows2.specs.Roomy.{Roomy};
 ghost use Rattle.cursor2.specs.Row.{row, row_from, row_after, AllLie, Stands, StandsAfter};
 
-use cursor2::{Cursor, Step};
+use cursor2::Cursor;
 use fields::Page;
 use shape::Shape;
 
 // The first entry behind those that the cursor's page has left: its last entry's next.
-pub fn next_page(image: &[u8], shape: Shape, pages: usize, cursor: Cursor) -> Step
+pub fn next_page(image: &[u8], shape: Shape, pages: usize, cursor: Cursor) -> Option<Cursor>
     requires { Roomy shape.size pages × Stands shape pages image.now cursor }
     ensures { (row_after shape pages image.now result ≡ drop (entry_count shape.size pages cursor.page.0 - cursor.number) (row_from shape pages image.now cursor)) × StandsAfter shape pages image.now result }
 {
@@ -26,7 +26,13 @@ pub fn next_page(image: &[u8], shape: Shape, pages: usize, cursor: Cursor) -> St
 }
 
 // Entry i of a directory, counted over all its pages: page by page, since a page's number of entries is known without reading them.
-pub fn entry_numbered(image: &[u8], shape: Shape, pages: usize, directory: Page, i: usize) -> Step
+pub fn entry_numbered(
+    image: &[u8],
+    shape: Shape,
+    pages: usize,
+    directory: Page,
+    i: usize,
+) -> Option<Cursor>
     requires { Roomy shape.size pages × (1 ≤ pages) × AllLie shape image.now (linked_pages (On.next (geometry_of shape) image.now) pages directory.0) }
     ensures { (row_after shape pages image.now result ≡ drop i (row shape pages image.now directory.0)) × StandsAfter shape pages image.now result }
 {
@@ -38,12 +44,9 @@ pub fn entry_numbered(image: &[u8], shape: Shape, pages: usize, directory: Page,
         let held = rows2::entry_count(shape, pages, page) - cursor.number;
         if further < held {
             let number = cursor.number + further;
-            return Step::At(Cursor { page, number, left });
+            return Some(Cursor { page, number, left });
         }
-        further = further - held;
-        match next_page(image, shape, pages, cursor) {
-            Step::At(next) => cursor = next,
-            Step::End => return Step::End,
-        }
+        further -= held;
+        cursor = next_page(image, shape, pages, cursor)?;
     }
 }

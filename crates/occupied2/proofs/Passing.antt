@@ -4,7 +4,7 @@ use Prim.Native.Nat.{ℕ, zero, suc, ◌+◌, ◌-◌, ◌*◌, ◌≤◌, ◌<�
 use native.Mathlib.Omega.{arith}
 use native.Mathlib.Numerals.{add-one}
 use mathlib.Core.Bool.{Bool, true, false, ◌&&◌, false≢true}
-use mathlib.Core.List.{List, [], ◌∷◌, ◌++◌, map}
+use mathlib.Core.List.{List, ◌∷◌, ◌++◌, map}
 use Rattle.std.specs.Prelude.{if◌then◌else◌}
 use Rattle.volume.specs.Lists.{count_from}
 use Rattle.occupied2.specs.Passing.{past, number_from, Searching, four_free}
@@ -59,9 +59,12 @@ module _ {f : ℕ → Bool} {st number count k : ℕ} (o : Searching f st number
       let e : count - k ≡ suc (count - (k + 1)) = omega arith in
       sym (o.left ∙ ap (number_from f st k) e ∙ ap (λ (c : Bool). if c then number_from f st (suc k) (count - (k + 1)) else k) t)
 
-  pub number_none : count ≤ k → k ≡ number_from f st number (count - number)
+  pub number_none : count ≤ k → count ≡ number_from f st number (count - number)
   unfolding number_from
-  number_none h = let e : count - k ≡ 0 = omega arith in sym (o.left ∙ ap (number_from f st k) e)
+  number_none h =
+      let e : count - k ≡ 0 = omega arith in
+      let all : k ≡ count = omega (arith, o.high) in
+      sym (o.left ∙ ap (number_from f st k) e ∙ all)
 
 -- four at once
 and-true : (a c : Bool) → (a && c) ≡ true → (a ≡ true) × (c ≡ true)

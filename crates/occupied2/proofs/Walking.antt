@@ -1,11 +1,11 @@
 -- A walk from page to page: what the row left has behind its vacant entries, the whole row has, and the entries passed and left are all of them.
-use mathlib.Core.Path.{◌≡◌, refl, sym, ap, ap₂, ◌∙◌, subst}
+use mathlib.Core.Path.{◌≡◌, refl, sym, ap, ap₂, ◌∙◌}
 use mathlib.Core.Logic.{◌≢◌}
 use Prim.Native.Nat.{ℕ, zero, suc, ◌+◌, ◌-◌, ◌*◌, ◌≤◌, ◌<◌}
 use native.Mathlib.Nat.{sub-zero}
 use native.Mathlib.Omega.{arith}
 use mathlib.Core.Bool.{Bool}
-use mathlib.Core.List.{List, [], ◌∷◌, ◌++◌, map, flat_map}
+use mathlib.Core.List.{List, [], ◌++◌, map, flat_map}
 use lib.ListN.{length, length-append}
 use Rattle.volume.specs.Bytes.{Bytes}
 use Rattle.volume.specs.Lists.{count_from}
@@ -18,11 +18,9 @@ use Rattle.shape.specs.Geometry.{geometry_of}
 use Rattle.rows2.specs.Roomy.{Roomy}
 use Rattle.rows2.proofs.On.{entry_lies, some_entry}
 use Rattle.cursor2.specs.declared.Cursor.{Cursor}
-use Rattle.cursor2.specs.declared.Step.{Step}
-use Rattle.cursor2.specs.declared.Step.TheVariants.{At, End}
-use Rattle.cursor2.specs.Row.{behind, entries_from, row_from, row_after, StandsAfter}
+use Rattle.cursor2.specs.Row.{behind, entries_from, row_from, Stands}
 use Rattle.cursor2.proofs.Turns.{behind_more}
-use Rattle.occupied2.specs.Passing.{past, number_from, Between, row_behind, Nearer}
+use Rattle.occupied2.specs.Passing.{past, number_from, Between, row_behind}
 use Rattle.occupied2.proofs.Passing.{some_left, none_left}
 
 -- ---- a page's part of what is left
@@ -60,9 +58,6 @@ pub record Passing (f : ℕ → Bool) (s : Shape) (n : ℕ) (b : Bytes) (c₀ : 
   pub between : Between s n b c
   pub left : past f (row_from s n b c) ≡ past f (row_from s n b c₀)
   pub count : i + length (row_from s n b c) ≡ i₀ + length (row_from s n b c₀)
-
-pub nearer : {left : ℕ} {r : Step} {next : Cursor} → r ≡ At next → Nearer left r → (next.left < left) × (next.number ≡ 0)
-nearer {left} e t = subst (Nearer left) e t
 
 module _ {s : Shape} {n : ℕ} {b : Bytes} {c : Cursor} (t : Between s n b c) where
   pub page_lies : PageLies (geometry_of s) c.page.0 b
@@ -127,16 +122,15 @@ module _ {f : ℕ → Bool} {s : Shape} {n : ℕ} {b : Bytes} {c₀ : Cursor} {i
           let ys = others s.size n links here c.left in
           sym (none_left f start ys c.number (many - c.number) many e (omega (arith, is, h, each))) ∙ o.left
 
-      -- the pages behind are left, from the answer r on
-      module _ {r : Step} (turn : row_behind s n b c ≡ row_after s n b r) where
-        pub met_end : r ≡ End → [] ≡ past f (row_from s n b c₀)
+      -- the pages behind are left
+      module _ {rest : List ℕ} (turn : row_behind s n b c ≡ rest) where
+        pub met_end : rest ≡ [] → [] ≡ past f (row_from s n b c₀)
         unfolding past
-        met_end e = ap (λ (x : Step). past f (row_after s n b x)) (sym e) ∙ ap (past f) (sym turn) ∙ others_left
+        met_end e = ap (past f) (sym e) ∙ ap (past f) (sym turn) ∙ others_left
 
-        pub passing_next : {next : Cursor} → r ≡ At next → StandsAfter s n b r → Passing f s n b c₀ i₀ next (i + (first - c.number))
-        passing_next {next} e t =
-            let row : others s.size n links here c.left ≡ row_from s n b next = turn ∙ ap (λ (x : Step). row_after s n b x) e in
-            let u = subst (λ (x : Step). StandsAfter s n b x) e t in
+        pub passing_next : {next : Cursor} → rest ≡ row_from s n b next → Stands s n b next → Passing f s n b c₀ i₀ next (i + (first - c.number))
+        passing_next {next} e u =
+            let row : others s.size n links here c.left ≡ row_from s n b next = turn ∙ e in
             record {
               between = record { within = omega (arith, u.within); pages = u.pages };
               left = ap (past f) (sym row) ∙ others_left;

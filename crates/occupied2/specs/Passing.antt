@@ -1,5 +1,5 @@
 -- A row without the entries before its first occupied one, and where a walk that passes over them stands.
-use Rattle.std.specs.Prelude.{◌≡◌, ℕ, zero, suc, ◌+◌, ◌-◌, ◌*◌, ◌≤◌, ◌<◌, Bool, ◌&&◌, length, if◌then◌else◌}
+use Rattle.std.specs.Prelude.{◌≡◌, ℕ, zero, suc, ◌+◌, ◌-◌, ◌*◌, ◌≤◌, ◌<◌, Bool, ◌&&◌, length, if◌then◌else◌, Option, Some, None}
 use mathlib.Core.List.{List, [], ◌∷◌, flat_map}
 use Rattle.volume.specs.Bytes.{Bytes}
 use Rattle.volume.specs.Geometry as On
@@ -9,11 +9,8 @@ use Rattle.model2.specs.Version2.{entry_count, entries_on}
 use Rattle.shape.specs.declared.Shape.{Shape}
 use Rattle.shape.specs.Geometry.{geometry_of}
 use Rattle.cursor2.specs.declared.Cursor.{Cursor}
-use Rattle.cursor2.specs.declared.Step.{Step}
-use Rattle.cursor2.specs.declared.Step.TheVariants.{At, End}
 use Rattle.cursor2.specs.Row.{behind, row_from, AllLie, Stands}
-use Rattle.occupied2.specs.declared.Met.{Met}
-use Rattle.occupied2.specs.declared.Met.TheVariants.{Occupied, NoMore}
+use Rattle.occupied2.specs.declared.Occupied.{Occupied}
 
 -- the entry at a position is vacant
 abbrev pub is_free : Bytes → ℕ → Bool
@@ -49,15 +46,15 @@ abbrev pub row_behind : Shape → (pages : ℕ) → Bytes → Cursor → List �
 row_behind s n b c = flat_map (entries_on s.size n) (behind (On.next (geometry_of s) b) c.left c.page.0)
 
 -- fewer pages may follow, and the page is at its first entry
-abbrev pub Nearer : (left : ℕ) → Step → Type 0
-Nearer left (At c) = (c.left < left) × (c.number ≡ 0)
-Nearer left End = Unit {0}
+abbrev pub Nearer : (left : ℕ) → Option Cursor → Type 0
+Nearer left (Some c) = (c.left < left) × (c.number ≡ 0)
+Nearer left None = Unit {0}
 
-abbrev pub met_row : Shape → (pages : ℕ) → Bytes → Met → List ℕ
-met_row s n b (Occupied c i) = row_from s n b c
-met_row s n b NoMore = []
+abbrev pub met_row : Shape → (pages : ℕ) → Bytes → Option Occupied → List ℕ
+met_row s n b (Some o) = row_from s n b o.cursor
+met_row s n b None = []
 
 -- the cursor is at an entry, whose number is that of all less what is left
-abbrev pub Meets : Shape → (pages : ℕ) → Bytes → (all : ℕ) → Met → Type 0
-Meets s n b all (Occupied c i) = Stands s n b c × (i + length (row_from s n b c) ≡ all)
-Meets s n b all NoMore = Unit {0}
+abbrev pub Meets : Shape → (pages : ℕ) → Bytes → (all : ℕ) → Option Occupied → Type 0
+Meets s n b all (Some o) = Stands s n b o.cursor × (o.number + length (row_from s n b o.cursor) ≡ all)
+Meets s n b all None = Unit {0}

@@ -7,18 +7,18 @@ ghost use Rattle.rows2.specs.Roomy.{Roomy};
 ghost use Rattle.cursor2.specs.Row.{row_from, row_after, StandsAfter};
 ghost use Rattle.occupied2.specs.Passing.{is_free, past, number_from, Searching, four_free, Between, row_behind, Nearer, met_row, Meets};
 
-use cursor2::{Cursor, Step};
+use cursor2::Cursor;
 use shape::Shape;
 
-// An occupied entry with its number in the whole directory, or none is left.
+// An occupied entry with its number in the whole directory.
 #[derive(Clone, Copy)]
-pub enum Met {
-    Occupied(Cursor, usize),
-    NoMore,
+pub struct Occupied {
+    pub cursor: Cursor,
+    pub number: usize,
 }
 
 // The first entry of the page behind the cursor's.
-pub fn next_page(image: &[u8], shape: Shape, pages: usize, cursor: Cursor) -> Step
+pub fn next_page(image: &[u8], shape: Shape, pages: usize, cursor: Cursor) -> Option<Cursor>
     requires { Roomy shape.size pages × Between shape pages image.now cursor }
     ensures { (row_behind shape pages image.now cursor ≡ row_after shape pages image.now result)
         × StandsAfter shape pages image.now result × Nearer cursor.left result }
@@ -26,12 +26,12 @@ pub fn next_page(image: &[u8], shape: Shape, pages: usize, cursor: Cursor) -> St
     let left = cursor.left;
     let page = shape::link(image, shape, cursor.page);
     if page.0 == 0 {
-        return Step::End;
+        return None;
     }
     if left == 0 {
-        return Step::End;
+        return None;
     }
-    Step::At(Cursor {
+    Some(Cursor {
         page,
         number: 0,
         left: left - 1,
@@ -77,19 +77,23 @@ fn occupied_number(image: &[u8], start: usize, number: usize, count: usize) -> u
     requires { (number ≤ count) × (start + 32 * count ≤ length image.now) × (start + 32 * count < 2 ^ 64) }
     ensures { (result ≡ number_from (is_free image.now) start number (count - number)) × (number ≤ result) × (result ≤ count) }
 {
-    let mut k = pass_fours(image, start, number, count);
-    while k < count {
-        if is_vacant(image, start + 32 * k) {
-            k += 1;
-        } else {
+    let passed = pass_fours(image, start, number, count);
+    for k in passed..count {
+        if !is_vacant(image, start + 32 * k) {
             return k;
         }
     }
-    k
+    count
 }
 
 // The first occupied entry from the cursor on, which stands at an entry of its page or behind the last: that entry has this number in the directory.
-pub fn next_occupied(image: &[u8], shape: Shape, pages: usize, cursor: Cursor, number: usize) -> Met
+pub fn next_occupied(
+    image: &[u8],
+    shape: Shape,
+    pages: usize,
+    cursor: Cursor,
+    number: usize,
+) -> Option<Occupied>
     requires { Roomy shape.size pages × Between shape pages image.now cursor × (number + length (row_from shape pages image.now cursor) < 2 ^ 64) }
     ensures { (met_row shape pages image.now result ≡ past (is_free image.now) (row_from shape pages image.now cursor))
         × Meets shape pages image.now (number + length (row_from shape pages image.now cursor)) result }
@@ -108,18 +112,16 @@ pub fn next_occupied(image: &[u8], shape: Shape, pages: usize, cursor: Cursor, n
         );
         passed += first - here.number;
         if first < count {
-            return Met::Occupied(
-                Cursor {
-                    page,
-                    number: first,
-                    left,
-                },
-                passed,
-            );
+            let cursor = Cursor {
+                page,
+                number: first,
+                left,
+            };
+            return Some(Occupied {
+                cursor,
+                number: passed,
+            });
         }
-        match next_page(image, shape, pages, here) {
-            Step::At(next) => here = next,
-            Step::End => return Met::NoMore,
-        }
+        here = next_page(image, shape, pages, here)?;
     }
 }

@@ -10,20 +10,20 @@ use lib.ListN.{length}
 use lib.Dec.{T, eqb}
 use borrow.Author.Tests.{not-true, not-false}
 use Rattle.volume.specs.Bytes.{Bytes}
-use Rattle.std.specs.Prelude.{if◌then◌else◌}
+use Rattle.std.specs.Prelude as std
+use Rattle.std.specs.Prelude.{if◌then◌else◌, Some, None, is_some, Result, Ok, Err, ok_or, IsErr, IsErrAnd}
 use Rattle.volume.specs.Lists.{first}
 use Rattle.model.specs.Layout.{page_size, page_count}
 use Rattle.model.specs.Date.{good_date}
 use Rattle.model.specs.Entry.{entries, entry_at}
 use Rattle.model.specs.Version1.{view}
-use Rattle.model.specs.Tree.{Row, end, free, width, held, lookup}
+use Rattle.model.specs.Tree.{Row, end, width, held, lookup}
 use Rattle.model.specs.Path.{Name, Path, below, path_of, is_no_path, is_root, parents, last_name}
 use Rattle.model.specs.Image.{row_at, tree_of}
 use Rattle.model.specs.Walk.{Walked, arrived, missing, blocked, walk, in_walked, entry_named, walk_on, arrived_or, parent_page}
-use Rattle.model.specs.Meaning.{fault_told}
 use Rattle.model.specs.Sound.{sound}
 use Rattle.model.specs.Effect.{lowest_vacant}
-use Rattle.model.specs.Call.{Refusal as Model, refusal, refusal_at, Answer, refused, granted}
+use Rattle.model.specs.Call.{Verdict, refusal, refusal_at, Answer, refused, granted}
 use Rattle.model.specs.Refusal.{is_missing, is_blocked, stopped_at, is_there, walk_lines, settle}
 use Rattle.model.specs.EffectOf
 use Rattle.model.specs.RefusalOf
@@ -33,52 +33,67 @@ use Rattle.laws.proofs.Walks.{node_of, lookup_named, map_walked, walk_bytes}
 use Rattle.walk.specs.Steps as code
 use Rattle.paths.proofs.Parents.{path_root, path_below}
 use Rattle.walk.specs.Steps.{spot_of}
-use Rattle.walk.specs.declared.Spot.{Spot}
-use Rattle.walk.specs.declared.Spot.TheVariants as spots
-use Rattle.walk.specs.declared.Parent.{Parent}
-use Rattle.walk.specs.declared.Parent.TheVariants.{In, Missing, Blocked}
-use Rattle.walk.specs.declared.Walk.{Walk}
+use Rattle.paths.specs.declared.Stop.{Stop}
+use Rattle.paths.specs.declared.Stop.TheVariants.{Missing, Blocked}
+use Rattle.paths.specs.declared.Parent.{Parent}
+use Rattle.paths.specs.Places.{stopped, parent_of}
+use Rattle.outcomes.specs.Answers.{answered}
+use Rattle.outcomes.proofs.Exits.{told_on}
 use Rattle.fields.proofs.Plain.{told as is-told, untold}
-use Rattle.faults.specs.Answers.{fault_of}
-use Rattle.judge.specs.Answers.{finding_of, judged_as}
-use Rattle.faults.specs.declared.Fault.{Fault}
-use Rattle.judge.specs.declared.Judgement.{Judgement}
-use Rattle.judge.specs.declared.Judgement.TheVariants.{Sound, BadLength, BadHeader, Unsound}
+use Rattle.judge.specs.Answers.{judged_as}
 use Rattle.arrivals.specs.Openings.{is_none}
 use Rattle.arrivals.proofs.Vacancies.{directory_full}
 use Rattle.places.proofs.Places.{two, judged_to, image_lines_lem}
 use Rattle.places.proofs.Entries.{leads}
 use Rattle.vacancies.proofs.Vacancies.{vacancy, first_entry}
 use Rattle.refusals.specs.declared.Refusal.{Refusal}
+use Rattle.refusals.specs.declared.Refusal.TheVariants.{DirectoryFull}
+use Rattle.refusals.specs.Told.{told, stopped_by}
 use Rattle.openings.specs.declared.Opening.{Opening}
-use Rattle.openings.specs.declared.Opening.TheVariants.{At, Stopped}
-use Rattle.openings.specs.Openings.{Place, vacancy_or, unless_named, opening_named, opening_walked, opening, opening_of, why}
+use Rattle.openings.specs.Openings.{Place, vacancy_or, unless_named, opening_named, opening_walked, opening, opened, Named}
 
--- ---- the refusal of an opening
+-- ---- an opening that there is none of
 
-pub stopped_refused : (path : Bytes) (o : Opening) (r : Refusal) {m : Model} {x : Answer Place} → o ≡ Stopped r → m ≡ why o → opening_of path o ≡ x → refused m ≡ x
-stopped_refused path o r e w is = ap refused w ∙ ap (λ (y : Opening). refused (why y)) e ∙ ap (opening_of path) (sym e) ∙ is
+pub unnamed : (path : Bytes) (r : Result Opening Refusal) → IsErr r → Named path r
+unnamed path (Ok o) is = let bad : ◌≡◌ {A = Bool} true false = sym is in absurd (true≢false bad)
+unnamed path (Err e) is = tt
 
 -- ---- one directory
 
--- the answer for the name's entry is s
-module _ (b : Bytes) (p begins : ℕ) (bytes m : Bytes) (is : m ≡ bytes) (s : Spot) (spot : spot_of s ≡ entry_named (view b) p m) where
+none_named : (s : std.Option ℕ) → is_some s ≡ false → s ≡ None
+none_named None e = refl
+none_named (Some at) e = let bad : ◌≡◌ {A = Bool} true false = e in absurd (true≢false bad)
+
+-- the answer for the name's entry is s, and the code asks whether there is one
+module _ (b : Bytes) (p begins : ℕ) (bytes m : Bytes) (is : m ≡ bytes) (s : std.Option ℕ) (spot : spot_of s ≡ entry_named (view b) p m)
+    (has : Bool) (asked-entry : has ≡ is_some s) where
   abbrev name : Name
   name = record { begins = begins; bytes = bytes }
 
-  pub name_taken : (at : ℕ) → s ≡ spots.At at → refused (refusal 8) ≡ opening_named b p name
+  pub name_taken : has ≡ true → refused (refusal 8) ≡ opening_named b p name
   unfolding unless_named
-  name_taken at e = rw (← is, ← spot, e)
+  name_taken e = go s refl (sym asked-entry ∙ e)
+    where
+      go : (x : std.Option ℕ) → s ≡ x → is_some x ≡ true → refused (refusal 8) ≡ opening_named b p name
+      go None q f = let bad : ◌≡◌ {A = Bool} true false = sym f in absurd (true≢false bad)
+      go (Some at) q f = rw (← is, ← spot, q)
 
   -- and for the lowest vacant one v
-  module _ (new : s ≡ spots.Nowhere) (v : Spot) (lowest : spot_of v ≡ first (vacancy b) (entries p)) where
-    pub entry_vacant : (at : ℕ) → v ≡ spots.At at → granted (at, bytes) ≡ opening_named b p name
+  module _ (new : has ≡ false) (v : std.Option ℕ) (lowest : spot_of v ≡ first (vacancy b) (entries p)) where
+    pub entry_vacant : (at : ℕ) → v ≡ Some at → granted (at, bytes) ≡ opening_named b p name
     unfolding unless_named vacancy_or
-    entry_vacant at e = rw (← is, ← spot, new, ← lowest, e)
+    entry_vacant at e = rw (← is, ← spot, none_named s (sym asked-entry ∙ new), ← lowest, e)
 
-    pub none_vacant : v ≡ spots.Nowhere → refused (refusal 9) ≡ opening_named b p name
+    none_vacant : v ≡ None → refused (refusal 9) ≡ opening_named b p name
     unfolding unless_named vacancy_or
-    none_vacant e = rw (← is, ← spot, new, ← lowest, e)
+    none_vacant e = rw (← is, ← spot, none_named s (sym asked-entry ∙ new), ← lowest, e)
+
+    pub full_stops : (path : Bytes) (r : Result Opening Refusal) (e : Refusal) → v ≡ None → Err e ≡ ok_or v DirectoryFull → IsErrAnd r (λ y. y ≡ e)
+        → answered told (opened path) r ≡ opening_named b p name
+    full_stops path r e full given is =
+        let t : ◌≡◌ {A = Result ℕ Refusal} (Err e) (Err DirectoryFull) = rw full at given in
+        let u : e ≡ DirectoryFull = cc in
+        told_on told (opened path) r e is (rw u (none_vacant full))
 
 -- ---- the lines behind the path and the date
 
@@ -152,39 +167,49 @@ module _ (b path date : Bytes) where
         unfolding settle is_no_path is_root walk is_missing is_blocked arrived_or
         root_taken l = (rw (is-told told_date d)) ∙ ap (asked b date) (sym (path_root path is_path_lem l)) ∙ is_asked
 
-        -- and w of the parents
-        module _ (s : T (sound b)) (low : length path ≡ 1 → ⊥) (w : Parent) (walked : code.parent_of path w ≡ code.walked_parent b (path_of path) 0) where
-          by_parents : (x : Parent) → w ≡ x → opening_by b (code.parent_of path x) ≡ opening_walked b path date
+        -- and by what is said of the parents
+        module _ (s : T (sound b)) (low : length path ≡ 1 → ⊥) where
+          by_parents : {w : Walked (ℕ × Name)} → w ≡ code.walked_parent b (path_of path) 0 → opening_by b w ≡ opening_walked b path date
           unfolding settle is_no_path is_root
-          by_parents x is = let q = path_below path (two path r told_path e low) (subst T (sym is_path_lem) tt) in
-              ap (opening_by b) ((rw is at walked) ∙ ap (λ (p : Path). code.walked_parent b p 0) q.2) ∙ below_asked q.0 q.1 ∙ ap (asked b date) (sym q.2) ∙ is_asked
+          by_parents walked = let q = path_below path (two path r told_path e low) (subst T (sym is_path_lem) tt) in
+              ap (opening_by b) (walked ∙ ap (λ (p : Path). code.walked_parent b p 0) q.2) ∙ below_asked q.0 q.1 ∙ ap (asked b date) (sym q.2) ∙ is_asked
             where
               below_asked : (ns : List Name) (n : Name) → opening_by b (code.walked_parent b (below ns n) 0) ≡ asked b date (below ns n)
               below_asked ns n = sym (rw (is-told told_date d) (parents_asked b (sound_facts_lem s) ns n))
 
-          pub parent_in : (q : Walk) (from : ℕ) → w ≡ In q from → {x : Answer Place} → x ≡ opening_named b q.0.0 (code.name_in path from (length path)) → x ≡ opening_walked b path date
-          parent_in q from is last = last ∙ by_parents (In q from) is
+          pub parent_in : (q : Parent) → parent_of path (Ok q) ≡ code.walked_parent b (path_of path) 0
+              → {x : Answer Place} → x ≡ opening_named b q.directory.0 (code.name_in path q.begins (length path)) → x ≡ opening_walked b path date
+          parent_in q walked last = last ∙ by_parents walked
 
-          pub parent_missing : (i : ℕ) → w ≡ Missing i → refused (refusal_at 5 i) ≡ opening_walked b path date
-          parent_missing i = by_parents (Missing i)
+          parent_stopped : (s : Stop) → stopped s ≡ code.walked_parent b (path_of path) 0 → refused (told (stopped_by s)) ≡ opening_walked b path date
+          parent_stopped (Missing i) walked = by_parents walked
+          parent_stopped (Blocked i) walked = by_parents walked
 
-          pub parent_blocked : (i : ℕ) → w ≡ Blocked i → refused (refusal_at 6 i) ≡ opening_walked b path date
-          parent_blocked i = by_parents (Blocked i)
+          pub parent_stops : (r : Result Opening Refusal) (w : Result Parent Stop) (s : Stop) → w ≡ Err s → parent_of path w ≡ code.walked_parent b (path_of path) 0
+              → IsErrAnd r (λ y. y ≡ stopped_by s) → answered told (opened path) r ≡ opening_walked b path date
+          parent_stops r w s is walked stop = told_on told (opened path) r (stopped_by s) stop (parent_stopped s (rw is at walked))
+
+          pub parent_missing : {i : ℕ} → Unit {0} × (missing i ≡ code.walked_parent b (path_of path) 0) → refused (refusal_at 5 i) ≡ opening_walked b path date
+          parent_missing walked = by_parents walked.1
+
+          pub parent_blocked : {i : ℕ} → Unit {0} × (blocked i ≡ code.walked_parent b (path_of path) 0) → refused (refusal_at 6 i) ≡ opening_walked b path date
+          parent_blocked walked = by_parents walked.1
 
 -- ---- what the code asks of a sound image
 
 module _ (b : Bytes) (s : T (sound b)) where
   -- the directory that a walk has come to lies in the image
-  pub page_inside : (path : Bytes) (w : Parent) → code.parent_of path w ≡ code.walked_parent b (path_of path) 0 → (q : Walk) (from : ℕ) → w ≡ In q from → q.0.0 < page_count b
+  pub page_inside : (path : Bytes) (q : Parent) → parent_of path (Ok q) ≡ code.walked_parent b (path_of path) 0 → q.directory.0 < page_count b
   unfolding in_walked is_missing is_blocked
-  page_inside path w walked q from is = go (walk_on (view b) (parents (path_of path)) 0) refl (rw is at walked)
+  page_inside path q walked = go (walk_on (view b) (parents (path_of path)) 0) refl walked
     where
       go : (v : Walked ℕ) → walk_on (view b) (parents (path_of path)) 0 ≡ v
-          → ◌≡◌ {A = Walked (ℕ × Name)} (arrived (q.0.0, code.name_in path from (length path))) (in_walked v (λ t. arrived (t, code.last (path_of path)))) → q.0.0 < page_count b
+          → ◌≡◌ {A = Walked (ℕ × Name)} (arrived (q.directory.0, code.name_in path q.begins (length path))) (in_walked v (λ t. arrived (t, code.last (path_of path))))
+          → q.directory.0 < page_count b
       go (arrived t) come k =
           let l = leads b (sound_facts_lem s) (parents (path_of path)) t come in
-          let pair : ◌≡◌ {A = ℕ × Name} (q.0.0, code.name_in path from (length path)) (t, code.last (path_of path)) = cc k in
-          let same : q.0.0 ≡ t = ap (λ (x : ℕ × Name). x.0) pair in
+          let pair : ◌≡◌ {A = ℕ × Name} (q.directory.0, code.name_in path q.begins (length path)) (t, code.last (path_of path)) = cc k in
+          let same : q.directory.0 ≡ t = ap (λ (x : ℕ × Name). x.0) pair in
           omega (arith, same, (slot (sound_facts_lem s) (parents (path_of path)) (suc l.0) t _ l.1 (first_entry t)).page)
       go (missing i) come k = let bad : ◌≡◌ {A = Bool} true false = sym (ap is_missing k) in absurd (true≢false bad)
       go (blocked i) come k = let bad : ◌≡◌ {A = Bool} true false = sym (ap is_blocked k) in absurd (true≢false bad)
@@ -197,20 +222,14 @@ module _ (b : Bytes) (s : T (sound b)) where
 
 -- ---- the image
 
--- the judge says j
-module _ (b path date : Bytes) (j : Judgement) (judged : finding_of j ≡ judged_as b) where
-  opening_judged : (x : Judgement) → j ≡ x → judged_to refused (opening_walked b path date) (finding_of x) ≡ opening b path date
+module _ (b path date : Bytes) where
+  opening_judged : {j : Answer Verdict} → j ≡ judged_as b → judged_to refused (opening_walked b path date) j ≡ opening b path date
   unfolding opening opening_walked settle
-  opening_judged x e = ap (judged_to refused (opening_walked b path date)) (rw e at judged) ∙ image_lines_lem b refused (opening_walked b path date)
+  opening_judged judged = ap (judged_to refused (opening_walked b path date)) judged ∙ image_lines_lem b refused (opening_walked b path date)
 
-  pub opening_sound : {pages free : ℕ} → j ≡ Sound pages free → {x : Answer Place} → x ≡ opening_walked b path date → x ≡ opening b path date
-  opening_sound {pages} {free} e w = w ∙ opening_judged (Sound pages free) e
+  pub opening_sound : {v : Verdict} → granted v ≡ judged_as b → {x : Answer Place} → x ≡ opening_walked b path date → x ≡ opening b path date
+  opening_sound judged w = w ∙ opening_judged judged
 
-  pub opening_length : j ≡ BadLength → refused (refusal 1) ≡ opening b path date
-  opening_length = opening_judged BadLength
-
-  pub opening_header : j ≡ BadHeader → refused (refusal 2) ≡ opening b path date
-  opening_header = opening_judged BadHeader
-
-  pub opening_unsound : (f : Fault) → j ≡ Unsound f → refused (fault_told (fault_of f)) ≡ opening b path date
-  opening_unsound f = opening_judged (Unsound f)
+  pub opening_stopped : (r : Result Opening Refusal) (e : Refusal) → IsErrAnd r (λ y. y ≡ e) → refused (told e) ≡ judged_as b
+      → answered told (opened path) r ≡ opening b path date
+  opening_stopped r e stop judged = told_on told (opened path) r e stop (opening_judged judged)

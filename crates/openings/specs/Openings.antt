@@ -1,5 +1,5 @@
--- Where a make puts its entry, in the model's words, and the values of the code's enum there.
-use Rattle.std.specs.Prelude.{ℕ, ◌-◌, ◌≤◌, ◌++◌, length}
+-- Where a make puts its entry, in the model's words, and what the code finds there.
+use Rattle.std.specs.Prelude.{ℕ, ◌-◌, ◌≤◌, ◌++◌, length, Result, Ok, Err}
 use Rattle.std.proofs.Math.Option.{Option, none, some}
 use Rattle.volume.specs.Bytes.{Bytes}
 use Rattle.volume.specs.Lists.{first}
@@ -9,13 +9,12 @@ use Rattle.model.specs.Path.{Name, path_of, last_name}
 use Rattle.model.specs.Image.{tree_of}
 use Rattle.model.specs.Walk.{entry_named, parent_page}
 use Rattle.model.specs.Effect.{is_vacant, lowest_vacant}
-use Rattle.model.specs.Call.{Refusal as Model, refusal, Answer, refused, granted}
+use Rattle.model.specs.Call.{refusal, Answer, refused, granted}
 use Rattle.model.specs.Refusal.{make_lines, settle}
 use Rattle.model.specs.Meaning.{image_lines}
 use Rattle.walk.specs.Steps.{name_in}
-use Rattle.refusals.specs.Told.{told}
+use Rattle.refusals.specs.declared.Refusal.{Refusal}
 use Rattle.openings.specs.declared.Opening.{Opening}
-use Rattle.openings.specs.declared.Opening.TheVariants.{At, Stopped}
 
 -- the position of the entry, and the new name's 16 bytes
 abbrev pub Place : Type 0
@@ -46,18 +45,13 @@ opening_walked b path date = settle (make_lines path date (tree_of b)) refused (
 unfoldable pub opening : Bytes → (path date : Bytes) → Answer Place
 opening b path date = settle (image_lines b ++ make_lines path date (tree_of b)) refused (granted (found b path))
 
--- ---- the code's enum
+-- ---- what the code finds
 
-abbrev pub opening_of : Bytes → Opening → Answer Place
-opening_of path (At entry begins) = granted (entry, (name_in path begins (length path)).bytes)
-opening_of path (Stopped r) = refused (told r)
+-- the new name ends with the path
+abbrev pub opened : Bytes → Opening → Place
+opened path o = (o.entry, (name_in path o.begins (length path)).bytes)
 
 -- the name lies in the path and fits an entry
-abbrev pub Named : Bytes → Opening → Type 0
-Named path (At entry begins) = (begins ≤ length path) × (length path - begins ≤ 16)
-Named path (Stopped r) = Unit {0}
-
--- the refusal of an opening that is one
-abbrev pub why : Opening → Model
-why (At entry begins) = refusal 4
-why (Stopped r) = told r
+abbrev pub Named : Bytes → Result Opening Refusal → Type 0
+Named path (Ok o) = (o.begins ≤ length path) × (length path - o.begins ≤ 16)
+Named path (Err r) = Unit {0}

@@ -6,76 +6,66 @@ ghost use Rattle.std.specs.Prelude.{◌≡◌, ◌*◌, ◌-◌, ◌<◌, ◌≤
 ghost use Rattle.model.specs.Layout.{page_size, page_count};
 ghost use Rattle.model.specs.Sound.{sound};
 ghost use Rattle.walk.specs.Steps.{name_in};
+ghost use Rattle.outcomes.specs.Answers.{answered};
 ghost use Rattle.refusals.specs.Told.{told};
-ghost use Rattle.openings.specs.Openings.{opening_of, Named, why, opening_named, opening_walked, opening};
+ghost use Rattle.openings.specs.Openings.{opened, Named, opening_named, opening_walked, opening};
 
 use fields::Page;
-use judge::Judgement;
 use refusals::Refusal;
-use walk::{Parent, Spot};
 
 // The position of the vacant entry, and the byte of the path at which the new name begins, which ends with the path.
 #[derive(Clone, Copy)]
-pub enum Opening {
-    At(usize, usize),
-    Stopped(Refusal),
-}
-
-// The refusal of an opening that is one. Of any other nobody asks.
-pub fn refusal_of(opening: Opening) -> Refusal
-    ensures { told result ≡ why opening }
-{
-    match opening {
-        Opening::At(_, _) => Refusal::NoPath,
-        Opening::Stopped(refusal) => refusal,
-    }
+pub struct Opening {
+    pub entry: usize,
+    pub begins: usize,
 }
 
 // In the directory on a page, for a path's last name, which begins at that byte. No entry has it, and one is vacant.
-fn opening_named(image: &[u8], directory: Page, path: &[u8], from: usize) -> Opening
+fn opening_named(
+    image: &[u8],
+    directory: Page,
+    path: &[u8],
+    from: usize,
+) -> Result<Opening, Refusal>
     requires { (directory.0 < page_count image.now) × (page_count image.now ≤ 256) × (page_size * page_count image.now ≡ length image.now) × (from ≤ length path.now) × (length path.now - from ≤ 16) }
-    ensures { Named path.now result × (opening_of path.now result ≡ opening_named image.now directory.0 (name_in path.now from (length path.now))) }
+    ensures { Named path.now result × (answered told (opened path.now) result ≡ opening_named image.now directory.0 (name_in path.now from (length path.now))) }
 {
     let end = path.len();
     let name = names::pad(&path[from..end]);
-    if let Spot::At(_) = walk::entry_named(image, directory, &name) {
-        return Opening::Stopped(Refusal::NameTaken);
+    if walk::entry_named(image, directory, &name).is_some() {
+        return Err(Refusal::NameTaken);
     }
-    match vacancies::vacant_entry(image, directory) {
-        Spot::At(entry) => Opening::At(entry, from),
-        Spot::Nowhere => Opening::Stopped(Refusal::DirectoryFull),
-    }
+    let entry = vacancies::vacant_entry(image, directory).ok_or(Refusal::DirectoryFull)?;
+    Ok(Opening {
+        entry,
+        begins: from,
+    })
 }
 
 // On a sound image.
-fn opening_walked(image: &[u8], path: &[u8], date: &[u8]) -> Opening
+#[tactic(auto, using(crate::proofs::Openings::page_inside, crate::proofs::Openings::few, crate::proofs::Openings::whole, crate::proofs::Openings::parent_in, crate::proofs::Openings::parent_stops, crate::proofs::Openings::parent_missing, crate::proofs::Openings::parent_blocked, crate::proofs::Openings::unnamed))]
+fn opening_walked(image: &[u8], path: &[u8], date: &[u8]) -> Result<Opening, Refusal>
     requires { T (sound image.now) }
-    ensures { Named path.now result × (opening_of path.now result ≡ opening_walked image.now path.now date.now) }
+    ensures { Named path.now result × (answered told (opened path.now) result ≡ opening_walked image.now path.now date.now) }
 {
     if !names::is_path(path) {
-        return Opening::Stopped(Refusal::NoPath);
+        return Err(Refusal::NoPath);
     }
     if !dates::good_date(date) {
-        return Opening::Stopped(Refusal::BadDate);
+        return Err(Refusal::BadDate);
     }
     // The root is there already.
     if path.len() == 1 {
-        return Opening::Stopped(Refusal::NameTaken);
+        return Err(Refusal::NameTaken);
     }
-    match walk::walk_parents(image, path) {
-        Parent::In(walk, from) => opening_named(image, walk.0, path, from),
-        Parent::Missing(byte) => Opening::Stopped(Refusal::NoSuchName(byte)),
-        Parent::Blocked(byte) => Opening::Stopped(Refusal::NotADirectory(byte)),
-    }
+    let parent = walk::walk_parents(image, path)?;
+    opening_named(image, parent.directory, path, parent.begins)
 }
 
-pub fn find_opening(image: &[u8], path: &[u8], date: &[u8]) -> Opening
-    ensures { Named path.now result × (opening_of path.now result ≡ opening image.now path.now date.now) }
+#[tactic(auto, using(places::proofs::Places::judged_sound, crate::proofs::Openings::opening_sound, crate::proofs::Openings::opening_stopped, crate::proofs::Openings::unnamed))]
+pub fn find_opening(image: &[u8], path: &[u8], date: &[u8]) -> Result<Opening, Refusal>
+    ensures { Named path.now result × (answered told (opened path.now) result ≡ opening image.now path.now date.now) }
 {
-    match judge::judge_image(image) {
-        Judgement::Sound(_, _) => opening_walked(image, path, date),
-        Judgement::BadLength => Opening::Stopped(Refusal::BadLength),
-        Judgement::BadHeader => Opening::Stopped(Refusal::BadHeader),
-        Judgement::Unsound(fault) => Opening::Stopped(Refusal::Unsound(fault)),
-    }
+    judge::judge_image(image)?;
+    opening_walked(image, path, date)
 }

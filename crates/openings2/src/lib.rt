@@ -10,31 +10,19 @@ ghost use Rattle.arrivals.specs.Openings.{opening_named, opening_walked, opening
 ghost use Rattle.known2.specs.Known.{Known};
 ghost use Rattle.known2.specs.Housed.{Housed};
 ghost use Rattle.paths.specs.Steps.{name_in};
-ghost use Rattle.refusals2.specs.Told.{told};
-ghost use Rattle.openings2.specs.Openings.{opening_of, Ready, why};
+ghost use Rattle.openings2.specs.Openings.{opening_of, Ready};
 
-use cursor2::Found;
 use fields::Page;
-use judge2::Judgement;
 use refusals2::Refusal;
 use shape2::Cartridge;
-use walk2::Parent;
 
 // The image's shape and number of pages, the directory, its lowest vacant entry, and the byte of the path at which the new name begins, which ends with the path.
 #[derive(Clone, Copy)]
-pub enum Opening {
-    At(Cartridge, Page, Found, usize),
-    Stopped(Refusal),
-}
-
-// The refusal of an opening that is one. Of any other nobody asks.
-pub fn refusal_of(opening: Opening) -> Refusal
-    ensures { told result ≡ why opening }
-{
-    match opening {
-        Opening::At(_, _, _, _) => Refusal::NoPath,
-        Opening::Stopped(refusal) => refusal,
-    }
+pub struct Opening {
+    pub cartridge: Cartridge,
+    pub directory: Page,
+    pub vacancy: Option<usize>,
+    pub begins: usize,
 }
 
 // In a directory, for a path's last name, which begins at that byte. No entry of any of its pages has it.
@@ -44,7 +32,7 @@ fn opening_named(
     directory: Page,
     path: &[u8],
     from: usize,
-) -> Opening
+) -> Result<Opening, Refusal>
     requires { Known image.now cartridge.shape cartridge.pages × Housed (view2 image.now) directory.0 × (from ≤ length path.now) × (length path.now - from ≤ 16) }
     ensures { Ready image.now path.now result × (opening_of path.now result ≡ opening_named true (view2 image.now) directory.0 (name_in path.now from (length path.now))) }
 {
@@ -52,44 +40,49 @@ fn opening_named(
     let pages = cartridge.pages;
     let end = path.len();
     let name = names::pad(&path[from..end]);
-    if let Found::There(_) = walk2::entry_named(image, shape, pages, directory, &name) {
-        return Opening::Stopped(Refusal::NameTaken);
+    if let Some(_) = walk2::entry_named(image, shape, pages, directory, &name) {
+        return Err(Refusal::NameTaken);
     }
     let vacancy = cursor2::vacant_entry(image, shape, pages, directory);
-    Opening::At(cartridge, directory, vacancy, from)
+    Ok(Opening {
+        cartridge,
+        directory,
+        vacancy,
+        begins: from,
+    })
 }
 
 // On a sound image.
-fn opening_walked(image: &[u8], cartridge: Cartridge, path: &[u8], date: &[u8]) -> Opening
+#[tactic(auto, using(crate::proofs::Openings::unready, crate::proofs::Openings::parent_in, crate::proofs::Openings::parent_stops))]
+fn opening_walked(
+    image: &[u8],
+    cartridge: Cartridge,
+    path: &[u8],
+    date: &[u8],
+) -> Result<Opening, Refusal>
     requires { Known image.now cartridge.shape cartridge.pages × T (sound v2 image.now) }
     ensures { Ready image.now path.now result × (opening_of path.now result ≡ opening_walked v2 image.now path.now date.now) }
 {
     if !names::is_path(path) {
-        return Opening::Stopped(Refusal::NoPath);
+        return Err(Refusal::NoPath);
     }
     if !dates::good_date(date) {
-        return Opening::Stopped(Refusal::BadDate);
+        return Err(Refusal::BadDate);
     }
     // The root is there already.
     if path.len() == 1 {
-        return Opening::Stopped(Refusal::NameTaken);
+        return Err(Refusal::NameTaken);
     }
-    match walk2::walk_parents(image, cartridge.shape, cartridge.pages, path) {
-        Parent::In(walk, from) => opening_named(image, cartridge, walk.0, path, from),
-        Parent::Missing(byte) => Opening::Stopped(Refusal::NoSuchName(byte)),
-        Parent::Blocked(byte) => Opening::Stopped(Refusal::NotADirectory(byte)),
-    }
+    let shape = cartridge.shape;
+    let parent = walk2::walk_parents(image, shape, cartridge.pages, path)?;
+    opening_named(image, cartridge, parent.directory, path, parent.begins)
 }
 
 // The image is judged first, so that what is made in the opening has its pages to itself.
-pub fn find_opening(image: &[u8], path: &[u8], date: &[u8]) -> Opening
+#[tactic(auto, using(crate::proofs::Openings::unready, places2::proofs::Judged::judged_known, places2::proofs::Judged::judged_sound, crate::proofs::Openings::opening_sound, crate::proofs::Openings::opening_refused))]
+pub fn find_opening(image: &[u8], path: &[u8], date: &[u8]) -> Result<Opening, Refusal>
     ensures { Ready image.now path.now result × (opening_of path.now result ≡ opening v2 image.now path.now date.now) }
 {
-    match judge2::judge_image(image) {
-        Judgement::Sound(cartridge, _) => opening_walked(image, cartridge, path, date),
-        Judgement::BadLength => Opening::Stopped(Refusal::BadLength),
-        Judgement::BadVersion => Opening::Stopped(Refusal::BadVersion),
-        Judgement::BadShape => Opening::Stopped(Refusal::BadShape),
-        Judgement::Unsound(fault) => Opening::Stopped(Refusal::Unsound(fault)),
-    }
+    let judged = judge2::judge_image(image)?;
+    opening_walked(image, judged.cartridge, path, date)
 }

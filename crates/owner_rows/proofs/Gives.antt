@@ -61,8 +61,8 @@ module _ (b : Bytes) (at left p : ℕ) (row : List ℕ) {v : Visited} (yes : Say
   pub chain_asks : 0 < left → SaysYes (claim at p row)
   chain_asks l = first_says (claim at p row) (claim_chain b at (left - 1) (link b p)) (subst SaysYes (is ∙ chain_next b at left p row l) yes)
 
-  pub chain_turn : 0 < left → {m : List ℕ} → goes m ≡ claim at p row → {q : ℕ} → q ≡ link b p → v ≡ claim_chain b at (left - 1) q m
-  chain_turn l {m} e k = chain_goes b at left p row is l true m e refl k
+  pub chain_turn : 0 < left → {m : List ℕ} → goes m ≡ claim at p row → {q n : ℕ} → q ≡ link b p → n ≡ left - 1 → v ≡ claim_chain b at n q m
+  chain_turn l {m} e k same = chain_goes b at left p row is l true m e refl k same
 
   pub chain_inside : 0 < left → {row₀ : List ℕ} → Row b row₀ → length row ≡ length row₀ → page_size * p < length b
   chain_inside l k e = omega (arith, page_low at p row (chain_asks l), e, k.each)

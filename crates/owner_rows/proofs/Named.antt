@@ -16,7 +16,6 @@ use Rattle.claims.specs.Claim.{Visited, stops, goes}
 use Rattle.audit.specs.Visit.{visit, concluded, first_row}
 use Rattle.agreement.specs.Marked.{is_marked}
 use Rattle.claims.specs.Lent.{Row}
-use Rattle.audit.specs.Demand.{AuditDemand}
 use Rattle.audit.proofs.Promise.{audit_demand}
 use Rattle.audit.proofs.Marks as Marks
 use Rattle.owner_rows.specs.Says.{SaysYes, no_owners}
@@ -46,7 +45,9 @@ module _ (b : Bytes) (h : T (sound b)) where
   unrefuted e =
       let f = sound_facts_lem h in
       let n = Marks.no_row b {r = valid_length (length b)} refl (yes_of (valid_length (length b)) f.fits) {s = valid_header b} refl (yes_of (valid_header b) f.headed) false [] e refl in
-      absurd (subst T (sym n.0) h)
+      let yes = true_of (sound b) h in
+      let both = rw yes at n in
+      absurd (cc)
 
   pub visit_says : SaysYes (visit (page_count b) b (0 ∷ []) (first_row (page_count b)))
   unfolding concluded
@@ -63,7 +64,10 @@ module _ (b : Bytes) (h : T (sound b)) where
       go : (k : Bool) → (if k then goes m else stops) ≡ concluded b (visit (page_count b) b (0 ∷ []) (first_row (page_count b))) → m ++ drop {A = ℕ} n (1 ∷ replicate 255 0) ≡ owner_numbers b
       go true o =
           let f = sound_facts_lem h in
-          (Marks.yes_row b {r = valid_length (length b)} refl (yes_of (valid_length (length b)) f.fits) {s = valid_header b} refl (yes_of (valid_header b) f.headed) true m o refl n c).1
+          let y = Marks.yes_row b {r = valid_length (length b)} refl (yes_of (valid_length (length b)) f.fits) {s = valid_header b} refl (yes_of (valid_header b) f.headed) true m o refl n c in
+          let yes = true_of (sound b) h in
+          let both = rw yes at y in
+          cc
       go false o = unrefuted o
 
   -- as the code goes: the first n numbers of a row of zeros are lent, and the header has the first

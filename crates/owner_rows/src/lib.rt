@@ -31,11 +31,9 @@ fn give_chain(image: &[u8], row: &mut [usize], at: usize, k: usize, start: Page)
     ensures { goes row.new ≡ claim_chain image.now at k start.0 row.old }
 {
     let mut page = start;
-    let mut left = k;
-    while 0 < left {
+    for _ in 0..k {
         give_page(row, at, page);
         page = fields::link(image, page);
-        left -= 1;
     }
 }
 
@@ -95,7 +93,7 @@ fn give_directories(image: &[u8], row: &mut [usize], list: &mut [u8])
     let mut found = 1;
     let mut done = 0;
     while done < found {
-        let directory = Page(fields::wide(list[done]));
+        let directory = Page(usize::from(list[done]));
         found = give_entries(image, row, list, found, directory);
         done += 1;
     }

@@ -17,11 +17,6 @@ use Rattle.model.specs.Judge as Model
 use Rattle.model.specs.Judge.{fault, clean, then_judge, judge_page, judge_chain, bad_chain}
 use Rattle.view_laws.proofs.Comes as Comes
 use Rattle.view_laws.proofs.Comes.{Made}
-use Rattle.faults.specs.declared.Check.{Check}
-use Rattle.faults.specs.declared.Check.TheVariants.{Clean, Faulty}
-use Rattle.faults.specs.declared.Fault.{Fault}
-use Rattle.faults.specs.Answers.{fault_of, outcome}
-use Rattle.faults.proofs.Answers.{clean_of, fault_of_lem}
 use Rattle.owning.specs.Marked.{Marked}
 
 -- ---- one page
@@ -50,19 +45,19 @@ module _ {b : Bytes} {d i k p₀ passed p : ℕ} {m₀ m : List ℕ} (at : Chain
   unfolding judge_chain
   chain_end h = let e : k - passed ≡ 0 = omega arith in at.comes ∙ rw e
 
-  -- one turn: the answer for page p is q, and it leaves the marks l
-  module _ (q : Check) (l : List ℕ) (page : outcome q l ≡ judge_page (view b) (bad_chain d i passed) p m) where
-    pub chained_faulty : passed < k → {x : Fault} → q ≡ Faulty x → fault (fault_of x) ≡ judge_chain (view b) d i k 0 p₀ m₀
-    unfolding then_judge
-    chained_faulty more e = sym (chain_next more ∙ rw (← fault_of_lem l page e))
+  -- one turn: page p gets its owner, or has a fault
+  pub chained_faulty : passed < k → {x : Model.Fault} → fault x ≡ judge_page (view b) (bad_chain d i passed) p m → fault x ≡ judge_chain (view b) d i k 0 p₀ m₀
+  unfolding then_judge
+  chained_faulty more page = sym (chain_next more ∙ rw (← page))
 
-    pub chained_here : q ≡ Clean → page_size * p < length b
-    chained_here e = let made = page_made b (bad_chain d i passed) p m l at.each (clean_of page e) in let each = at.each in omega arith
+  module _ (l : List ℕ) (page : clean l ≡ judge_page (view b) (bad_chain d i passed) p m) where
+    pub chained_here : page_size * p < length b
+    chained_here = let made = page_made b (bad_chain d i passed) p m l at.each page in let each = at.each in omega arith
 
-    pub chained_next : passed < k → q ≡ Clean → length l ≡ length m → {next : ℕ} → next ≡ link b p → Chained b d i k p₀ m₀ (passed + 1) next l
+    pub chained_next : passed < k → length l ≡ length m → {next : ℕ} → next ≡ link b p → Chained b d i k p₀ m₀ (passed + 1) next l
     unfolding then_judge
-    chained_next more e long follows =
-        record { most = omega arith; each = long ∙ at.each; comes = chain_next more ∙ rw (← clean_of page e, follows) }
+    chained_next more long follows =
+        record { most = omega arith; each = long ∙ at.each; comes = chain_next more ∙ rw (← page, follows) }
 
   pub chained_last : k ≤ passed → p ≡ 0 → clean m ≡ judge_chain (view b) d i k 0 p₀ m₀
   chained_last h e = sym (chain_end h ∙ rw (eq-eqb _ _ e))

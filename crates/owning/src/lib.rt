@@ -8,29 +8,29 @@ ghost use Rattle.model.specs.Judge.{judge_page, judge_chain};
 ghost use Rattle.faults.specs.Answers.{fault_of, outcome};
 ghost use Rattle.owning.specs.Marked.{Marked};
 
-use faults::{Check, Fault};
+use faults::Fault;
 use fields::Page;
 
 // A page gets its owner. `range` is the fault of a page that an entry cannot own, for only the entry knows its place.
-pub fn own_page(image: &[u8], marks: &mut [u8], page: Page, range: Fault) -> Check
+pub fn own_page(image: &[u8], marks: &mut [u8], page: Page, range: Fault) -> Result<(), Fault>
     requires { Marked image.now marks.old }
     ensures { outcome result marks.new ≡ judge_page (view image.now) (fault_of range) page.0 marks.old }
 {
     let p = page.0;
     if p < 1 {
-        return Check::Faulty(range);
+        return Err(range);
     }
     if p >= marks.len() {
-        return Check::Faulty(range);
+        return Err(range);
     }
     if marks[p] != 0 {
-        return Check::Faulty(Fault::OwnedTwice(page));
+        return Err(Fault::OwnedTwice(page));
     }
     if bitmap::bit(image, page) != 1 {
-        return Check::Faulty(Fault::MarkedFree(page));
+        return Err(Fault::MarkedFree(page));
     }
     marks[p] = 1;
-    Check::Clean
+    Ok(())
 }
 
 // The k pages of a file get their owner, entry i of a directory. Behind the last of them stands 0. A chain that returns to itself
@@ -42,22 +42,19 @@ pub fn own_chain(
     i: usize,
     k: usize,
     start: Page,
-) -> Check
+) -> Result<(), Fault>
     requires { Marked image.now marks.old }
     ensures { outcome result marks.new ≡ judge_chain (view image.now) directory.0 i k 0 start.0 marks.old }
 {
     let mut page = start;
     let mut passed = 0;
     while passed < k {
-        let owned = own_page(image, marks, page, Fault::BadChain(directory, i, passed));
-        if let Check::Faulty(fault) = owned {
-            return Check::Faulty(fault);
-        }
+        own_page(image, marks, page, Fault::BadChain(directory, i, passed))?;
         page = fields::link(image, page);
         passed += 1;
     }
     if page.0 != 0 {
-        return Check::Faulty(Fault::BadChain(directory, i, passed));
+        return Err(Fault::BadChain(directory, i, passed));
     }
-    Check::Clean
+    Ok(())
 }

@@ -15,16 +15,12 @@ use Rattle.std.specs.Prelude.{if◌then◌else◌}
 use Rattle.volume.specs.Geometry as On
 use Rattle.volume.proofs.Follow.{Lies}
 use Rattle.model.specs.View.{View, next}
+use Rattle.model.specs.Judge as Model
 use Rattle.model.specs.Judge.{fault, clean, then_judge, judge_page, judge_chain, bad_chain}
 use Rattle.model2.specs.Version2.{view2}
 use Rattle.shape.specs.declared.Shape.{Shape}
 use Rattle.shape.specs.Geometry.{geometry_of}
-use Rattle.faults.specs.declared.Check.{Check}
-use Rattle.faults.specs.declared.Check.TheVariants.{Clean, Faulty}
-use Rattle.faults.specs.declared.Fault.{Fault}
-use Rattle.faults.specs.Answers.{fault_of, outcome}
-use Rattle.faults.proofs.Answers.{clean_of, fault_of_lem}
-use Rattle.owning2.specs.Ready.{Ready, follows}
+use Rattle.owning2.specs.Ready.{Ready}
 use Rattle.owning2.proofs.Pages.{then_fault, then_clean, still, next_is, link_lies, page_here}
 
 module _ (v : View) (d i k passed p : ℕ) (m : List ℕ) where
@@ -56,20 +52,20 @@ chained_first {b} {s} {d} {i} {k} {p} {m} r = record {
 }
 
 module _ {b : Bytes} {s : Shape} {d i k p₀ passed p : ℕ} {m₀ m : List ℕ} (at : Chained b s d i k p₀ m₀ passed p m) where
-  -- one turn: the answer for page p is q, and it leaves the marks l
-  module _ (q : Check) (l : List ℕ) (page : outcome q l ≡ judge_page (view2 b) (bad_chain d i passed) p m) where
-    pub chained_faulty : passed < k → {x : Fault} → q ≡ Faulty x → fault (fault_of x) ≡ judge_chain (view2 b) d i k 0 p₀ m₀
-    chained_faulty more e = sym (at.comes ∙ chain_turn (view2 b) d i k passed p m more ∙ then_fault _ (fault_of_lem l page e))
+  -- one turn: page p gets its owner, or has a fault
+  pub chained_faulty : passed < k → {x : Model.Fault} → fault x ≡ judge_page (view2 b) (bad_chain d i passed) p m → fault x ≡ judge_chain (view2 b) d i k 0 p₀ m₀
+  chained_faulty more page = sym (at.comes ∙ chain_turn (view2 b) d i k passed p m more ∙ then_fault _ page)
 
-    pub chained_link : q ≡ Clean → Lies ((geometry_of s).link p) b
-    chained_link e = link_lies at.ready (page_here at.ready (bad_chain d i passed) p l (clean_of page e))
+  module _ (l : List ℕ) (page : clean l ≡ judge_page (view2 b) (bad_chain d i passed) p m) where
+    pub chained_link : Lies ((geometry_of s).link p) b
+    chained_link = link_lies at.ready (page_here at.ready (bad_chain d i passed) p l page)
 
-    pub chained_next : passed < k → q ≡ Clean → length l ≡ length m → {to : ℕ} → to ≡ On.next (geometry_of s) b p → Chained b s d i k p₀ m₀ (passed + 1) to l
-    chained_next more e same to_is = record {
+    pub chained_next : passed < k → length l ≡ length m → {to : ℕ} → to ≡ On.next (geometry_of s) b p → Chained b s d i k p₀ m₀ (passed + 1) to l
+    chained_next more same to_is = record {
       most = omega arith;
       ready = still at.ready same;
       long = same ∙ at.long;
-      comes = at.comes ∙ chain_turn (view2 b) d i k passed p m more ∙ then_clean _ (clean_of page e)
+      comes = at.comes ∙ chain_turn (view2 b) d i k passed p m more ∙ then_clean _ page
           ∙ ap (λ (n : ℕ). judge_chain (view2 b) d i (k - (passed + 1)) (passed + 1) n l) (sym (to_is ∙ next_is at.ready p));
     }
 
@@ -77,6 +73,8 @@ module _ {b : Bytes} {s : Shape} {d i k p₀ passed p : ℕ} {m₀ m : List ℕ}
   chained_last h e =
       sym (at.comes ∙ chain_end (view2 b) d i k passed p m h ∙ ap (λ (c : Bool). if c then clean m else fault (bad_chain d i passed)) (eq-eqb p 0 e))
 
-  pub chained_on : k ≤ passed → p ≢ 0 → fault (bad_chain d i passed) ≡ judge_chain (view2 b) d i k 0 p₀ m₀
+  pub chained_on : k ≤ passed → p ≢ 0 → fault (bad_chain d i k) ≡ judge_chain (view2 b) d i k 0 p₀ m₀
   chained_on h e =
-      sym (at.comes ∙ chain_end (view2 b) d i k passed p m h ∙ ap (λ (c : Bool). if c then clean m else fault (bad_chain d i passed)) (ne_eqb p 0 e))
+      let all : k ≡ passed = omega (arith, at.most) in
+      ap (λ (j : ℕ). fault (bad_chain d i j)) all
+      ∙ sym (at.comes ∙ chain_end (view2 b) d i k passed p m h ∙ ap (λ (c : Bool). if c then clean m else fault (bad_chain d i passed)) (ne_eqb p 0 e))

@@ -9,7 +9,6 @@ use native.Mathlib.Decide.{ℕ_discrete}
 use mathlib.Core.Bool.{Bool}
 use mathlib.Core.List.{List, [], ◌∷◌, tail}
 use lib.ListN.{length}
-use lib.Dec.{eqb}
 use borrow.Author.Tests.{ne_eqb}
 use Rattle.volume.specs.Bytes.{Bytes}
 use Rattle.std.specs.Prelude.{if◌then◌else◌}
@@ -17,17 +16,13 @@ use Rattle.volume.specs.Chain.{chain, linked}
 use Rattle.volume.specs.Geometry as On
 use Rattle.volume.proofs.Follow.{Lies}
 use Rattle.model.specs.View.{View}
+use Rattle.model.specs.Judge as Model
 use Rattle.model.specs.Judge.{Judged, fault, clean, then_judge, judge_page, judge_pages, bad_chain}
 use Rattle.model2.specs.Version2.{linked_pages, view2}
 use Rattle.shape.specs.declared.Shape.{Shape}
 use Rattle.shape.specs.Geometry.{geometry_of}
 use Rattle.cursor2.specs.Row.{behind}
 use Rattle.cursor2.proofs.Turns.{pages_first, behind_end}
-use Rattle.faults.specs.declared.Check.{Check}
-use Rattle.faults.specs.declared.Check.TheVariants.{Clean, Faulty}
-use Rattle.faults.specs.declared.Fault.{Fault}
-use Rattle.faults.specs.Answers.{fault_of, outcome}
-use Rattle.faults.proofs.Answers.{clean_of, fault_of_lem}
 use Rattle.owning2.specs.Ready.{Ready, follows}
 use Rattle.owning2.proofs.Pages.{then_fault, then_clean, still, next_is, link_lies, some_page, page_here}
 
@@ -75,24 +70,25 @@ module _ {b : Bytes} {s : Shape} {d e N start : ℕ} {m₀ : List ℕ} where
     unfolding linked chain
     owning_none h = let z : 0 ≡ N - i = omega arith in ap (λ (k : ℕ). judge_pages (view2 b) d e i (linked_pages (follows b) k p) clean m) z ∙ o.same
 
-    -- one turn: the answer for page p is q, and it leaves the marks l
-    module _ (q : Check) (l : List ℕ) (page : outcome q l ≡ judge_page (view2 b) (bad_chain d e i) p m) where
-      more : i < N → judge_pages (view2 b) d e i (linked_pages (follows b) (suc (N - (i + 1))) p) clean m ≡ judge_pages (view2 b) d e 0 (linked_pages (follows b) N start) clean m₀
-      more h = let z : suc (N - (i + 1)) ≡ N - i = omega arith in ap (λ (k : ℕ). judge_pages (view2 b) d e i (linked_pages (follows b) k p) clean m) z ∙ o.same
+    more : i < N → judge_pages (view2 b) d e i (linked_pages (follows b) (suc (N - (i + 1))) p) clean m ≡ judge_pages (view2 b) d e 0 (linked_pages (follows b) N start) clean m₀
+    more h = let z : suc (N - (i + 1)) ≡ N - i = omega arith in ap (λ (k : ℕ). judge_pages (view2 b) d e i (linked_pages (follows b) k p) clean m) z ∙ o.same
 
-      pub owning_faulty : i < N → {x : Fault} → q ≡ Faulty x → fault (fault_of x) ≡ judge_pages (view2 b) d e 0 (linked_pages (follows b) N start) clean m₀
-      owning_faulty h f = elim (ℕ_discrete (follows b p) 0) [
-        | yes z ↦ sym (then_fault _ (fault_of_lem l page f)) ∙ sym (pages_end (follows b) (view2 b) d e i m (N - (i + 1)) p z) ∙ more h
-        | no z ↦ sym (then_fault _ (fault_of_lem l page f)) ∙ sym (pages_on (follows b) (view2 b) d e i m (N - (i + 1)) p z) ∙ more h
-      ]
+    -- one turn: page p gets its owner, or has a fault
+    pub owning_faulty : i < N → {x : Model.Fault} → fault x ≡ judge_page (view2 b) (bad_chain d e i) p m
+        → fault x ≡ judge_pages (view2 b) d e 0 (linked_pages (follows b) N start) clean m₀
+    owning_faulty h page = elim (ℕ_discrete (follows b p) 0) [
+      | yes z ↦ sym (then_fault _ page) ∙ sym (pages_end (follows b) (view2 b) d e i m (N - (i + 1)) p z) ∙ more h
+      | no z ↦ sym (then_fault _ page) ∙ sym (pages_on (follows b) (view2 b) d e i m (N - (i + 1)) p z) ∙ more h
+    ]
 
-      pub owning_link : q ≡ Clean → Lies ((geometry_of s).link p) b
-      owning_link f = link_lies o.ready (page_here o.ready (bad_chain d e i) p l (clean_of page f))
+    module _ (l : List ℕ) (page : clean l ≡ judge_page (view2 b) (bad_chain d e i) p m) where
+      pub owning_link : Lies ((geometry_of s).link p) b
+      owning_link = link_lies o.ready (page_here o.ready (bad_chain d e i) p l page)
 
-      module _ (h : i < N) (f : q ≡ Clean) (to : ℕ) (to_is : to ≡ On.next (geometry_of s) b p) where
+      module _ (h : i < N) (to : ℕ) (to_is : to ≡ On.next (geometry_of s) b p) where
         pub owning_end : to ≡ 0 → clean l ≡ judge_pages (view2 b) d e 0 (linked_pages (follows b) N start) clean m₀
         owning_end z =
-            sym (then_clean (λ (ms : List ℕ). clean ms) (clean_of page f))
+            sym (then_clean (λ (ms : List ℕ). clean ms) page)
             ∙ sym (pages_end (follows b) (view2 b) d e i m (N - (i + 1)) p (sym (to_is ∙ next_is o.ready p) ∙ z)) ∙ more h
 
         pub owning_next : to ≢ 0 → length l ≡ length m → Owning b s d e N start m₀ (i + 1) to l
@@ -104,7 +100,7 @@ module _ {b : Bytes} {s : Shape} {d e N start : ℕ} {m₀ : List ℕ} where
               long = same-long ∙ o.long;
               same = ap (λ (x : ℕ). judge_pages (view2 b) d e (i + 1) (linked_pages (follows b) (N - (i + 1)) x) clean l) here
                   ∙ ap (λ (x : ℕ). judge_pages (view2 b) d e x (linked_pages (follows b) (N - (i + 1)) (follows b p)) clean l) (add-one i)
-                  ∙ sym (then_clean (judge_pages (view2 b) d e (suc i) (linked_pages (follows b) (N - (i + 1)) (follows b p)) clean) (clean_of page f))
+                  ∙ sym (then_clean (judge_pages (view2 b) d e (suc i) (linked_pages (follows b) (N - (i + 1)) (follows b p)) clean) page)
                   ∙ sym (pages_on (follows b) (view2 b) d e i m (N - (i + 1)) p (λ z. ne (here ∙ z))) ∙ more h;
             }
 

@@ -1,7 +1,7 @@
 -- One page: the tests of the code are those of the definition, in its order.
 use mathlib.Core.Path.{◌≡◌, refl, sym, ap, ◌∙◌, subst}
 use mathlib.Core.Logic.{◌≢◌}
-use Prim.Native.Nat.{ℕ, ◌+◌, ◌/◌, ◌≤◌, ◌<◌}
+use Prim.Native.Nat.{ℕ, ◌≤◌, ◌<◌}
 use native.Mathlib.Omega.{arith}
 use mathlib.Core.List.{List}
 use lib.ListN.{length, get_or, set}
@@ -12,9 +12,9 @@ use Rattle.volume.specs.Geometry.{Geometry}
 use Rattle.volume.proofs.Follow.{Lies}
 use Rattle.model.specs.View.{View, page_bit}
 use Rattle.model.specs.Judge.{Fault, Judged, fault, clean, then_judge, judge_page, owned_twice, marked_free}
-use Rattle.model2.specs.Layout.{set_aside, geometry2, code_in}
+use Rattle.model2.specs.Layout.{set_aside}
 use Rattle.model2.specs.Version2.{view2}
-use Rattle.view_laws.proofs.Comes.{Made, page_made}
+use Rattle.view_laws.proofs.Comes.{page_made}
 use Rattle.laws2.proofs.Bounds.{bounds}
 use Rattle.laws2.proofs.Version2.{tabled, lies2}
 use Rattle.shape.specs.declared.Shape.{Shape}

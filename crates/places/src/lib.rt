@@ -4,62 +4,28 @@
 
 ghost use Rattle.std.specs.Prelude.{◌≡◌, ◌*◌, ◌-◌, ◌<◌, ◌≤◌, length};
 ghost use Rattle.model.specs.Layout.{page_size, page_count};
+ghost use Rattle.paths.specs.Places.{spot_of};
+ghost use Rattle.outcomes.specs.Answers.{answered};
 ghost use Rattle.walk.specs.Steps.{name_in};
 ghost use Rattle.refusals.specs.Told.{told};
-ghost use Rattle.places.specs.Places.{arrival_of, why, place_named, place_walked, placed};
+ghost use Rattle.places.specs.Places.{place_named, place_walked, placed};
 
 use fields::{Entry, Page};
-use judge::Judgement;
+use paths::{Place, Target};
 use refusals::Refusal;
-use walk::{Parent, Spot};
-
-// A file or a directory by its entry: the entry's position, the byte of the path at which its name begins, and what the entry says.
-#[derive(Clone, Copy)]
-pub struct Target {
-    pub entry: usize,
-    pub begins: usize,
-    pub start: Page,
-    pub size: usize,
-}
-
-// The root has no entry.
-#[derive(Clone, Copy)]
-pub enum Place {
-    Root,
-    File(Target),
-    Directory(Target),
-}
-
-#[derive(Clone, Copy)]
-pub enum Arrival {
-    At(Place),
-    Stopped(Refusal),
-}
-
-// The refusal of an arrival that is one. Of any other nobody asks.
-pub fn refusal_of(arrival: Arrival) -> Refusal
-    ensures { told result ≡ why (arrival_of arrival) }
-{
-    match arrival {
-        Arrival::At(_) => Refusal::NoPath,
-        Arrival::Stopped(refusal) => refusal,
-    }
-}
 
 // The place of a path's last name, which begins at that byte, in its directory.
-fn last_place(image: &[u8], directory: Page, path: &[u8], from: usize) -> Arrival
+fn last_place(image: &[u8], directory: Page, path: &[u8], from: usize) -> Result<Place, Refusal>
     requires { (directory.0 < 256) × (page_size * page_count image.now ≡ length image.now) × (from ≤ length path.now) × (length path.now - from ≤ 16) }
-    ensures { arrival_of result ≡ place_named image.now directory.0 (name_in path.now from (length path.now)) }
+    ensures { answered told spot_of result ≡ place_named image.now directory.0 (name_in path.now from (length path.now)) }
 {
     let end = path.len();
     let name = names::pad(&path[from..end]);
-    let Spot::At(entry) = walk::entry_named(image, directory, &name) else {
-        return Arrival::Stopped(Refusal::NoSuchName(from));
-    };
+    let entry = walk::entry_named(image, directory, &name).ok_or(Refusal::NoSuchName(from))?;
     match fields::entry_at(image, entry) {
-        Entry::Vacant => Arrival::Stopped(Refusal::NoSuchName(from)),
+        Entry::Vacant => Err(Refusal::NoSuchName(from)),
         Entry::File(start, size) => {
-            Arrival::At(Place::File(Target {
+            Ok(Place::File(Target {
                 entry,
                 begins: from,
                 start,
@@ -67,7 +33,7 @@ fn last_place(image: &[u8], directory: Page, path: &[u8], from: usize) -> Arriva
             }))
         }
         Entry::Directory(start, size) => {
-            Arrival::At(Place::Directory(Target {
+            Ok(Place::Directory(Target {
                 entry,
                 begins: from,
                 start,
@@ -78,31 +44,26 @@ fn last_place(image: &[u8], directory: Page, path: &[u8], from: usize) -> Arriva
 }
 
 // Where a path leads on an image of whole pages.
-fn walked(image: &[u8], path: &[u8]) -> Arrival
+#[tactic(auto, using(crate::proofs::Places::parent_in, crate::proofs::Places::parent_stops, crate::proofs::Places::parent_missing, crate::proofs::Places::parent_blocked))]
+fn walked(image: &[u8], path: &[u8]) -> Result<Place, Refusal>
     requires { page_size * page_count image.now ≡ length image.now }
-    ensures { arrival_of result ≡ place_walked image.now path.now }
+    ensures { answered told spot_of result ≡ place_walked image.now path.now }
 {
     if !names::is_path(path) {
-        return Arrival::Stopped(Refusal::NoPath);
+        return Err(Refusal::NoPath);
     }
     if path.len() == 1 {
-        return Arrival::At(Place::Root);
+        return Ok(Place::Root);
     }
-    match walk::walk_parents(image, path) {
-        Parent::In(walk, from) => last_place(image, walk.0, path, from),
-        Parent::Missing(byte) => Arrival::Stopped(Refusal::NoSuchName(byte)),
-        Parent::Blocked(byte) => Arrival::Stopped(Refusal::NotADirectory(byte)),
-    }
+    let parent = walk::walk_parents(image, path)?;
+    last_place(image, parent.directory, path, parent.begins)
 }
 
 // The image is judged first, so that what a path leads to has its pages to itself.
-pub fn arrive(image: &[u8], path: &[u8]) -> Arrival
-    ensures { arrival_of result ≡ placed image.now path.now }
+#[tactic(auto, using(crate::proofs::Places::judged_whole, crate::proofs::Places::placed_sound, crate::proofs::Places::placed_stopped, crate::proofs::Places::placed_refused))]
+pub fn arrive(image: &[u8], path: &[u8]) -> Result<Place, Refusal>
+    ensures { answered told spot_of result ≡ placed image.now path.now }
 {
-    match judge::judge_image(image) {
-        Judgement::Sound(_, _) => walked(image, path),
-        Judgement::BadLength => Arrival::Stopped(Refusal::BadLength),
-        Judgement::BadHeader => Arrival::Stopped(Refusal::BadHeader),
-        Judgement::Unsound(fault) => Arrival::Stopped(Refusal::Unsound(fault)),
-    }
+    judge::judge_image(image)?;
+    walked(image, path)
 }

@@ -70,8 +70,8 @@ pub record ChainLeft (next : ℕ → ℕ) (first start k : ℕ) (row₀ : List �
   pub rest : numbered number (chain next left p) row ≡ numbered first (chain next k start) row₀
 
 module _ (next : ℕ → ℕ) (first start k : ℕ) (row₀ : List ℕ) where
-  pub chain_first : Under (length row₀) (chain next k start) → ChainLeft next first start k row₀ first start k row₀
-  chain_first u = record { count = refl; long = refl; under = u; rest = refl }
+  pub chain_first : {left : ℕ} → left ≡ k → Under (length row₀) (chain next k start) → ChainLeft next first start k row₀ first start left row₀
+  chain_first e u = subst (λ (n : ℕ). ChainLeft next first start k row₀ first start n row₀) (sym e) (record { count = refl; long = refl; under = u; rest = refl })
 
   abbrev more : (p left : ℕ) → 0 < left → chain next left p ≡ p ∷ chain next (left - 1) (next p)
   unfolding chain
@@ -81,15 +81,15 @@ module _ (next : ℕ → ℕ) (first start k : ℕ) (row₀ : List ℕ) where
   pub chain_low : (number p left : ℕ) (row : List ℕ) → 0 < left → ChainLeft next first start k row₀ number p left row → p < length row
   chain_low number p left row l inv = let u = under_head (length row₀) p (chain next (left - 1) (next p)) (subst (Under (length row₀)) (more p left l) inv.under) in omega (arith, inv.long)
 
-  pub chain_turn : (number p left q : ℕ) (row : List ℕ) → 0 < left → q ≡ next p → ChainLeft next first start k row₀ number p left row
-      → ChainLeft next first start k row₀ (number + 1) q (left - 1) (set row p number)
+  pub chain_turn : (number p left q : ℕ) {after : ℕ} (row : List ℕ) → 0 < left → after ≡ left - 1 → q ≡ next p → ChainLeft next first start k row₀ number p left row
+      → ChainLeft next first start k row₀ (number + 1) q after (set row p number)
   unfolding numbered
-  chain_turn number p left q row l e inv = record {
+  chain_turn number p left q row l one e inv = subst (λ (n : ℕ). ChainLeft next first start k row₀ (number + 1) q n (set row p number)) (sym one) (record {
     count = omega (arith, inv.count);
     long = length-set row p number ∙ inv.long;
     under = subst (λ (x : ℕ). Under (length row₀) (chain next (left - 1) x)) (sym e) (under_tail (length row₀) p (chain next (left - 1) (next p)) (subst (Under (length row₀)) (more p left l) inv.under));
     rest = ap₂ (λ (i x : ℕ). numbered i (chain next (left - 1) x) (set row p number)) (add-one number) e ∙ ap (λ (l : List ℕ). numbered number l row) (sym (more p left l)) ∙ inv.rest;
-  }
+  })
 
   pub chain_last : (number p left : ℕ) (row : List ℕ) → left ≤ 0 → ChainLeft next first start k row₀ number p left row → (number ≡ first + k) × (row ≡ numbered first (chain next k start) row₀)
   unfolding numbered chain

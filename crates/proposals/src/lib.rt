@@ -16,11 +16,7 @@ use fields::{Entry, Page};
 pub fn new_place(places: &[u8], page: u8) -> u8
     ensures { result ≡ place_of places.now page }
 {
-    let p = fields::wide(page);
-    if p >= places.len() {
-        return 0;
-    }
-    places[p]
+    places.get(usize::from(page)).copied().unwrap_or(0)
 }
 
 // The entry of the file or directory that owns a page. No entry lies at position 0, which stands for nobody.
@@ -43,8 +39,8 @@ pub fn owner_entry(image: &[u8], owners: &[usize], page: Page) -> Entry
 fn takes_places(places: &[u8], seen: &mut [u8]) -> bool
     ensures { result ≡ takes places.now seen.old }
 {
-    for p in 0..places.len() {
-        let q = fields::wide(places[p]);
+    for place in places {
+        let q = usize::from(*place);
         if q >= seen.len() {
             return false;
         }
@@ -70,7 +66,7 @@ fn link_leads_on(image: &[u8], places: &[u8], page: Page) -> bool
     if next >= places.len() {
         return false;
     }
-    fields::wide(places[next]) == fields::wide(places[p]) + 1
+    usize::from(places[next]) == usize::from(places[p]) + 1
 }
 
 // The same of a file's page alone.

@@ -1,6 +1,5 @@
 -- Read: the laws of `arrivals` at a file of version 1, whose content stands in its chain.
 use mathlib.Core.Path.{◌≡◌}
-use mathlib.Core.Logic.{◌⊎◌}
 use Prim.Native.Nat.{ℕ, ◌-◌, ◌≤◌, ◌<◌, min}
 use mathlib.Core.List.{flat_map}
 use lib.ListN.{length, take, drop}
@@ -13,21 +12,18 @@ use Rattle.model.specs.Image.{content_on}
 use Rattle.model.specs.Call.{read, Refusal, refusal, refused, granted}
 use Rattle.model.specs.Meaning.{answer, buffer_after}
 use Rattle.arrivals.proofs.Readings as Any
-use Rattle.places.specs.Places.{placed, spot_of, arrival_of}
-use Rattle.places.specs.declared.Arrival.{Arrival}
-use Rattle.places.specs.declared.Arrival.TheVariants.{At}
-use Rattle.places.specs.declared.Target.{Target}
-use Rattle.places.specs.declared.Place.{Place}
-use Rattle.places.specs.declared.Place.TheVariants as place
+use Rattle.paths.specs.declared.Target.{Target}
+use Rattle.paths.specs.declared.Place.{Place}
+use Rattle.paths.specs.declared.Place.TheVariants as place
+use Rattle.paths.specs.Places.{spot_of}
+use Rattle.places.specs.Places.{placed}
 use Rattle.places.proofs.Arrivals.{reads}
 use Rattle.chains.specs.Asked.{Inside}
-use Rattle.answers.proofs.Files.{FileAt, at_file, at_no_file}
+use Rattle.answers.proofs.Files.{FileAt, at_no_file}
 
 -- its pages lie in the image
-pub read_inside : (b path : Bytes) (a : Arrival) (p : Place) (t : Target) → a ≡ At p → p ≡ place.File t → arrival_of a ≡ placed b path
-    → (n : ℕ) → n ≡ pages_for t.size → Inside b n t.start.0
-read_inside b path a p t here is arrives n many =
-    rw many (Any.read_inside v1 b path {entry = t.entry} {begins = t.begins} {start = t.start.0} {k = t.size} (at_file here is arrives))
+pub read_inside : (b path : Bytes) (t : Target) → FileAt b path t → (n : ℕ) → n ≡ pages_for t.size → Inside b n t.start.0
+read_inside b path t e n many = rw many (Any.read_inside v1 b path {entry = t.entry} {begins = t.begins} {start = t.start.0} {k = t.size} e)
 
 -- ---- the answer and the buffer
 
@@ -39,24 +35,15 @@ module _ (b path : Bytes) (at : ℕ) (room : Bytes) where
   pub read_refused : {m : Refusal} → refused m ≡ placed b path → Refuses m
   read_refused e = Any.read_refused reads b path at room e
 
-  pub read_directory : (a : Arrival) (p : Place) → a ≡ At p → ((t : Target) → p ≡ place.File t → ⊥) → arrival_of a ≡ placed b path → Refuses (refusal 7)
-  read_directory a p here k e = let n = at_no_file p here k e in Any.read_no_file reads b path at room (spot_of p) n.0 n.1
+  pub read_directory : (p : Place) → ((t : Target) → p ≡ place.File t → ⊥) → granted (spot_of p) ≡ placed b path → Refuses (refusal 7)
+  read_directory p k e = let n = at_no_file p k e in Any.read_no_file reads b path at room (spot_of p) n.0 n.1
 
-  module _ (a : Arrival) (p : Place) (t : Target) (here : a ≡ At p) (is : p ≡ place.File t) (arrives : arrival_of a ≡ placed b path) where
-    abbrev entry : ℕ
-    entry = t.entry
-
-    abbrev begins : ℕ
-    begins = t.begins
-
+  module _ (t : Target) (e : FileAt b path t) where
     abbrev start : ℕ
     start = t.start.0
 
     abbrev k : ℕ
     k = t.size
-
-    e : FileAt b path t
-    e = at_file here is arrives
 
     pub read_past : k < at → Refuses (refusal 12)
     read_past h = Any.read_past reads b path at room e h

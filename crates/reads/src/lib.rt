@@ -7,29 +7,29 @@ ghost use Rattle.model.specs.Call.{read};
 ghost use Rattle.model.specs.Meaning.{answer, buffer_after};
 ghost use Rattle.answers.specs.Answers.{read_answer};
 
-use answers::ReadAnswer;
 use fields::Position;
-use places::{Arrival, Place};
+use paths::Place;
 use refusals::Refusal;
 
 // Copies a file's bytes from a position on to the front of the buffer, as many as there are and as it has room for.
-pub fn read(image: &[u8], path: &[u8], position: Position, buffer: &mut [u8]) -> ReadAnswer
+pub fn read(
+    image: &[u8],
+    path: &[u8],
+    position: Position,
+    buffer: &mut [u8],
+) -> Result<usize, Refusal>
     ensures result_value { read_answer result ≡ answer (read path.now position.0 buffer.old) image.now }
     ensures buffer_after { buffer.new ≡ buffer_after (read path.now position.0 buffer.old) image.now }
 {
-    let arrival = places::arrive(image, path);
-    let Arrival::At(place) = arrival else {
-        return ReadAnswer::Refused(places::refusal_of(arrival));
-    };
-    let Place::File(target) = place else {
-        return ReadAnswer::Refused(Refusal::IsADirectory);
+    let Place::File(target) = places::arrive(image, path)? else {
+        return Err(Refusal::IsADirectory);
     };
     let size = target.size;
     if size < position.0 {
-        return ReadAnswer::Refused(Refusal::PastEnd);
+        return Err(Refusal::PastEnd);
     }
-    let count = fields::least(buffer.len(), size - position.0);
+    let count = buffer.len().min(size - position.0);
     let pages = fields::pages_for(size);
     chains::read_chain(image, target.start, pages, position, buffer, count);
-    ReadAnswer::Copied(count)
+    Ok(count)
 }

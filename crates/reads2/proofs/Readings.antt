@@ -1,6 +1,5 @@
 -- Read: the bytes that the chain of a file's pages holds by the image's shape are those of its view, since the shape's geometry is the image's.
-use mathlib.Core.Path.{◌≡◌, sym, ap, ◌∙◌}
-use mathlib.Core.Logic.{◌⊎◌}
+use mathlib.Core.Path.{◌≡◌, ap, ◌∙◌}
 use Prim.Native.Nat.{ℕ, ◌+◌, ◌-◌, ◌≤◌, ◌<◌, ◌^◌, min}
 use native.Mathlib.Omega.{arith}
 use mathlib.Core.List.{flat_map}
@@ -17,48 +16,45 @@ use Rattle.model2.specs.Calls.{v2}
 use Rattle.arrivals.proofs.Readings as Any
 use Rattle.arrivals.proofs.Readings.{ReadRefuses}
 use Rattle.shape.specs.Geometry.{geometry_of}
-use Rattle.shape2.specs.declared.Cartridge.{Cartridge}
 use Rattle.known2.proofs.Rows.{known_roomy}
-use Rattle.places2.specs.declared.Target.{Target}
-use Rattle.places2.specs.declared.Place.{Place}
-use Rattle.places2.specs.declared.Place.TheVariants as place
-use Rattle.places2.specs.declared.Arrival.{Arrival}
-use Rattle.places2.specs.declared.Arrival.TheVariants.{At}
-use Rattle.places2.specs.Places.{spot_of, arrival_of}
+use Rattle.paths.specs.declared.Target.{Target}
+use Rattle.paths.specs.declared.Place.TheVariants as place
+use Rattle.places2.specs.declared.Arrived.{Arrived}
+use Rattle.paths.specs.Places.{spot_of}
 use Rattle.places2.proofs.Held.{reads2, Arrives, known_at, at_file, no_file, page_size_lem, page_room, file_lies, file_small}
 
-module _ (b path : Bytes) {a : Arrival} {c : Cartridge} {p : Place} (here : a ≡ At c p) (arrives : Arrives b path a) where
-  pub read_directory : (at : ℕ) (room : Bytes) → ((t : Target) → p ≡ place.File t → ⊥) → ReadRefuses v2 b path at room (refusal 7)
-  read_directory at room k = Any.read_no_file reads2 b path at room (spot_of p) (no_file p k) (ap arrival_of (sym here) ∙ arrives.1)
+module _ (b path : Bytes) (a : Arrived) (arrives : Arrives b path a) where
+  pub read_directory : (at : ℕ) (room : Bytes) → ((t : Target) → a.place ≡ place.File t → ⊥) → ReadRefuses v2 b path at room (refusal 7)
+  read_directory at room k = Any.read_no_file reads2 b path at room (spot_of a.place) (no_file a.place k) arrives.1
 
-  pub read_room : (0 < c.shape.room) × (c.shape.room ≤ c.shape.size) × (c.shape.room ≤ 1024)
+  pub read_room : (0 < a.cartridge.shape.room) × (a.cartridge.shape.room ≤ a.cartridge.shape.size) × (a.cartridge.shape.room ≤ 1024)
   read_room =
-      let k = known_at b path here arrives in
+      let k = known_at b path a arrives in
       let p = page_room k in
       (p.0, p.1, omega (arith, p.1, (known_roomy k).bound))
 
-  module _ {t : Target} (is : p ≡ place.File t) where
+  module _ {t : Target} (is : a.place ≡ place.File t) where
     pub read_past : (at : ℕ) (room : Bytes) → t.size < at → ReadRefuses v2 b path at room (refusal 12)
-    read_past at room h = Any.read_past reads2 b path at room (at_file b path here arrives is) h
+    read_past at room h = Any.read_past reads2 b path at room (at_file b path a arrives is) h
 
     -- what `pages_for` and `read_chain` ask
-    pub read_sizes : (1 ≤ c.shape.size) × (t.size + c.shape.size < 2 ^ 64)
+    pub read_sizes : (1 ≤ a.cartridge.shape.size) × (t.size + a.cartridge.shape.size < 2 ^ 64)
     read_sizes =
-        let k = known_at b path here arrives in
+        let k = known_at b path a arrives in
         let r = known_roomy k in
-        (omega (arith, r.large), omega (arith, r.bound, file_small k path (at_file b path here arrives is)))
+        (omega (arith, r.large), omega (arith, r.bound, file_small k path (at_file b path a arrives is)))
 
-    pub read_inside : {h : ℕ} → h ≡ pages_for c.shape.size t.size → Inside (geometry_of c.shape) b h t.start.0
-    read_inside = file_lies (known_at b path here arrives) path (at_file b path here arrives is)
+    pub read_inside : {h : ℕ} → h ≡ pages_for a.cartridge.shape.size t.size → Inside (geometry_of a.cartridge.shape) b h t.start.0
+    read_inside = file_lies (known_at b path a arrives) path (at_file b path a arrives is)
 
     module _ (at : ℕ) (room : Bytes) (h : at ≤ t.size) {count : ℕ} (least : count ≡ min (length room) (t.size - at)) where
       pub read_answer : granted count ≡ answer v2 (read path at room) b
-      read_answer = Any.read_answer reads2 b path at room (at_file b path here arrives is) h count least
+      read_answer = Any.read_answer reads2 b path at room (at_file b path a arrives is) h count least
 
-      pub read_buffer : {n : ℕ} → n ≡ pages_for c.shape.size t.size → {room' : Bytes}
-          → room' ≡ put 0 (take count (drop at (flat_map (On.content_on (geometry_of c.shape) b) (chain (On.next (geometry_of c.shape) b) n t.start.0)))) room
+      pub read_buffer : {n : ℕ} → n ≡ pages_for a.cartridge.shape.size t.size → {room' : Bytes}
+          → room' ≡ put 0 (take count (drop at (flat_map (On.content_on (geometry_of a.cartridge.shape) b) (chain (On.next (geometry_of a.cartridge.shape) b) n t.start.0)))) room
           → room' ≡ buffer_after v2 (read path at room) b
       read_buffer {n} many copy =
-          let k = known_at b path here arrives in
-          Any.read_buffer reads2 b path at room (at_file b path here arrives is) h count least n (many ∙ ap (λ (z : ℕ). pages_for z t.size) (page_size_lem k))
+          let k = known_at b path a arrives in
+          Any.read_buffer reads2 b path at room (at_file b path a arrives is) h count least n (many ∙ ap (λ (z : ℕ). pages_for z t.size) (page_size_lem k))
           (copy ∙ ap (λ (g : Geometry). put 0 (take count (drop at (flat_map (On.content_on g b) (chain (On.next g b) n t.start.0)))) room) k.formed.made)

@@ -2,6 +2,8 @@
 use Rattle.model.specs.Call.{Refusal as Model, refusal, refusal_at}
 use Rattle.model.specs.Meaning.{fault_told}
 use Rattle.faults.specs.Answers.{fault_of}
+use Rattle.paths.specs.declared.Stop.{Stop}
+use Rattle.paths.specs.declared.Stop.TheVariants.{Missing, Blocked}
 use Rattle.refusals.specs.declared.Refusal.{Refusal}
 use Rattle.refusals.specs.declared.Refusal.TheVariants.{BadLength, BadHeader, Unsound, NoPath, BadDate, IsRoot, NoSuchName, NotADirectory, NameTaken, IsADirectory, Locked, PastEnd, DirectoryFull, NoFreePages, NotEmpty, NotAPage}
 
@@ -22,3 +24,8 @@ told DirectoryFull = refusal 9
 told NoFreePages = refusal 10
 told NotEmpty = refusal 13
 told NotAPage = refusal 29
+
+-- where a walk stops
+abbrev pub stopped_by : Stop → Refusal
+stopped_by (Missing byte) = NoSuchName byte
+stopped_by (Blocked byte) = NotADirectory byte

@@ -6,9 +6,11 @@
 ghost use Rattle.std.specs.Prelude.{◌≡◌};
 ghost use Rattle.model.specs.Meaning.{fault_told};
 ghost use Rattle.faults.specs.Answers.{fault_of};
-ghost use Rattle.refusals.specs.Told.{told};
+ghost use Rattle.refusals.specs.Told.{told, stopped_by};
+ghost use Rattle.refusals.specs.declared.Refusal.TheVariants.{Unsound};
 
 use faults::Fault;
+use paths::Stop;
 
 #[derive(Clone, Copy)]
 pub enum Refusal {
@@ -44,6 +46,25 @@ pub enum Refusal {
     NotEmpty,
     // 29: store: the lent buffer is not a page (02 §11). It is given before all others.
     NotAPage,
+}
+
+impl From<Fault> for Refusal {
+    ghost from_gives = { λ fault r. r ≡ Unsound fault };
+
+    fn from(fault: Fault) -> Refusal {
+        Self::Unsound(fault)
+    }
+}
+
+impl From<Stop> for Refusal {
+    ghost from_gives = { λ stop r. r ≡ stopped_by stop };
+
+    fn from(stop: Stop) -> Refusal {
+        match stop {
+            Stop::Missing(byte) => Self::NoSuchName(byte),
+            Stop::Blocked(byte) => Self::NotADirectory(byte),
+        }
+    }
 }
 
 // The paper's number of a fault, in either version. 20 is told before 19.

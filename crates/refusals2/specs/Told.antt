@@ -2,6 +2,8 @@
 use Rattle.model.specs.Call.{Refusal as Model, refusal, refusal_at}
 use Rattle.model.specs.Meaning.{fault_told}
 use Rattle.faults.specs.Answers.{fault_of}
+use Rattle.paths.specs.declared.Stop.{Stop}
+use Rattle.paths.specs.declared.Stop.TheVariants.{Missing, Blocked}
 use Rattle.refusals2.specs.declared.Refusal.{Refusal}
 use Rattle.refusals2.specs.declared.Refusal.TheVariants.{BadLength, BadVersion, BadShape, Unsound, NoPath, BadDate, IsRoot, NoSuchName, NotADirectory, NameTaken, IsADirectory, Locked, PastEnd, NoFreePages, NotEmpty}
 
@@ -21,3 +23,8 @@ told Locked = refusal 25
 told PastEnd = refusal 12
 told NoFreePages = refusal 10
 told NotEmpty = refusal 13
+
+-- where a walk stops
+abbrev pub stopped_by : Stop → Refusal
+stopped_by (Missing byte) = NoSuchName byte
+stopped_by (Blocked byte) = NotADirectory byte

@@ -4,9 +4,11 @@
 #![tactic(auto)]
 
 ghost use Rattle.std.specs.Prelude.{◌≡◌};
-ghost use Rattle.refusals2.specs.Told.{told};
+ghost use Rattle.refusals2.specs.Told.{told, stopped_by};
+ghost use Rattle.refusals2.specs.declared.Refusal.TheVariants.{Unsound};
 
 use faults::Fault;
+use paths::Stop;
 
 #[derive(Clone, Copy)]
 pub enum Refusal {
@@ -40,6 +42,25 @@ pub enum Refusal {
     NoFreePages,
     // 13: remove directory: it holds something.
     NotEmpty,
+}
+
+impl From<Fault> for Refusal {
+    ghost from_gives = { λ fault r. r ≡ Unsound fault };
+
+    fn from(fault: Fault) -> Refusal {
+        Self::Unsound(fault)
+    }
+}
+
+impl From<Stop> for Refusal {
+    ghost from_gives = { λ stop r. r ≡ stopped_by stop };
+
+    fn from(stop: Stop) -> Refusal {
+        match stop {
+            Stop::Missing(byte) => Self::NoSuchName(byte),
+            Stop::Blocked(byte) => Self::NotADirectory(byte),
+        }
+    }
 }
 
 // The paper's number. A fault has the same one in both versions.

@@ -14,21 +14,19 @@ use Rattle.model.specs.Entry.{is_locked, entries}
 use Rattle.model.specs.Path.{path_of}
 use Rattle.model.specs.Call.{remove_file, remove_directory, Refusal, refusal, refusal_at, refused, granted}
 use Rattle.model.specs.Meaning.{answer, after}
-use Rattle.laws.proofs.Slots.{size}
 use Rattle.arrivals.proofs.Removes as Any
-use Rattle.places.specs.Places.{the_root, the_file, the_directory, placed, arrival_of}
-use Rattle.places.specs.declared.Arrival.{Arrival}
-use Rattle.places.specs.declared.Arrival.TheVariants.{At}
-use Rattle.places.specs.declared.Target.{Target}
-use Rattle.places.specs.declared.Place.{Place}
-use Rattle.places.specs.declared.Place.TheVariants as place
+use Rattle.paths.specs.declared.Target.{Target}
+use Rattle.paths.specs.declared.Place.{Place}
+use Rattle.paths.specs.declared.Place.TheVariants as place
+use Rattle.paths.specs.Places.{spot_of}
+use Rattle.places.specs.Places.{the_root, the_file, the_directory, placed}
 use Rattle.places.proofs.Arrivals.{Arrived, placed_arrived, reads}
 use Rattle.places.proofs.Entries.{directory_inside}
 use Rattle.chains.specs.Asked.{Returned}
 use Rattle.changes.proofs.Removals.{file_returned, directory_returned}
 use Rattle.vacancies.proofs.Vacancies.{vacancy}
 use Rattle.fields.proofs.Plain.{told as is-told, untold}
-use Rattle.answers.proofs.Files.{FileAt, DirectoryAt, at_file, at_directory, file_entry, directory_entry}
+use Rattle.answers.proofs.Files.{FileAt, DirectoryAt, at_file, file_entry, directory_entry}
 
 -- ---- the answer and the image
 
@@ -52,91 +50,62 @@ module _ (b path : Bytes) where
   pub directory_root : granted the_root ≡ placed b path → DirectoryRefuses (refusal 14)
   directory_root e = Any.remove_directory_root reads b path e
 
-  module _ (a : Arrival) (p : Place) (t : Target) (here : a ≡ At p) (is : p ≡ place.File t) (arrives : arrival_of a ≡ placed b path) where
-    abbrev at : ℕ
-    at = t.entry
-
-    abbrev begins : ℕ
-    begins = t.begins
-
-    abbrev start : ℕ
-    start = t.start.0
-
-    abbrev k : ℕ
-    k = t.size
-
-    e : FileAt b path t
-    e = at_file here is arrives
-
-    pub directory_is_file : DirectoryRefuses (refusal_at 6 begins)
+  module _ (t : Target) (e : FileAt b path t) where
+    pub directory_is_file : DirectoryRefuses (refusal_at 6 t.begins)
     directory_is_file = Any.remove_directory_file reads b path e
 
-    file_there : Arrived b path (the_file at begins start k)
-    file_there = placed_arrived b path (the_file at begins start k) e
+    file_there : Arrived b path (the_file t.entry t.begins t.start.0 t.size)
+    file_there = placed_arrived b path (the_file t.entry t.begins t.start.0 t.size) e
 
-    pub file_asked : (n : ℕ) → n ≡ pages_for k → Returned b n start × (at < length b)
+    pub file_asked : (n : ℕ) → n ≡ pages_for t.size → Returned b n t.start.0 × (t.entry < length b)
     file_asked n many =
         let s = file_there in
-        (rw many (file_returned b s.facts (path_of path) at begins s.at.0 s.at.1), omega (arith, file_entry b path a p t here arrives is))
+        (rw many (file_returned b s.facts (path_of path) t.entry t.begins s.at.0 s.at.1), omega (arith, file_entry b path t e))
 
-    pub file_locked : (r : Bool) → r ≡ is_locked b at → r ≡ true → FileRefuses (refusal 25)
+    pub file_locked : (r : Bool) → r ≡ is_locked b t.entry → r ≡ true → FileRefuses (refusal 25)
     file_locked r asked marked = Any.remove_file_locked reads b path e file_there.at.1 asked marked
 
-    pub file_done : (r : Bool) → r ≡ is_locked b at → r ≡ false → (n : ℕ) → n ≡ pages_for k
-        → {b' : Bytes} → b' ≡ set (foldl (On.released version1) b (chain (link b) n start)) at 0
+    pub file_done : (r : Bool) → r ≡ is_locked b t.entry → r ≡ false → (n : ℕ) → n ≡ pages_for t.size
+        → {b' : Bytes} → b' ≡ set (foldl (On.released version1) b (chain (link b) n t.start.0)) t.entry 0
         → (granted (tt {0}) ≡ answer (remove_file path) b) × (b' ≡ after (remove_file path) b)
     file_done r asked unmarked n many gone = Any.remove_file_done reads b path e file_there.at.1 asked unmarked n many gone
 
-  module _ (a : Arrival) (p : Place) (t : Target) (here : a ≡ At p) (is : p ≡ place.Directory t) (arrives : arrival_of a ≡ placed b path) where
-    abbrev at₂ : ℕ
-    at₂ = t.entry
-
-    abbrev begins₂ : ℕ
-    begins₂ = t.begins
-
-    abbrev start₂ : ℕ
-    start₂ = t.start.0
-
-    abbrev k₂ : ℕ
-    k₂ = t.size
-
-    e₂ : DirectoryAt b path t
-    e₂ = at_directory here is arrives
-
+  module _ (t : Target) (e : DirectoryAt b path t) where
     pub file_is_directory : FileRefuses (refusal 7)
-    file_is_directory = Any.remove_file_directory reads b path e₂
+    file_is_directory = Any.remove_file_directory reads b path e
 
-    directory_there : Arrived b path (the_directory at₂ begins₂ start₂ k₂)
-    directory_there = placed_arrived b path (the_directory at₂ begins₂ start₂ k₂) e₂
+    directory_there : Arrived b path (the_directory t.entry t.begins t.start.0 t.size)
+    directory_there = placed_arrived b path (the_directory t.entry t.begins t.start.0 t.size) e
 
-    pub directory_page : start₂ < page_count b
-    directory_page = let s = directory_there in (directory_inside b s.facts (path_of path) at₂ begins₂ s.at.0 s.at.1).1
+    pub directory_page : t.start.0 < page_count b
+    directory_page = let s = directory_there in (directory_inside b s.facts (path_of path) t.entry t.begins s.at.0 s.at.1).1
 
-    pub directory_asked : Returned b 1 start₂ × (at₂ < length b)
+    pub directory_asked : Returned b 1 t.start.0 × (t.entry < length b)
     directory_asked =
         let s = directory_there in
-        (directory_returned b s.facts (path_of path) at₂ begins₂ s.at.0 s.at.1, omega (arith, directory_entry b path a p t here arrives is))
+        (directory_returned b s.facts (path_of path) t.entry t.begins s.at.0 s.at.1, omega (arith, directory_entry b path t e))
 
-    pub directory_held : (r : Bool) → r ≡ all (vacancy b) (entries start₂) → not r ≡ true → DirectoryRefuses (refusal 13)
-    directory_held r asked held-some = Any.remove_directory_held reads b path e₂ refl (untold asked held-some)
+    pub directory_held : (r : Bool) → r ≡ all (vacancy b) (entries t.start.0) → not r ≡ true → DirectoryRefuses (refusal 13)
+    directory_held r asked held-some = Any.remove_directory_held reads b path e refl (untold asked held-some)
 
-    pub directory_done : (r : Bool) → r ≡ all (vacancy b) (entries start₂) → not r ≡ false → {b' : Bytes} → b' ≡ set (foldl (On.released version1) b (chain (link b) 1 start₂)) at₂ 0
+    pub directory_done : (r : Bool) → r ≡ all (vacancy b) (entries t.start.0) → not r ≡ false → {b' : Bytes}
+        → b' ≡ set (foldl (On.released version1) b (chain (link b) 1 t.start.0)) t.entry 0
         → (granted (tt {0}) ≡ answer (remove_directory path) b) × (b' ≡ after (remove_directory path) b)
     unfolding chain
-    directory_done r asked empty gone = Any.remove_directory_done reads b path e₂ refl (is-told asked empty) gone
+    directory_done r asked empty gone = Any.remove_directory_done reads b path e refl (is-told asked empty) gone
 
 -- ---- a file behind the lock's test, in the words of the code's facts: the check finds these by itself at the returns, whatever the test is called
 
-module _ (b path : Bytes) {a : Arrival} {p : Place} {t : Target} {r : Bool} (here : a ≡ At p) (is : p ≡ place.File t) (arrives : arrival_of a ≡ placed b path)
+module _ (b path : Bytes) {p : Place} {t : Target} {r : Bool} (is : p ≡ place.File t) (arrives : granted (spot_of p) ≡ placed b path)
     (asked : r ≡ is_locked b t.entry) where
   pub locked_answered : r ≡ true → answer (remove_file path) b ≡ refused (refusal 25)
-  locked_answered marked = sym (file_locked b path a p t here is arrives r asked marked).0
+  locked_answered marked = sym (file_locked b path t (at_file is arrives) r asked marked).0
 
   pub locked_kept : r ≡ true → after (remove_file path) b ≡ b
-  locked_kept marked = sym (file_locked b path a p t here is arrives r asked marked).1
+  locked_kept marked = sym (file_locked b path t (at_file is arrives) r asked marked).1
 
   pub removed_answered : r ≡ false → answer (remove_file path) b ≡ granted (tt {0})
-  removed_answered unmarked = sym (file_done b path a p t here is arrives r asked unmarked (pages_for t.size) refl refl).0
+  removed_answered unmarked = sym (file_done b path t (at_file is arrives) r asked unmarked (pages_for t.size) refl refl).0
 
   pub removed_gone : r ≡ false → after (remove_file path) b ≡ set (foldl (On.released version1) b (chain (link b) (pages_for t.size) t.start.0)) t.entry 0
-  removed_gone unmarked = sym (file_done b path a p t here is arrives r asked unmarked (pages_for t.size) refl refl).1
+  removed_gone unmarked = sym (file_done b path t (at_file is arrives) r asked unmarked (pages_for t.size) refl refl).1

@@ -27,34 +27,31 @@ use Rattle.arrivals.proofs.Settled.{Refuses, placed_arrived}
 use Rattle.arrivals.proofs.Removes.{remove_file_root, remove_file_locked, remove_file_done, remove_file_directory, remove_directory_root, remove_directory_file, remove_directory_held, remove_directory_done}
 use Rattle.fields.proofs.Plain.{told, untold}
 use Rattle.shape.specs.Geometry.{geometry_of}
-use Rattle.shape2.specs.declared.Cartridge.{Cartridge}
 use Rattle.cursor2.specs.Row.{row}
 use Rattle.known2.specs.Known.{Known}
 use Rattle.changes2.specs.Asked.{Walkable}
 use Rattle.changes2.proofs.Sound2.{file_returned, inner_walkable, inner_returned, vacant_view}
-use Rattle.places2.specs.declared.Target.{Target}
-use Rattle.places2.specs.declared.Place.{Place}
-use Rattle.places2.specs.declared.Place.TheVariants as place
-use Rattle.places2.specs.declared.Arrival.{Arrival}
-use Rattle.places2.specs.declared.Arrival.TheVariants.{At}
+use Rattle.paths.specs.declared.Target.{Target}
+use Rattle.paths.specs.declared.Place.TheVariants as place
+use Rattle.places2.specs.declared.Arrived.{Arrived}
 use Rattle.places2.proofs.Held as Held
 use Rattle.places2.proofs.Held.{reads2, Arrives, file_beside, known_at, at_file, at_directory, file_entry, directory_entry, page_size_lem}
 
-module _ (b path : Bytes) {a : Arrival} {c : Cartridge} {p : Place} (here : a ≡ At c p) (arrives : Arrives b path a) where
-  known : Known b c.shape c.pages
-  known = known_at b path here arrives
+module _ (b path : Bytes) (a : Arrived) (arrives : Arrives b path a) where
+  known : Known b a.cartridge.shape a.cartridge.pages
+  known = known_at b path a arrives
 
-  pub file_root : p ≡ place.Root → Refuses v2 (remove_file path) b (refusal 14)
-  file_root is = remove_file_root reads2 b path (Held.at_root b path here arrives is)
+  pub file_root : a.place ≡ place.Root → Refuses v2 (remove_file path) b (refusal 14)
+  file_root is = remove_file_root reads2 b path (Held.at_root b path a arrives is)
 
-  pub directory_root : p ≡ place.Root → Refuses v2 (remove_directory path) b (refusal 14)
-  directory_root is = remove_directory_root reads2 b path (Held.at_root b path here arrives is)
+  pub directory_root : a.place ≡ place.Root → Refuses v2 (remove_directory path) b (refusal 14)
+  directory_root is = remove_directory_root reads2 b path (Held.at_root b path a arrives is)
 
   -- ---- a file
 
-  module _ {t : Target} (is : p ≡ place.File t) where
+  module _ {t : Target} (is : a.place ≡ place.File t) where
     e : granted (the_file t.entry t.begins t.start.0 t.size) ≡ placed v2 b path
-    e = at_file b path here arrives is
+    e = at_file b path a arrives is
 
     its : Spots.At (view2 b) (path_of path) (the_file t.entry t.begins t.start.0 t.size)
     its = (placed_arrived v2 b path (the_file t.entry t.begins t.start.0 t.size) e).at
@@ -66,18 +63,18 @@ module _ (b path : Bytes) {a : Arrival} {c : Cartridge} {p : Place} (here : a �
     pub file_locked : {r : Bool} → r ≡ is_locked b t.entry → r ≡ true → Refuses v2 (remove_file path) b (refusal 25)
     file_locked asked = remove_file_locked reads2 b path e its.1 (asked ∙ (file_beside b t.entry its.1).0)
 
-    module _ {n : ℕ} (many : n ≡ pages_for c.shape.size t.size) where
-      pub file_asked : Returned (geometry_of c.shape) b n t.start.0 × (t.entry < length b)
+    module _ {n : ℕ} (many : n ≡ pages_for a.cartridge.shape.size t.size) where
+      pub file_asked : Returned (geometry_of a.cartridge.shape) b n t.start.0 × (t.entry < length b)
       file_asked =
           let x = its.0 in
           let l = leads (view2 b) known.facts x.ns x.page x.reached in (
-            subst (λ (m : ℕ). Returned (geometry_of c.shape) b m t.start.0) (sym many)
+            subst (λ (m : ℕ). Returned (geometry_of a.cartridge.shape) b m t.start.0) (sym many)
                 (file_returned known x.ns l.0 x.page l.1 t.entry (among known.facts x) its.1),
-            omega (arith, file_entry b path here arrives is),
+            omega (arith, file_entry b path a arrives is),
           )
 
       pub file_done : {r : Bool} → r ≡ is_locked b t.entry → r ≡ false
-          → {b' : Bytes} → b' ≡ set (foldl (On.released (geometry_of c.shape)) b (chain (On.next (geometry_of c.shape) b) n t.start.0)) t.entry 0
+          → {b' : Bytes} → b' ≡ set (foldl (On.released (geometry_of a.cartridge.shape)) b (chain (On.next (geometry_of a.cartridge.shape) b) n t.start.0)) t.entry 0
           → (granted (tt {0}) ≡ answer v2 (remove_file path) b) × (b' ≡ after v2 (remove_file path) b)
       file_done asked unmarked left =
           remove_file_done reads2 b path e its.1 (asked ∙ (file_beside b t.entry its.1).0) unmarked n
@@ -86,9 +83,9 @@ module _ (b path : Bytes) {a : Arrival} {c : Cartridge} {p : Place} (here : a �
 
   -- ---- a directory
 
-  module _ {t : Target} (is : p ≡ place.Directory t) where
+  module _ {t : Target} (is : a.place ≡ place.Directory t) where
     d : granted (the_directory t.entry t.begins t.start.0 t.size) ≡ placed v2 b path
-    d = at_directory b path here arrives is
+    d = at_directory b path a arrives is
 
     own : Spots.At (view2 b) (path_of path) (the_directory t.entry t.begins t.start.0 t.size)
     own = (placed_arrived v2 b path (the_directory t.entry t.begins t.start.0 t.size) d).at
@@ -96,14 +93,14 @@ module _ (b path : Bytes) {a : Arrival} {c : Cartridge} {p : Place} (here : a �
     pub file_is_directory : Refuses v2 (remove_file path) b (refusal 7)
     file_is_directory = remove_file_directory reads2 b path d
 
-    pub directory_walkable : Walkable c.shape c.pages t.start.0 b
+    pub directory_walkable : Walkable a.cartridge.shape a.cartridge.pages t.start.0 b
     directory_walkable =
         let x = own.0 in
         let l = leads (view2 b) known.facts x.ns x.page x.reached in
         inner_walkable known x.ns l.0 x.page l.1 t.entry (among known.facts x) own.1
 
     -- the code says r of whether all its entries are vacant
-    module _ {r : Bool} (asked : r ≡ all (λ at. is_vacant (entry_at b at)) (row c.shape c.pages b t.start.0)) where
+    module _ {r : Bool} (asked : r ≡ all (λ at. is_vacant (entry_at b at)) (row a.cartridge.shape a.cartridge.pages b t.start.0)) where
       vacant : r ≡ all (λ at. is_vacant ((view2 b).entry_at at)) ((view2 b).entries t.start.0)
       vacant = asked ∙ vacant_view known t.start.0
 
@@ -111,23 +108,23 @@ module _ (b path : Bytes) {a : Arrival} {c : Cartridge} {p : Place} (here : a �
       directory_held h = remove_directory_held reads2 b path d vacant (untold {r = r} refl h)
 
       -- and n of its pages
-      module _ {n : ℕ} (many : n ≡ linked (On.next (geometry_of c.shape) b) c.pages t.start.0) where
+      module _ {n : ℕ} (many : n ≡ linked (On.next (geometry_of a.cartridge.shape) b) a.cartridge.pages t.start.0) where
         pub directory_done : not r ≡ false
-            → {b' : Bytes} → b' ≡ set (foldl (On.released (geometry_of c.shape)) b (chain (On.next (geometry_of c.shape) b) n t.start.0)) t.entry 0
+            → {b' : Bytes} → b' ≡ set (foldl (On.released (geometry_of a.cartridge.shape)) b (chain (On.next (geometry_of a.cartridge.shape) b) n t.start.0)) t.entry 0
             → (granted (tt {0}) ≡ answer v2 (remove_directory path) b) × (b' ≡ after v2 (remove_directory path) b)
         directory_done h left =
             let f = known.formed in
             remove_directory_done reads2 b path d vacant (told {r = r} refl h)
             (left
-            ∙ ap (λ (i : ℕ). set (foldl (On.released (geometry_of c.shape)) b (chain (On.next (geometry_of c.shape) b) i t.start.0)) t.entry 0) many
+            ∙ ap (λ (i : ℕ). set (foldl (On.released (geometry_of a.cartridge.shape)) b (chain (On.next (geometry_of a.cartridge.shape) b) i t.start.0)) t.entry 0) many
             ∙ ap₂ (λ (g : Geometry) (i : ℕ). set (foldl (On.released g) b (linked_pages (On.next g b) i t.start.0)) t.entry 0) f.made f.count)
 
-    pub directory_asked : {n : ℕ} → n ≡ linked (On.next (geometry_of c.shape) b) c.pages t.start.0
-        → Returned (geometry_of c.shape) b n t.start.0 × (t.entry < length b)
+    pub directory_asked : {n : ℕ} → n ≡ linked (On.next (geometry_of a.cartridge.shape) b) a.cartridge.pages t.start.0
+        → Returned (geometry_of a.cartridge.shape) b n t.start.0 × (t.entry < length b)
     directory_asked many =
         let x = own.0 in
         let l = leads (view2 b) known.facts x.ns x.page x.reached in (
-          subst (λ (m : ℕ). Returned (geometry_of c.shape) b m t.start.0) (sym many)
+          subst (λ (m : ℕ). Returned (geometry_of a.cartridge.shape) b m t.start.0) (sym many)
               (inner_returned known x.ns l.0 x.page l.1 t.entry (among known.facts x) own.1),
-          omega (arith, directory_entry b path here arrives is),
+          omega (arith, directory_entry b path a arrives is),
         )

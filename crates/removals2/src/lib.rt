@@ -8,54 +8,48 @@ ghost use Rattle.model.specs.MeaningOf.{answer, after};
 ghost use Rattle.model2.specs.Calls.{v2};
 ghost use Rattle.answers2.specs.Answers.{change_answer};
 
-use answers2::ChangeAnswer;
-use places2::{Arrival, Place};
+use paths::Place;
 use refusals2::Refusal;
 
 // Removes a file that is not locked. Its pages are free from then on, and keep their bytes and their links.
-pub fn remove_file(image: &mut [u8], path: &[u8]) -> ChangeAnswer
+pub fn remove_file(image: &mut [u8], path: &[u8]) -> Result<(), Refusal>
     ensures result_value { change_answer result ≡ answer v2 (remove_file path.now) image.old }
     ensures image_after { image.new ≡ after v2 (remove_file path.now) image.old }
 {
-    let arrival = places2::arrive(image, path);
-    let Arrival::At(cartridge, place) = arrival else {
-        return ChangeAnswer::Refused(places2::refusal_of(arrival));
-    };
-    match place {
-        Place::Root => ChangeAnswer::Refused(Refusal::IsRoot),
+    let arrived = places2::arrive(image, path)?;
+    let shape = arrived.cartridge.shape;
+    match arrived.place {
+        Place::Root => Err(Refusal::IsRoot),
         Place::File(target) => {
             if fields::is_locked(image, target.entry) {
-                return ChangeAnswer::Refused(Refusal::Locked);
+                return Err(Refusal::Locked);
             }
-            let shape = cartridge.shape;
             let held = fields2::pages_for(shape, target.size);
             changes2::remove_entry(image, shape, target.entry, target.start, held);
-            ChangeAnswer::Done
+            Ok(())
         }
-        Place::Directory(_) => ChangeAnswer::Refused(Refusal::IsADirectory),
+        Place::Directory(_) => Err(Refusal::IsADirectory),
     }
 }
 
 // Removes a directory that holds nothing, with all its pages, which are free from then on, and keep their bytes and their links.
-pub fn remove_directory(image: &mut [u8], path: &[u8]) -> ChangeAnswer
+pub fn remove_directory(image: &mut [u8], path: &[u8]) -> Result<(), Refusal>
     ensures result_value { change_answer result ≡ answer v2 (remove_directory path.now) image.old }
     ensures image_after { image.new ≡ after v2 (remove_directory path.now) image.old }
 {
-    let arrival = places2::arrive(image, path);
-    let Arrival::At(cartridge, place) = arrival else {
-        return ChangeAnswer::Refused(places2::refusal_of(arrival));
-    };
-    match place {
-        Place::Root => ChangeAnswer::Refused(Refusal::IsRoot),
-        Place::File(target) => ChangeAnswer::Refused(Refusal::NotADirectory(target.begins)),
+    let arrived = places2::arrive(image, path)?;
+    let shape = arrived.cartridge.shape;
+    let pages = arrived.cartridge.pages;
+    match arrived.place {
+        Place::Root => Err(Refusal::IsRoot),
+        Place::File(target) => Err(Refusal::NotADirectory(target.begins)),
         Place::Directory(target) => {
-            let shape = cartridge.shape;
-            if !changes2::holds_nothing(image, shape, cartridge.pages, target.start) {
-                return ChangeAnswer::Refused(Refusal::NotEmpty);
+            if !changes2::holds_nothing(image, shape, pages, target.start) {
+                return Err(Refusal::NotEmpty);
             }
-            let held = changes2::directory_length(image, shape, cartridge.pages, target.start);
+            let held = changes2::directory_length(image, shape, pages, target.start);
             changes2::remove_entry(image, shape, target.entry, target.start, held);
-            ChangeAnswer::Done
+            Ok(())
         }
     }
 }

@@ -21,7 +21,7 @@ use Rattle.model.specs.Judge.{Fault, bad_entry, bad_chain, owned_twice, marked_f
 use Rattle.model.specs.Image.{tree_of}
 use Rattle.model.specs.Call.{verdict, Refusal, refusal, Answer, refused, granted}
 use Rattle.model.specs.Refusal.{settle}
-use Rattle.model.specs.Meaning.{fault_told, first_fault, is_format, lines, answer}
+use Rattle.model.specs.Meaning.{fault_told, first_fault, is_format, answer}
 use Rattle.laws.proofs.Facts.{sound_facts_lem}
 use Rattle.laws.proofs.Judged.{Walkable, walk_clean, walkable_clean, judge_sound}
 use Rattle.model.specs.Demands.{soundly}

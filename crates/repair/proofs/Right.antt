@@ -9,14 +9,11 @@ use native.Mathlib.Decide.{ℕ_discrete}
 use mathlib.Core.Bool.{Bool, true, false, not}
 use mathlib.Core.List.{List}
 use lib.ListN.{length, get_or}
-use lib.Dec.{T, eqb}
 use borrow.Author.Tests.{eq-eqb, ne_eqb}
 use Rattle.volume.specs.Bytes.{Bytes}
 use Rattle.std.specs.Prelude.{if◌then◌else◌}
 use Rattle.volume.specs.Geometry as On
-use Rattle.volume.proofs.Occ.{occ}
 use Rattle.model.specs.Layout.{version1, page_count, page_bit}
-use Rattle.model.specs.Sound.{owned_pages}
 use Rattle.model.specs.Judge.{clean, judge_walk}
 use Rattle.laws.proofs.Judged.{walk_clean}
 use Rattle.bitmap.specs.Words.{Clear}
@@ -86,13 +83,13 @@ module _ (marks : List ℕ) (b x : Bytes) (p n : ℕ) (so_far : x ≡ remarked v
     each = λ q l h m. ap (λ (y : Bytes). page_bit y q) come ∙ later (is_taken marks) b p q l (λ k u. omega arith) ∙ shown.each q (omega arith) h m;
   }
 
-  pub right_on : n ≡ length marks → (right step : ℕ) → Right x marks p right → right ≢ 0 → step ≡ max 1 right → x ≡ remarked version1 (is_taken marks) (min (p + step) n) b
+  pub right_on : n ≡ length marks → (right step : ℕ) → Right x marks p right → right ≢ 0 → step ≡ max right 1 → x ≡ remarked version1 (is_taken marks) (min (p + step) n) b
   right_on en right step r some e =
       let end : p + (min (p + right) n - p) ≡ min (p + step) n = omega (arith, some) in
       passed (is_taken marks) b (min (p + right) n - p) p x come (λ q l m. r.each q l (omega arith) (omega arith)) ∙ ap (λ (k : ℕ). remarked version1 (is_taken marks) k b) end
 
   pub set_on : (y : Bytes) (c : Bool) → c ≡ is_taken marks p → y ≡ (if c then On.mark version1 p x else On.unmark version1 p x)
-      → (right step : ℕ) → right ≡ 0 → step ≡ max 1 right → y ≡ remarked version1 (is_taken marks) (min (p + step) n) b
+      → (right step : ℕ) → right ≡ 0 → step ≡ max right 1 → y ≡ remarked version1 (is_taken marks) (min (p + step) n) b
   set_on y c ec ey right step z e =
       let end : p + 1 ≡ min (p + step) n = omega arith in
       remarked_turn (is_taken marks) b x y p c come ec ey ∙ ap (λ (k : ℕ). remarked version1 (is_taken marks) k b) end

@@ -6,7 +6,7 @@ use Rattle.volume.specs.Lists.{member}
 use Rattle.model.specs.Layout.{version1, page_count, valid_length, valid_header}
 use Rattle.model.specs.Sound.{owned_pages}
 use Rattle.model.specs.Judge.{judge_walk, is_clean}
-use Rattle.model.specs.Call.{Refusal, refusal, Answer, refused, granted}
+use Rattle.model.specs.Call.{refusal, Answer, refused, granted}
 use Rattle.model.specs.Refusal.{Line, settle}
 use Rattle.model.specs.Meaning.{first_fault}
 use Rattle.repair.specs.Remark.{remarked, recounted}

@@ -12,10 +12,8 @@ ghost use Rattle.repair.specs.Repair.{repair_answer, repair_after};
 ghost use Rattle.repair.specs.Taken.{is_taken, Shown, Right};
 ghost use Rattle.answers.specs.Answers.{change_answer};
 
-use faults::Check;
 use fields::Page;
 use refusals::Refusal;
-use zealfs::ChangeAnswer;
 
 // The header, or a page that has its owner mark.
 fn is_taken(marks: &[u8], p: usize) -> bool
@@ -70,36 +68,33 @@ fn remark(image: &mut [u8], marks: &[u8])
             let taken = is_taken(marks, p);
             set_bit(image, Page(p), taken);
         }
-        p += fields::larger(1, right);
+        p += right.max(1);
     }
     let zeros = bitmap::zero_bits(image, n);
     image[3] = zeros as u8;
 }
 
 // On an image of right length and header, with a mark of 0 for each page.
-fn mend(image: &mut [u8], marks: &mut [u8]) -> ChangeAnswer
+fn mend(image: &mut [u8], marks: &mut [u8]) -> Result<(), Refusal>
     requires { (valid_length (length image.old) ≡ true) × (valid_header image.old ≡ true) × Marked image.old marks.old × (marks.old ≡ replicate (page_count image.old) 0) }
     ensures result_value { change_answer result ≡ repair_answer image.old }
     ensures image_after { image.new ≡ repair_after image.old }
 {
-    let walked = judge::own_pages(image, marks);
-    if let Check::Faulty(fault) = walked {
-        return ChangeAnswer::Refused(Refusal::Unsound(fault));
-    }
+    judge::own_pages(image, marks)?;
     remark(image, marks);
-    ChangeAnswer::Done
+    Ok(())
 }
 
 // Sets the bits of the first N to exactly the header and the owned pages and corrects the count, if the walk is clean.
-pub fn repair(image: &mut [u8]) -> ChangeAnswer
+pub fn repair(image: &mut [u8]) -> Result<(), Refusal>
     ensures result_value { change_answer result ≡ repair_answer image.old }
     ensures image_after { image.new ≡ repair_after image.old }
 {
     if !fields::length_is_allowed(image.len()) {
-        return ChangeAnswer::Refused(Refusal::BadLength);
+        return Err(Refusal::BadLength);
     }
     if !fields::header_is_right(image) {
-        return ChangeAnswer::Refused(Refusal::BadHeader);
+        return Err(Refusal::BadHeader);
     }
     let n = fields::page_count(image.len());
     let mut marks = [0u8; 256];

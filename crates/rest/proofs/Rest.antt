@@ -11,25 +11,22 @@ use Rattle.volume.specs.Bytes.{Bytes}
 use Rattle.model.specs.Layout.{version1, page_count}
 use Rattle.model.specs.Layout as One
 use Rattle.model.specs.Version1.{view}
-use Rattle.model.specs.Judge.{bad_count, fault, clean, lost_or, judge_rest}
-use Rattle.faults.specs.declared.Check.{Check}
-use Rattle.faults.specs.declared.Check.TheVariants.{Clean, Faulty}
-use Rattle.faults.specs.declared.Fault.{Fault}
-use Rattle.faults.specs.Answers.{fault_of, outcome}
+use Rattle.model.specs.Judge as Model
+use Rattle.model.specs.Judge.{Judged, bad_count, fault, clean, lost_or, judge_rest}
 use Rattle.owning.specs.Marked.{Marked}
 use Rattle.lost.proofs.Lost.{lost_from}
 use Rattle.lost.proofs.Decides.{lost_decides, none_lost_decides}
 
-module _ (b : Bytes) (m : List ℕ) (marked : Marked b m) (q : Check) (lost : outcome q m ≡ lost_or (clean m) (lost_from version1 b m (length m) 1)) where
-  searched : outcome q m ≡ lost_or (clean m) (lost_from version1 b m (page_count b) 1)
-  searched = lost ∙ ap (λ (n : ℕ). lost_or (clean m) (lost_from version1 b m n 1)) marked.each
+module _ (b : Bytes) (m : List ℕ) (marked : Marked b m) where
+  searched : {j : Judged} → j ≡ lost_or (clean m) (lost_from version1 b m (length m) 1) → j ≡ lost_or (clean m) (lost_from version1 b m (page_count b) 1)
+  searched lost = lost ∙ ap (λ (n : ℕ). lost_or (clean m) (lost_from version1 b m n 1)) marked.each
 
-  pub rest_faulty : (x : Fault) → q ≡ Faulty x → fault (fault_of x) ≡ judge_rest (view b) m
-  rest_faulty x e = lost_decides (view b) m q searched x e
+  pub rest_faulty : {x : Model.Fault} → fault x ≡ lost_or (clean m) (lost_from version1 b m (length m) 1) → fault x ≡ judge_rest (view b) m
+  rest_faulty lost = lost_decides (view b) m (searched lost)
 
-  module _ (e : q ≡ Clean) (set : ℕ) (bit : set ≡ One.page_bit b 0) where
+  module _ (lost : clean m ≡ lost_or (clean m) (lost_from version1 b m (length m) 1)) (set : ℕ) (bit : set ≡ One.page_bit b 0) where
     pub rest_unmarked : set ≢ 1 → fault bad_count ≡ judge_rest (view b) m
-    rest_unmarked h = none_lost_decides (view b) m q searched e {marked = false} (ne_eqb _ _ (λ z. h (bit ∙ z))) refl
+    rest_unmarked h = none_lost_decides (view b) m (searched lost) {marked = false} (ne_eqb _ _ (λ z. h (bit ∙ z))) refl
 
     module _ (one : set ≡ 1) (zeros : ℕ) (bits : zeros ≡ One.zero_bits b (length m)) (free : ℕ) (byte : free ≡ One.free_count b) where
       zeros_are : zeros ≡ One.zero_bits b (page_count b)
@@ -40,8 +37,8 @@ module _ (b : Bytes) (m : List ℕ) (marked : Marked b m) (q : Check) (lost : ou
 
       pub rest_miscounted : free ≢ zeros → fault bad_count ≡ judge_rest (view b) m
       rest_miscounted h =
-          none_lost_decides (view b) m q searched e {marked = true} {counted = false} header_marked (ne_eqb _ _ (λ z. h (byte ∙ z ∙ sym zeros_are)))
+          none_lost_decides (view b) m (searched lost) {marked = true} {counted = false} header_marked (ne_eqb _ _ (λ z. h (byte ∙ z ∙ sym zeros_are)))
 
       pub rest_clean : free ≡ zeros → clean m ≡ judge_rest (view b) m
       rest_clean h =
-          none_lost_decides (view b) m q searched e {marked = true} {counted = true} header_marked (eq-eqb _ _ (sym byte ∙ h ∙ zeros_are))
+          none_lost_decides (view b) m (searched lost) {marked = true} {counted = true} header_marked (eq-eqb _ _ (sym byte ∙ h ∙ zeros_are))

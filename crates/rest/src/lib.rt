@@ -9,26 +9,23 @@ ghost use Rattle.faults.specs.Answers.{outcome};
 ghost use Rattle.owning.specs.Marked.{Marked};
 
 use bitmap::VERSION1;
-use faults::{Check, Fault};
+use faults::Fault;
 use fields::Page;
 
 // Byte 3 is not trusted; the zero bits are counted.
-pub fn judge_rest(image: &[u8], marks: &[u8]) -> Check
+pub fn judge_rest(image: &[u8], marks: &[u8]) -> Result<(), Fault>
     requires { Marked image.now marks.now }
     ensures { outcome result marks.now ≡ judge_rest (view image.now) marks.now }
 {
-    let lost = lost::lost_page(image, VERSION1, marks);
-    if let Check::Faulty(fault) = lost {
-        return Check::Faulty(fault);
-    }
+    lost::lost_page(image, VERSION1, marks)?;
     if bitmap::bit(image, Page(0)) != 1 {
-        return Check::Faulty(Fault::BadCount);
+        return Err(Fault::BadCount);
     }
     let n = marks.len();
     let free = fields::free_count(image);
     let zeros = bitmap::zero_bits(image, n);
     if free != zeros {
-        return Check::Faulty(Fault::BadCount);
+        return Err(Fault::BadCount);
     }
-    Check::Clean
+    Ok(())
 }

@@ -17,7 +17,8 @@ use Rattle.volume.proofs.Follow.{Lies}
 use Rattle.volume.proofs.Growing.{WordsLie}
 use Rattle.model.specs.View.{zero_bits, free_count}
 use Rattle.model.specs.Sound.{marked_below}
-use Rattle.model.specs.Judge.{bad_count, fault, clean, lost_or, judge_rest}
+use Rattle.model.specs.Judge as Model
+use Rattle.model.specs.Judge.{Judged, bad_count, fault, clean, lost_or, judge_rest}
 use Rattle.model2.specs.Layout.{set_aside, is_wide, code_in, geometry2}
 use Rattle.model2.specs.Version2.{view2}
 use Rattle.laws2.proofs.Bounds.{bounds}
@@ -25,10 +26,6 @@ use Rattle.laws2.proofs.Version2.{lies2}
 use Rattle.shape.specs.declared.Shape.{Shape}
 use Rattle.shape.specs.Geometry.{geometry_of}
 use Rattle.fields.proofs.Plain.{told, untold}
-use Rattle.faults.specs.declared.Check.{Check}
-use Rattle.faults.specs.declared.Check.TheVariants.{Clean, Faulty}
-use Rattle.faults.specs.declared.Fault.{Fault}
-use Rattle.faults.specs.Answers.{fault_of, outcome}
 use Rattle.lost.specs.Searched.{Searched}
 use Rattle.lost.proofs.Lost.{lost_from}
 use Rattle.lost.proofs.Decides.{lost_decides, none_lost_decides}
@@ -74,21 +71,22 @@ module _ {b : Bytes} {s : Shape} {m : List ℕ} (r : Ready b s m) where
   pub bits_lie : (n : ℕ) → n ≤ 8 → s.map + n ≤ length b
   bits_lie n h = omega (arith, map_is, h, long_image)
 
-  -- ---- the rest, where the answer of the search is q
+  -- ---- the rest, behind what the search answers
 
-  module _ (q : Check) (lost : outcome q m ≡ lost_or (clean m) (lost_from (geometry_of s) b m (length m) s.aside)) where
-    sought : outcome q m ≡ lost_or (clean m) (lost_from (view2 b).geometry b m (view2 b).pages (view2 b).geometry.aside)
-    sought = lost ∙ ap₂ (λ (g : Geometry) (n : ℕ). lost_or (clean m) (lost_from g b m n g.aside)) r.made r.each
+  sought : {j : Judged} → j ≡ lost_or (clean m) (lost_from (geometry_of s) b m (length m) s.aside)
+      → j ≡ lost_or (clean m) (lost_from (view2 b).geometry b m (view2 b).pages (view2 b).geometry.aside)
+  sought lost = lost ∙ ap₂ (λ (g : Geometry) (n : ℕ). lost_or (clean m) (lost_from g b m n g.aside)) r.made r.each
 
-    pub rest_faulty : (x : Fault) → q ≡ Faulty x → fault (fault_of x) ≡ judge_rest (view2 b) m
-    rest_faulty x e = lost_decides (view2 b) m q sought x e
+  pub rest_faulty : {x : Model.Fault} → fault x ≡ lost_or (clean m) (lost_from (geometry_of s) b m (length m) s.aside) → fault x ≡ judge_rest (view2 b) m
+  rest_faulty lost = lost_decides (view2 b) m (sought lost)
 
-    module _ (e : q ≡ Clean) (marked : Bool) (asked : marked ≡ marked_below (view2 b) s.aside) where
+  module _ (lost : clean m ≡ lost_or (clean m) (lost_from (geometry_of s) b m (length m) s.aside)) where
+    module _ (marked : Bool) (asked : marked ≡ marked_below (view2 b) s.aside) where
       marks_asked : marked ≡ marked_below (view2 b) (view2 b).geometry.aside
       marks_asked = asked ∙ ap (λ (a : ℕ). marked_below (view2 b) a) (aside_is r)
 
       pub rest_unmarked : not marked ≡ true → fault bad_count ≡ judge_rest (view2 b) m
-      rest_unmarked h = none_lost_decides (view2 b) m q sought e {marked = false} (untold marks_asked h) refl
+      rest_unmarked h = none_lost_decides (view2 b) m (sought lost) {marked = false} (untold marks_asked h) refl
 
       module _ (h : not marked ≡ false) (free : ℕ) (stands : free ≡ On.free_count (geometry_of s) b) (zeros : ℕ)
           (bits : zeros ≡ On.zero_bits (geometry_of s) b (length m)) where
@@ -100,11 +98,11 @@ module _ {b : Bytes} {s : Shape} {m : List ℕ} (r : Ready b s m) where
 
         pub rest_miscounted : free ≢ zeros → fault bad_count ≡ judge_rest (view2 b) m
         rest_miscounted ne =
-            none_lost_decides (view2 b) m q sought e {marked = true} {counted = false} (told marks_asked h) (ne_eqb _ _ (λ z. ne (free_is ∙ z ∙ sym zeros_are)))
+            none_lost_decides (view2 b) m (sought lost) {marked = true} {counted = false} (told marks_asked h) (ne_eqb _ _ (λ z. ne (free_is ∙ z ∙ sym zeros_are)))
 
         pub rest_clean : free ≡ zeros → clean m ≡ judge_rest (view2 b) m
         rest_clean z =
-            none_lost_decides (view2 b) m q sought e {marked = true} {counted = true} (told marks_asked h) (eq-eqb _ _ (sym free_is ∙ z ∙ zeros_are))
+            none_lost_decides (view2 b) m (sought lost) {marked = true} {counted = true} (told marks_asked h) (eq-eqb _ _ (sym free_is ∙ z ∙ zeros_are))
 
 -- ---- the bits of the first pages
 

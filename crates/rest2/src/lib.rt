@@ -11,7 +11,7 @@ ghost use Rattle.shape.specs.Geometry.{geometry_of};
 ghost use Rattle.faults.specs.Answers.{outcome};
 ghost use Rattle.owning2.specs.Ready.{Ready};
 
-use faults::{Check, Fault};
+use faults::Fault;
 use fields::Page;
 use shape::Shape;
 
@@ -29,23 +29,20 @@ fn are_marked(image: &[u8], shape: Shape, n: usize) -> bool
 
 // A page set aside, page 0 or one of the table's, is owned by nobody and yet not lost: its bit at 0 is told with the count, as 3. The count is not
 // trusted; the zero bits are counted.
-pub fn judge_rest(image: &[u8], shape: Shape, marks: &[u8]) -> Check
+pub fn judge_rest(image: &[u8], shape: Shape, marks: &[u8]) -> Result<(), Fault>
     requires { Ready image.now shape marks.now }
     ensures { outcome result marks.now ≡ judge_rest (view2 image.now) marks.now }
 {
-    let lost = lost::lost_page(image, shape, marks);
-    if let Check::Faulty(fault) = lost {
-        return Check::Faulty(fault);
-    }
+    lost::lost_page(image, shape, marks)?;
     if !are_marked(image, shape, shape.aside) {
-        return Check::Faulty(Fault::BadCount);
+        return Err(Fault::BadCount);
     }
     let n = marks.len();
     let count = shape.count;
     let free = shape::load(image, count);
     let zeros = shape_bitmap::zero_bits(image, shape, n);
     if free != zeros {
-        return Check::Faulty(Fault::BadCount);
+        return Err(Fault::BadCount);
     }
-    Check::Clean
+    Ok(())
 }

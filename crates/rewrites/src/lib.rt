@@ -54,7 +54,7 @@ pub fn write_entry(
     ensures { image.new ≡ rewritten entry position.0 bytes.now image.old }
 {
     let n = fields::page_count(image.len());
-    let new_size = fields::larger(size, position.0 + bytes.len());
+    let new_size = size.max(position.0 + bytes.len());
     let held = fields::pages_for(size);
     let wanted = fields::pages_for(new_size);
     add_pages(image, n, entry, start, held, wanted - held);

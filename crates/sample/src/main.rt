@@ -3,26 +3,32 @@
 #![tactic(auto)]
 
 use fields::Position;
+use refusals::Refusal;
 use std::io::{self, Write};
 
 // The bytes 0 to 255 in order.
 fn counted() -> [u8; 256] {
     let mut bytes = [0u8; 256];
-    for i in 0..256 {
-        bytes[i] = (i % 256) as u8;
+    for (byte, number) in bytes.iter_mut().zip(0u8..=255) {
+        *byte = number;
     }
     bytes
 }
 
-fn main(rt: HostRuntime) -> io::Result<()> {
-    let mut image = [0u8; 2048];
+fn make_sample(image: &mut [u8]) -> Result<(), Refusal> {
     // 7 November 2026, a Saturday, at noon
     let date = [0x20, 0x26, 0x11, 0x07, 0x07, 0x12, 0x00, 0x00];
-    let content = counted();
-    zealfs::format(&mut image);
-    zealfs::make_file(&mut image, b"/0042", &date);
-    zealfs::write(&mut image, b"/0042", Position(0), &content);
-    zealfs::make_directory(&mut image, b"/A", &date);
-    zealfs::make_file(&mut image, b"/A/7", &date);
+    zealfs::format(image)?;
+    zealfs::make_file(image, b"/0042", &date)?;
+    zealfs::write(image, b"/0042", Position(0), &counted())?;
+    zealfs::make_directory(image, b"/A", &date)?;
+    zealfs::make_file(image, b"/A/7", &date)
+}
+
+fn main(rt: HostRuntime) -> io::Result<()> {
+    let mut image = [0u8; 2048];
+    if make_sample(&mut image).is_err() {
+        return Err(io::Error::other("a call on the sample image was refused"));
+    }
     rt.stdout().write_all(&image)
 }

@@ -45,8 +45,8 @@ pub fn load(image: &[u8], cell: Cell) -> usize
     ensures { (result ≡ Field.load (field_of cell) image.now) × FitsIn (field_of cell) result }
 {
     match cell {
-        Cell::Byte(at) => fields::wide(image[at]),
-        Cell::Pair(at) => fields::wide(image[at]) + 256 * fields::wide(image[at + 1]),
+        Cell::Byte(at) => usize::from(image[at]),
+        Cell::Pair(at) => usize::from(image[at]) + 256 * usize::from(image[at + 1]),
     }
 }
 

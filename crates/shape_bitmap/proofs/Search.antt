@@ -6,7 +6,7 @@ use native.Mathlib.Omega.{arith}
 use lib.Count.{ones}
 use Rattle.volume.specs.Bytes.{Bytes, bit, byte_at}
 use Rattle.volume.specs.Geometry.{Geometry, page_bit, zero_bits, lowest_free}
-use Rattle.shape_bitmap.specs.declared.Free.TheVariants.{At, None}
+use Rattle.std.specs.Prelude.{Some, None}
 use Rattle.shape_bitmap.specs.Lowest.{Before, Lowest}
 use Rattle.words.specs.Words.{Holds, Ends}
 use Rattle.words.proofs.Words.{holds_byte}
@@ -29,7 +29,7 @@ bits_of_byte g b q e = record { each = holds_pages g q refl (holds_byte e) }
 
 -- the word's `least` lowest bits are those of pages below n, and `more` of them are 0
 pub zeros_more : (g : Geometry) {b : Bytes} (q : ℕ) {w : ℕ} → Holds b (g.map + 8 * q) 64 w
-    → (n least zeros more : ℕ) → 64 * q < n → least ≡ min 64 (n - 64 * q) → more + ones (w % 2 ^ least) ≡ least
+    → (n least zeros more : ℕ) → 64 * q < n → least ≡ min (n - 64 * q) 64 → more + ones (w % 2 ^ least) ≡ least
     → zeros ≡ zero_bits g b (min (64 * q) n) → zeros + more ≡ zero_bits g b (min (64 * (q + 1)) n)
 zeros_more g {b} q {w} held n least zeros more h l e z =
     let here : min (64 * q) n ≡ 64 * q = omega arith in
@@ -46,7 +46,7 @@ module _ {g : Geometry} {b : Bytes} {p m w k : ℕ} (bits : BitsOf g b p m w) (e
   run : (j : ℕ) → j ≤ k → j ≤ m → lowest_from g b n (p + j) ≡ lowest_free g n b
   run j h l = from_run g b j n p (λ i less. sym (bits.each i (omega arith)) ∙ e.below i (omega arith)) ∙ so_far
 
-  pub free_here : k < m → m ≤ 64 → p + k < n → Lowest n (lowest_free g n b) (At (record { 0 = p + k }))
+  pub free_here : k < m → m ≤ 64 → p + k < n → Lowest n (lowest_free g n b) (Some (record { 0 = p + k }))
   free_here l most h =
       let r = sym (from_free g b n (p + k) h (sym (bits.each k l) ∙ e.here (omega arith))) ∙ run k (omega arith) (omega arith) in
       record { number = r; none = λ u. absurd (omega (arith, r, u)) }
@@ -61,7 +61,7 @@ module _ {g : Geometry} {b : Bytes} {p m w k : ℕ} (bits : BitsOf g b p m w) (e
 -- there is none. The check finds each return's proof here by itself, whatever the code's test is called.
 pub record Turn (g : Geometry) (b : Bytes) (n q : ℕ) : Type 0 where
   pub so_far : lowest_from g b n (8 * q) ≡ lowest_free g n b
-  pub free : (w k : ℕ) → w ≡ byte_at b (g.map + q) → Ends 64 w k → k < 8 → 8 * q + k < n → Lowest n (lowest_free g n b) (At (record { 0 = 8 * q + k }))
+  pub free : (w k : ℕ) → w ≡ byte_at b (g.map + q) → Ends 64 w k → k < 8 → 8 * q + k < n → Lowest n (lowest_free g n b) (Some (record { 0 = 8 * q + k }))
   pub past : (w k : ℕ) → w ≡ byte_at b (g.map + q) → Ends 64 w k → k < 8 → n ≤ 8 * q + k → Lowest n (lowest_free g n b) None
 
 pub turn_at : (g : Geometry) (b : Bytes) (n q : ℕ) → lowest_from g b n (8 * q) ≡ lowest_free g n b → Turn g b n q

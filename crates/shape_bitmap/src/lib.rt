@@ -12,26 +12,17 @@ ghost use Rattle.shape_bitmap.specs.Words.{Clear};
 use fields::Page;
 use shape::Shape;
 
-// The lowest free page, if there is one.
-#[derive(Clone, Copy)]
-pub enum Free {
-    At(Page),
-    None,
-}
-
 // The zero bits among the first n. Bits past them are not counted: a small image may hold anything there.
 pub fn zero_bits(image: &[u8], shape: Shape, n: usize) -> usize
     requires { WordsLie (geometry_of shape) n image.now }
     ensures { result ≡ On.zero_bits (geometry_of shape) image.now n }
 {
     let mut zeros = 0;
-    let mut counted = 0;
-    while 64 * counted < n {
+    for counted in 0..n.div_ceil(64) {
         zeros += words::zeros_among(
             words::bits64(image, shape.map + 8 * counted),
-            fields::least(64, n - 64 * counted),
+            (n - 64 * counted).min(64),
         );
-        counted += 1;
     }
     zeros
 }
@@ -55,25 +46,23 @@ pub fn clear_bytes(image: &[u8], shape: Shape, byte: usize) -> usize
 
 // The lowest free page, where none is free before a byte of the bitmap: who takes one page after the other need not look at all before them again.
 // By bytes, for the bit of the page taken last was stored as one: a word read right behind that store would have to wait for it.
-pub fn lowest_free_from(image: &[u8], shape: Shape, n: usize, byte: usize) -> Free
+pub fn lowest_free_from(image: &[u8], shape: Shape, n: usize, byte: usize) -> Option<Page>
     requires { WordsLie (geometry_of shape) n image.now × Before (geometry_of shape) n byte image.now }
     ensures { Lowest n (On.lowest_free (geometry_of shape) n image.now) result }
 {
-    let mut searched = byte;
-    while 8 * searched < n {
-        let k = words::lowest_zero(fields::wide(image[shape.map + searched]));
+    for searched in byte..n.div_ceil(8) {
+        let k = words::lowest_zero(usize::from(image[shape.map + searched]));
         if k < 8 {
             if 8 * searched + k < n {
-                return Free::At(Page(8 * searched + k));
+                return Some(Page(8 * searched + k));
             }
-            return Free::None;
+            return None;
         }
-        searched += 1;
     }
-    Free::None
+    None
 }
 
-pub fn lowest_free(image: &[u8], shape: Shape, n: usize) -> Free
+pub fn lowest_free(image: &[u8], shape: Shape, n: usize) -> Option<Page>
     requires { WordsLie (geometry_of shape) n image.now }
     ensures { Lowest n (On.lowest_free (geometry_of shape) n image.now) result }
 {

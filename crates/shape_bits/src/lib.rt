@@ -15,7 +15,7 @@ pub fn bit(image: &[u8], shape: Shape, page: Page) -> usize
     ensures { result ≡ On.page_bit (geometry_of shape) image.now page.0 }
 {
     let p = page.0;
-    let byte = fields::wide(image[shape.map + p / 8]);
+    let byte = usize::from(image[shape.map + p / 8]);
     (byte >> (p % 8)) % 2
 }
 
@@ -26,7 +26,7 @@ pub fn mark(image: &mut [u8], shape: Shape, page: Page)
 {
     let p = page.0;
     let at = shape.map + p / 8;
-    let byte = fields::wide(image[at]);
+    let byte = usize::from(image[at]);
     if bit(image, shape, page) == 0 {
         image[at] = (byte + words::weight(p % 8)) as u8;
     }
@@ -39,7 +39,7 @@ pub fn unmark(image: &mut [u8], shape: Shape, page: Page)
 {
     let p = page.0;
     let at = shape.map + p / 8;
-    let byte = fields::wide(image[at]);
+    let byte = usize::from(image[at]);
     if bit(image, shape, page) == 1 {
         image[at] = (byte - words::weight(p % 8)) as u8;
     }

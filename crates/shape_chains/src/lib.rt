@@ -45,7 +45,7 @@ fn read_page(
     if room <= place {
         return done;
     }
-    let more = fields::least(room - place, count - done);
+    let more = (room - place).min(count - done);
     let from = shape::first_byte(shape, page) + (shape.size - room) + place;
     let end = from + more;
     shape_pages::copy_piece(buffer, done, &image[from..end]);
@@ -103,7 +103,7 @@ fn write_page(
     if room <= place {
         return done;
     }
-    let end = done + fields::least(room - place, bytes.len() - done);
+    let end = done + (room - place).min(bytes.len() - done);
     let offset = shape.size - room + place;
     shape_pages::fill_page(image, shape, page, offset, &bytes[done..end]);
     end

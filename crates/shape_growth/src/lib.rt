@@ -17,14 +17,13 @@ ghost use Rattle.shape_bitmap.specs.Lowest.{Before};
 
 use fields::Page;
 use shape::{Cell, Shape};
-use shape_bitmap::Free;
 
 // Takes the lowest free page of n, and puts its number at the joint. No page before those of the byte is free.
 fn append(image: &mut [u8], shape: Shape, n: usize, joint: Cell, byte: usize) -> Page
     requires { Growing (geometry_of shape) n 1 (field_of joint) image.old × Before (geometry_of shape) n byte image.old }
     ensures { (result.0 ≡ On.lowest_free (geometry_of shape) n image.old) × (image.new ≡ On.grown (geometry_of shape) n 1 (field_of joint) image.old) }
 {
-    let Free::At(page) = shape_bitmap::lowest_free_from(image, shape, n, byte) else {
+    let Some(page) = shape_bitmap::lowest_free_from(image, shape, n, byte) else {
         // Never: a page is free, says the contract.
         return Page(0);
     };
@@ -52,7 +51,7 @@ fn append_claimed(image: &mut [u8], shape: Shape, n: usize, joint: Cell, byte: u
     requires { Growing (geometry_of shape) n 1 (field_of joint) image.old × Before (geometry_of shape) n byte image.old }
     ensures { (result.0 ≡ On.lowest_free (geometry_of shape) n image.old) × (image.new ≡ store (field_of joint) result.0 (claimed (geometry_of shape) result.0 image.old)) }
 {
-    let Free::At(page) = shape_bitmap::lowest_free_from(image, shape, n, byte) else {
+    let Some(page) = shape_bitmap::lowest_free_from(image, shape, n, byte) else {
         // Never, as above.
         return Page(0);
     };

@@ -18,8 +18,8 @@ use shape::Shape;
 pub fn zero(part: &mut [u8])
     ensures { part.new ≡ zeros (length part.old) }
 {
-    for i in 0..part.len() {
-        part[i] = 0;
+    for byte in part {
+        *byte = 0;
     }
 }
 

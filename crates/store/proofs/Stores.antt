@@ -2,7 +2,7 @@
 -- page is one of the content's, the header's or the parent's, by the number.
 use mathlib.Core.Path.{◌≡◌, refl, sym, ap, ap₂, ◌∙◌, subst}
 use mathlib.Core.Logic.{◌≢◌}
-use Prim.Native.Nat.{ℕ, suc, ◌+◌, ◌-◌, ◌*◌, ◌/◌, ◌≤◌, ◌<◌}
+use Prim.Native.Nat.{ℕ, ◌+◌, ◌-◌, ◌*◌, ◌/◌, ◌≤◌, ◌<◌}
 use native.Mathlib.Omega.{arith}
 use native.Mathlib.Decide.{dec_lt}
 use mathlib.Core.Bool.{Bool, true, false, not}
@@ -37,9 +37,7 @@ use Rattle.laws.proofs.NewEntry.{new_length}
 use Rattle.laws.proofs.Lines.{settle_holds, settle_append}
 use Rattle.laws.proofs.Passed.{image_passed, Makes, make_passed}
 use Rattle.arrivals.proofs.Settled.{opened, settle_opened, settle_granted}
-use Rattle.openings.specs.declared.Opening.{Opening}
-use Rattle.openings.specs.declared.Opening.TheVariants.{At}
-use Rattle.openings.specs.Openings.{Place, found, opening, Named}
+use Rattle.openings.specs.Openings.{Place, found, opening}
 use Rattle.store_laws.specs.Claim.{claimed, page_after, link_after, content_page, started_entry}
 use Rattle.store_laws.proofs.Numbers.{content_store, header_below, header_root, parent_store}
 use Rattle.store_laws.proofs.Calls.{spot_within, spot_page, count_by_place}
@@ -56,12 +54,9 @@ entry_length : (name date : Bytes) (size start : ℕ) → length name ≡ 16 →
 unfolding started_entry
 entry_length name date z start n d = length-set (new_entry 0x80 name 0 z date) 17 start ∙ new_length 0x80 name z date n d
 
--- the opening's name lies in the path, and fits an entry
-pub begins_in : (path : Bytes) {o : Opening} {at begins : ℕ} → o ≡ At at begins → Named path o → begins ≤ length path
-begins_in path is fits = (rw is at fits).0
-
-pub name_fits : (path : Bytes) {o : Opening} {at begins : ℕ} → o ≡ At at begins → Named path o → length (take (length path - begins) (drop begins path)) ≤ 16
-name_fits path is fits = let s = rw is at fits in simp length-take (omega (arith, s.1))
+-- the opening's name fits an entry
+pub name_fits : (path : Bytes) (begins : ℕ) → length path - begins ≤ 16 → length (take (length path - begins) (drop begins path)) ≤ 16
+name_fits path begins fits = simp length-take (omega arith)
 
 -- ---- where a new file may be made
 

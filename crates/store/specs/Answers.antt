@@ -1,10 +1,10 @@
--- The model's answer for each case of the call's enum.
-use Rattle.std.specs.Prelude.{ℕ}
-use Rattle.model.specs.Call.{Answer, refused, granted}
+-- The model's answer for the call's result.
+use Rattle.std.specs.Prelude.{ℕ, Result}
+use Rattle.model.specs.Call.{Answer}
+use Rattle.fields.specs.declared.Page.{Page}
+use Rattle.outcomes.specs.Answers.{answered}
 use Rattle.refusals.specs.Told.{told}
-use Rattle.store.specs.declared.StoreAnswer.{StoreAnswer}
-use Rattle.store.specs.declared.StoreAnswer.TheVariants.{At, Refused}
+use Rattle.refusals.specs.declared.Refusal.{Refusal}
 
-abbrev pub store_answer : StoreAnswer → Answer ℕ
-store_answer (At page) = granted page.0
-store_answer (Refused r) = refused (told r)
+abbrev pub store_answer : Result Page Refusal → Answer ℕ
+store_answer = answered told (λ page. page.0)

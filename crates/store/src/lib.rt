@@ -14,17 +14,8 @@ ghost use Rattle.store_laws.specs.Claim.{claim, claimed, page_after, link_after,
 ghost use Rattle.store.specs.Answers.{store_answer};
 ghost use Rattle.store.specs.Asked.{Storing};
 
-use bitmap::Free;
 use fields::Page;
-use openings::Opening;
 use refusals::Refusal;
-
-// The page of the store, or why there is none.
-#[derive(Clone, Copy)]
-pub enum StoreAnswer {
-    At(Page),
-    Refused(Refusal),
-}
 
 // ---- pages found on the header page, or a copy of it: the bitmap's functions ask for its fields alone
 
@@ -33,10 +24,7 @@ fn lowest(header: &[u8], n: usize) -> Page
     requires { (n ≤ 256) × (36 ≤ length header.now) }
     ensures { result.0 ≡ On.lowest_free version1 n header.now }
 {
-    match bitmap::lowest_free(header, n) {
-        Free::At(page) => page,
-        Free::None => Page(n),
-    }
+    bitmap::lowest_free(header, n).unwrap_or(Page(n))
 }
 
 // Marks and counts the lowest free page.
@@ -90,7 +78,7 @@ fn fill_content(buffer: &mut [u8], link: usize, content: &[u8], j: usize)
     pages::zero(buffer);
     buffer[0] = link as u8;
     let from = 255 * j;
-    let end = fields::least(content.len(), from + 255);
+    let end = content.len().min(from + 255);
     pages::copy_in(buffer, 1, &content[from..end]);
 }
 
@@ -179,33 +167,30 @@ pub fn store(
     content: &[u8],
     number: usize,
     page: &mut [u8],
-) -> StoreAnswer
+) -> Result<Page, Refusal>
     ensures result_value { store_answer result ≡ answer (store path.now date.now content.now number page.old) image.now }
     ensures page_after { page.new ≡ buffer_after (store path.now date.now content.now number page.old) image.now }
 {
     if page.len() != 256 {
-        return StoreAnswer::Refused(Refusal::NotAPage);
+        return Err(Refusal::NotAPage);
     }
-    let opening = openings::find_opening(image, path, date);
-    let Opening::At(entry, begins) = opening else {
-        return StoreAnswer::Refused(openings::refusal_of(opening));
-    };
+    let opening = openings::find_opening(image, path, date)?;
     if lacks_pages(image, content.len()) {
-        return StoreAnswer::Refused(Refusal::NoFreePages);
+        return Err(Refusal::NoFreePages);
     }
     let k = fields::pages_for(content.len());
-    if store_count(k, entry) <= number {
-        return StoreAnswer::Refused(Refusal::PastEnd);
+    if store_count(k, opening.entry) <= number {
+        return Err(Refusal::PastEnd);
     }
     if number < k {
-        return StoreAnswer::At(store_content(image, content, number, page));
+        return Ok(store_content(image, content, number, page));
     }
     let end = path.len();
-    let name = names::pad(&path[begins..end]);
+    let name = names::pad(&path[opening.begins..end]);
     let bytes = entry_bytes(image, &name, date, content.len());
     if number == k {
-        store_header(image, k, entry, &bytes, page);
-        return StoreAnswer::At(Page(0));
+        store_header(image, k, opening.entry, &bytes, page);
+        return Ok(Page(0));
     }
-    StoreAnswer::At(store_parent(image, entry, &bytes, page))
+    Ok(store_parent(image, opening.entry, &bytes, page))
 }

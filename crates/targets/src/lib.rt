@@ -22,7 +22,7 @@ fn place_bit(image: &[u8], pages: &[u8], q: usize) -> usize
     requires { Pages image.now pages.now × (q < length pages.now) × T (valid_length (length image.now)) }
     ensures { (result ≡ page_bit image.now (get_or pages.now q 0)) × (result < 2) }
 {
-    bitmap::bit(image, Page(fields::wide(pages[q])))
+    bitmap::bit(image, Page(usize::from(pages[q])))
 }
 
 // The bits of the pages that come to the eight places from 8·k on.
@@ -71,8 +71,8 @@ fn invert(places: &[u8], pages: &mut [u8])
     requires { Under (length pages.old) places.now × (length places.now ≤ 256) }
     ensures { pages.new ≡ numbered 0 places.now pages.old }
 {
-    for p in 0..places.len() {
-        pages[fields::wide(places[p])] = p as u8;
+    for (p, place) in places.iter().enumerate() {
+        pages[usize::from(*place)] = p as u8;
     }
 }
 
@@ -96,7 +96,7 @@ pub fn write_moved(
             image,
             owners,
             places,
-            Page(fields::wide(pages[q])),
+            Page(usize::from(pages[q])),
             &mut target[first..end],
         );
     }

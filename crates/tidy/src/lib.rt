@@ -14,53 +14,75 @@ ghost use Rattle.moves.specs.Tidy.{tidy_answer, tidy_after};
 ghost use Rattle.moves.specs.Propose.{file_from, is_other, order, numbered, propose_answer, propose_after};
 ghost use Rattle.proposals.specs.Steps.{Judged, other_at};
 ghost use Rattle.tidy.specs.Answer.{answer_of};
+ghost use Rattle.tidy.specs.declared.TidyRefusal.TheVariants.{Base};
 
 use fields::{Entry, Page};
 use refusals::Refusal;
-use zealfs::VerdictAnswer;
 
-// What both calls answer: done, the verdict's own refusal, or one of §13's.
+// Why the two calls say no: the verdict's own refusal, or one of §13's.
 #[derive(Clone, Copy)]
-pub enum TidyAnswer {
-    Done,
-    Refused(Refusal),
+pub enum TidyRefusal {
+    Base(Refusal),
     // 28: the target has another length than the image.
     OtherLength,
     // 27: the proposal is not accepted, or the row has not N numbers.
     NotAccepted,
 }
 
+impl From<Refusal> for TidyRefusal {
+    ghost from_gives = { λ base r. r ≡ Base base };
+
+    fn from(base: Refusal) -> TidyRefusal {
+        Self::Base(base)
+    }
+}
+
 // ---- tidy
 
 // On a sound image, with a target of its length.
-fn tidy_judged(image: &[u8], owners: &[usize], places: &[u8], target: &mut [u8]) -> TidyAnswer
+fn tidy_judged(
+    image: &[u8],
+    owners: &[usize],
+    places: &[u8],
+    target: &mut [u8],
+) -> Result<(), TidyRefusal>
     requires { Judged image.now owners.now × (length target.old ≡ length image.now) }
     ensures result_value { answer_of result ≡ tidy_answer image.now places.now target.old }
     ensures target_after { target.new ≡ tidy_after image.now places.now target.old }
 {
     if !proposals::is_accepted(image, owners, places) {
-        return TidyAnswer::NotAccepted;
+        return Err(TidyRefusal::NotAccepted);
     }
     let n = places.len();
     let mut pages = [0u8; 256];
     targets::write_moved(image, owners, places, &mut pages[..n], target);
-    TidyAnswer::Done
+    Ok(())
 }
 
 // On a sound image and the owners of its pages.
-fn tidy_sound(image: &[u8], owners: &[usize], places: &[u8], target: &mut [u8]) -> TidyAnswer
+fn tidy_sound(
+    image: &[u8],
+    owners: &[usize],
+    places: &[u8],
+    target: &mut [u8],
+) -> Result<(), TidyRefusal>
     requires { Judged image.now owners.now }
     ensures result_value { answer_of result ≡ tidy_answer image.now places.now target.old }
     ensures target_after { target.new ≡ tidy_after image.now places.now target.old }
 {
     if target.len() != image.len() {
-        return TidyAnswer::OtherLength;
+        return Err(TidyRefusal::OtherLength);
     }
     tidy_judged(image, owners, places, target)
 }
 
 // On a sound image and a row of zeros, which becomes the owners of its pages.
-fn tidy_owned(image: &[u8], owners: &mut [usize], places: &[u8], target: &mut [u8]) -> TidyAnswer
+fn tidy_owned(
+    image: &[u8],
+    owners: &mut [usize],
+    places: &[u8],
+    target: &mut [u8],
+) -> Result<(), TidyRefusal>
     requires { Unnamed image.now owners.old }
     ensures result_value { answer_of result ≡ tidy_answer image.now places.now target.old }
     ensures target_after { target.new ≡ tidy_after image.now places.now target.old }
@@ -71,17 +93,13 @@ fn tidy_owned(image: &[u8], owners: &mut [usize], places: &[u8], target: &mut [u
 
 // Writes the image to the target with its pages where the proposal puts them, if it is accepted. The verdict's refusals come first. It says that the
 // image is sound, so the owners are named by a walk that asks nothing.
-pub fn tidy(image: &[u8], places: &[u8], target: &mut [u8]) -> TidyAnswer
+pub fn tidy(image: &[u8], places: &[u8], target: &mut [u8]) -> Result<(), TidyRefusal>
     ensures result_value { answer_of result ≡ tidy_answer image.now places.now target.old }
     ensures target_after { target.new ≡ tidy_after image.now places.now target.old }
 {
-    match zealfs::verdict(image) {
-        VerdictAnswer::Sound(pages, free) => {
-            let mut owners = [0usize; 256];
-            tidy_owned(image, &mut owners, places, target)
-        }
-        VerdictAnswer::Refused(r) => TidyAnswer::Refused(r),
-    }
+    zealfs::verdict(image)?;
+    let mut owners = [0usize; 256];
+    tidy_owned(image, &mut owners, places, target)
 }
 
 // ---- propose
@@ -92,17 +110,12 @@ fn number_chain(image: &[u8], row: &mut [u8], next: usize, start: Page, k: usize
     ensures value { result ≡ next + k }
     ensures row_after { row.new ≡ numbered next (chain (link image.now) k start.0) row.old }
 {
-    let mut number = next;
     let mut page = start;
-    let mut left = k;
-    while 0 < left {
-        let p = page.0;
-        row[p] = number as u8;
+    for number in next..next + k {
+        row[page.0] = number as u8;
         page = fields::link(image, page);
-        number += 1;
-        left -= 1;
     }
-    number
+    next + k
 }
 
 // The pages of the file that starts on this page, if one does.
@@ -187,20 +200,20 @@ fn number_pages(image: &[u8], owners: &[usize], row: &mut [u8])
 }
 
 // On a sound image and the owners of its pages.
-fn propose_sound(image: &[u8], owners: &[usize], places: &mut [u8]) -> TidyAnswer
+fn propose_sound(image: &[u8], owners: &[usize], places: &mut [u8]) -> Result<(), TidyRefusal>
     requires { Judged image.now owners.now }
     ensures result_value { answer_of result ≡ propose_answer image.now places.old }
     ensures places_after { places.new ≡ propose_after image.now places.old }
 {
     if places.len() != fields::page_count(image.len()) {
-        return TidyAnswer::NotAccepted;
+        return Err(TidyRefusal::NotAccepted);
     }
     number_pages(image, owners, places);
-    TidyAnswer::Done
+    Ok(())
 }
 
 // On a sound image and a row of zeros, which becomes the owners of its pages.
-fn propose_owned(image: &[u8], owners: &mut [usize], places: &mut [u8]) -> TidyAnswer
+fn propose_owned(image: &[u8], owners: &mut [usize], places: &mut [u8]) -> Result<(), TidyRefusal>
     requires { Unnamed image.now owners.old }
     ensures result_value { answer_of result ≡ propose_answer image.now places.old }
     ensures places_after { places.new ≡ propose_after image.now places.old }
@@ -210,15 +223,11 @@ fn propose_owned(image: &[u8], owners: &mut [usize], places: &mut [u8]) -> TidyA
 }
 
 // Our own helper: on any sound image it puts an accepted proposal into a row of N numbers. The verdict is asked and the owners are named as by `tidy`.
-pub fn propose(image: &[u8], places: &mut [u8]) -> TidyAnswer
+pub fn propose(image: &[u8], places: &mut [u8]) -> Result<(), TidyRefusal>
     ensures result_value { answer_of result ≡ propose_answer image.now places.old }
     ensures places_after { places.new ≡ propose_after image.now places.old }
 {
-    match zealfs::verdict(image) {
-        VerdictAnswer::Sound(pages, free) => {
-            let mut owners = [0usize; 256];
-            propose_owned(image, &mut owners, places)
-        }
-        VerdictAnswer::Refused(r) => TidyAnswer::Refused(r),
-    }
+    zealfs::verdict(image)?;
+    let mut owners = [0usize; 256];
+    propose_owned(image, &mut owners, places)
 }

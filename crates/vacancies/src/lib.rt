@@ -9,7 +9,6 @@ ghost use Rattle.model.specs.Effect.{is_vacant};
 ghost use Rattle.walk.specs.Steps.{spot_of, Inside};
 
 use fields::{Entry, Page};
-use walk::Spot;
 
 fn is_vacant(image: &[u8], at: usize) -> bool
     requires { at + 32 ≤ length image.now }
@@ -23,17 +22,17 @@ fn is_vacant(image: &[u8], at: usize) -> bool
 }
 
 // The lowest vacant entry of a directory, where a make puts its own.
-pub fn vacant_entry(image: &[u8], directory: Page) -> Spot
+pub fn vacant_entry(image: &[u8], directory: Page) -> Option<usize>
     requires { directory.0 < page_count image.now }
     ensures { Inside image.now result × (spot_of result ≡ first (λ at. is_vacant (entry_at image.now at)) (entries directory.0)) }
 {
     for lowest in 0..fields::entry_count(directory) {
         let at = fields::entry_position(directory, lowest);
         if is_vacant(image, at) {
-            return Spot::At(at);
+            return Some(at);
         }
     }
-    Spot::Nowhere
+    None
 }
 
 // Every entry of a directory is vacant, so that it may be removed.

@@ -6,21 +6,20 @@ use mathlib.Core.Bool.{Bool, true, false}
 use mathlib.Core.Option.{none, some}
 use mathlib.Core.List.{map}
 use lib.ListN.{length, get_or-eq_default}
+use Rattle.std.specs.Prelude.{Option, None, Result, Err, ok_or, IsErrAnd}
+use Rattle.std.proofs.lemmas.Result.{err_from_is_err_and}
 use Rattle.volume.specs.Bytes.{Bytes}
 use Rattle.volume.specs.Lists.{first, count_from}
 use Rattle.model.specs.Layout.{page_size, page_count}
-use Rattle.model.specs.Entry.{entry_count, entries_start, entries, is_locked, name_at, date_at, entry_at}
+use Rattle.model.specs.Entry.{vacant, a_file, a_directory, entry_count, entries_start, entries, is_locked, name_at, date_at, entry_at}
 use Rattle.model.specs.Version1.{view}
 use Rattle.model.specs.Sound.{is_named}
 use Rattle.model.specs.Path.{Name}
 use Rattle.model.specs.Walk.{arrived, missing, blocked, entry_named, enter_on}
-use Rattle.walk.specs.declared.Spot.{Spot}
-use Rattle.walk.specs.declared.Spot.TheVariants.{At, Nowhere}
-use Rattle.walk.specs.Steps.{spot_of, Inside, entered}
-use Rattle.fields.specs.declared.Page.{Page}
-use Rattle.fields.specs.declared.Entry.{Entry}
-use Rattle.fields.specs.declared.Entry.TheVariants.{Vacant, File, Directory}
-use Rattle.fields.specs.Read.{entry_of, Small}
+use Rattle.paths.specs.declared.Stop.{Stop}
+use Rattle.paths.specs.declared.Stop.TheVariants.{Missing}
+use Rattle.walk.specs.declared.Walk.{Walk}
+use Rattle.walk.specs.Steps.{spot_of, walked_of, Small, entered}
 use Rattle.fields.proofs.Searches.{Sought, sought_here, sought_next, sought_none}
 
 -- ---- the entries of a directory, from entry i on: those before it have another name
@@ -58,35 +57,31 @@ pub page_past : (b n : Bytes) (p pages : ℕ) → page_size * page_count b ≡ l
 unfolding entry_named entries
 page_past b n p pages w e h = sym (none_past b n p 0 (entry_count p) (omega arith))
 
--- ---- one name on: the answer for its entry is s
+-- ---- one name on
 
-module _ (b : Bytes) (begins : ℕ) (bytes : Bytes) (p : ℕ) (s : Spot) (spot : spot_of s ≡ entry_named (view b) p bytes) where
+module _ (b : Bytes) (begins : ℕ) (bytes : Bytes) (p : ℕ) where
   abbrev name : Name
   name = record { begins = begins; bytes = bytes }
 
-  pub no_entry : s ≡ Nowhere → missing begins ≡ entered b name p
+  -- the exit of a search that finds none
+  pub no_entry : (s : Option ℕ) (stop : Stop) (r : Result Walk Stop) → spot_of s ≡ entry_named (view b) p bytes
+      → s ≡ None → Err stop ≡ ok_or s (Missing begins) → IsErrAnd r (λ y. y ≡ stop) → Small r × (walked_of r ≡ entered b name p)
   unfolding enter_on
-  no_entry e = rw (← spot, e)
+  no_entry s stop r spot e told is =
+      let q = err_from_is_err_and r is in
+      let t : ◌≡◌ {A = Result ℕ Stop} (Err stop) (Err (Missing begins)) = rw e at told in
+      let u : stop ≡ Missing begins = cc in rw (q.1, q.2, u, ← spot, e) (tt, refl)
 
-  -- the entry that was read there is r
-  module _ (at : ℕ) (found : s ≡ At at) (r : Entry) (read : entry_of r (is_locked b at) (name_at b at) (date_at b at) ≡ entry_at b at) where
-    entry_read : (x : Entry) → r ≡ x → enter_on name (some (entry_of x (is_locked b at) (name_at b at) (date_at b at))) arrived ≡ entered b name p
-    entry_read x e = rw (← spot, found, ← read, e)
-
-    pub entry_vacant : r ≡ Vacant → missing begins ≡ entered b name p
+  -- the entry that was found is read
+  module _ (at : ℕ) (found : some at ≡ entry_named (view b) p bytes) where
+    pub entry_vacant : vacant ≡ entry_at b at → missing begins ≡ entered b name p
     unfolding enter_on
-    entry_vacant = entry_read Vacant
+    entry_vacant e = rw (← found, ← e)
 
-    pub entry_file : (start : Page) (size : ℕ) → r ≡ File start size → blocked begins ≡ entered b name p
+    pub entry_file : {start size : ℕ} → a_file (is_locked b at) (name_at b at) (date_at b at) start size ≡ entry_at b at → blocked begins ≡ entered b name p
     unfolding enter_on
-    entry_file start size = entry_read (File start size)
+    entry_file e = rw (← found, ← e)
 
-    pub entry_directory : (start : Page) (size : ℕ) → r ≡ Directory start size → arrived start.0 ≡ entered b name p
+    pub entry_directory : {start size : ℕ} → a_directory (name_at b at) (date_at b at) start size ≡ entry_at b at → arrived start ≡ entered b name p
     unfolding enter_on
-    entry_directory start size = entry_read (Directory start size)
-
-pub inside_at : (b : Bytes) (s : Spot) (at : ℕ) → Inside b s → s ≡ At at → at + 32 ≤ length b
-inside_at b s at h e = rw e at h
-
-pub small_start : (r : Entry) (start : Page) (size : ℕ) → Small r → r ≡ Directory start size → start.0 < 256
-small_start r start size h e = (rw e at h).0
+    entry_directory e = rw (← found, ← e)

@@ -1,38 +1,36 @@
--- The values of the walk's enums in the model, and what its contracts name besides, by version 1's view: one step, and the parent of a path.
-use Rattle.std.specs.Prelude.{ℕ, ◌+◌, ◌-◌, ◌<◌, ◌≤◌, length}
-use Rattle.std.proofs.Math.Option.{Option, none, some}
+-- The values of the walk's results in the model, and what its contracts name besides, by version 1's view: one step, and the parent of a path.
+use Rattle.std.specs.Prelude.{ℕ, ◌+◌, ◌-◌, ◌<◌, ◌≤◌, length, Option, Some, None, Result, Ok, Err}
+use Rattle.std.proofs.Math.Option as Math
+use Rattle.std.proofs.Math.Option.{none, some}
 use Rattle.volume.specs.Bytes.{Bytes}
 use Rattle.model.specs.Version1.{view}
 use Rattle.model.specs.Path.{Name, Path}
-use Rattle.model.specs.Walk.{Walked, arrived, missing, blocked}
+use Rattle.model.specs.Walk.{Walked, arrived}
+use Rattle.paths.specs.declared.Stop.{Stop}
+use Rattle.paths.specs.declared.Parent.{Parent}
+use Rattle.paths.specs.Places.{stopped}
 use Rattle.paths.specs.Steps as On
 pub use Rattle.paths.specs.Steps.{name_in, last}
-use Rattle.walk.specs.declared.Spot.{Spot}
-use Rattle.walk.specs.declared.Spot.TheVariants.{At, Nowhere}
-use Rattle.walk.specs.declared.Reached.{Reached}
-use Rattle.walk.specs.declared.Reached.TheVariants.{Into, Missing, Blocked}
-use Rattle.walk.specs.declared.Parent.{Parent}
-use Rattle.walk.specs.declared.Parent.TheVariants as into
+use Rattle.walk.specs.declared.Walk.{Walk}
 
-abbrev pub spot_of : Spot → Option ℕ
-spot_of (At position) = some position
-spot_of Nowhere = none
+-- the position of an entry
+abbrev pub spot_of : Option ℕ → Math.Option ℕ
+spot_of (Some position) = some position
+spot_of None = none
 
 -- the entry lies in the image
-abbrev pub Inside : Bytes → Spot → Type 0
-Inside b (At position) = position + 32 ≤ length b
-Inside b Nowhere = Unit {0}
+abbrev pub Inside : Bytes → Option ℕ → Type 0
+Inside b (Some position) = position + 32 ≤ length b
+Inside b None = Unit {0}
 
-abbrev pub walked_of : Reached → Walked ℕ
-walked_of (Into walk) = arrived walk.0.0
-walked_of (Missing byte) = missing byte
-walked_of (Blocked byte) = blocked byte
+abbrev pub walked_of : Result Walk Stop → Walked ℕ
+walked_of (Ok walk) = arrived walk.0.0
+walked_of (Err stop) = stopped stop
 
 -- a page that a walk has come to is a byte
-abbrev pub Small : Reached → Type 0
-Small (Into walk) = walk.0.0 < 256
-Small (Missing byte) = Unit {0}
-Small (Blocked byte) = Unit {0}
+abbrev pub Small : Result Walk Stop → Type 0
+Small (Ok walk) = walk.0.0 < 256
+Small (Err stop) = Unit {0}
 
 -- one name on from the directory on page p
 abbrev pub entered : Bytes → Name → (page : ℕ) → Walked ℕ
@@ -44,13 +42,7 @@ entered b = On.entered (view b)
 abbrev pub walked_parent : Bytes → Path → (page : ℕ) → Walked (ℕ × Name)
 walked_parent b = On.walked_parent (view b)
 
-abbrev pub parent_of : Bytes → Parent → Walked (ℕ × Name)
-parent_of path (into.In walk from) = arrived (walk.0.0, name_in path from (length path))
-parent_of path (into.Missing byte) = missing byte
-parent_of path (into.Blocked byte) = blocked byte
-
 -- the page is a byte, and the last name lies in the path and fits an entry
-abbrev pub Fits : Bytes → Parent → Type 0
-Fits path (into.In walk from) = (walk.0.0 < 256) × (from ≤ length path) × (length path - from ≤ 16)
-Fits path (into.Missing byte) = Unit {0}
-Fits path (into.Blocked byte) = Unit {0}
+abbrev pub Fits : Bytes → Result Parent Stop → Type 0
+Fits path (Ok p) = (p.directory.0 < 256) × (p.begins ≤ length path) × (length path - p.begins ≤ 16)
+Fits path (Err stop) = Unit {0}

@@ -2,9 +2,10 @@
 -- one none, and one that is a directory leads to a housed one.
 use mathlib.Core.Path.{◌≡◌, sym, ap, ◌∙◌}
 use Prim.Native.Nat.{ℕ, ◌+◌, ◌≤◌}
-use mathlib.Core.Option.{none, some}
+use mathlib.Core.Option.{some}
 use mathlib.Core.List.{List}
 use lib.ListN.{length}
+use Rattle.std.specs.Prelude.{Option, Some, None}
 use Rattle.volume.specs.Bytes.{Bytes}
 use Rattle.volume.specs.Lists.{first}
 use Rattle.model.specs.Sound.{is_named}
@@ -18,8 +19,6 @@ use Rattle.fields.specs.declared.Entry.{Entry}
 use Rattle.fields.specs.declared.Entry.TheVariants.{Vacant, File, Directory}
 use Rattle.fields.specs.Read.{entry_of}
 use Rattle.shape.specs.declared.Shape.{Shape}
-use Rattle.cursor2.specs.declared.Found.{Found}
-use Rattle.cursor2.specs.declared.Found.TheVariants.{There, Nowhere}
 use Rattle.cursor2.specs.Row.{row, found_of}
 use Rattle.known2.specs.Known.{Known}
 use Rattle.known2.specs.Housed.{Housed}
@@ -29,29 +28,29 @@ use Rattle.paths.specs.Steps.{entered}
 use Rattle.walk2.specs.Steps.{Inside}
 
 module _ {b : Bytes} {s : Shape} {n : ℕ} (k : Known b s n) where
-  pub named_view : (p : ℕ) (name : Bytes) (r : Found) → found_of r ≡ first (λ at. is_named name (entry_at b at)) (row s n b p) → found_of r ≡ entry_named (view2 b) p name
+  pub named_view : (p : ℕ) (name : Bytes) (r : Option ℕ) → found_of r ≡ first (λ at. is_named name (entry_at b at)) (row s n b p) → found_of r ≡ entry_named (view2 b) p name
   unfolding entry_named
   named_view p name r found = found ∙ ap (λ (ats : List ℕ). first (λ at. is_named name (entry_at b at)) ats) (formed_row k.formed p)
 
-  pub named_inside : {p : ℕ} → Housed (view2 b) p → (name : Bytes) (r : Found) → found_of r ≡ first (λ at. is_named name (entry_at b at)) (row s n b p) → Inside b r
+  pub named_inside : {p : ℕ} → Housed (view2 b) p → (name : Bytes) (r : Option ℕ) → found_of r ≡ first (λ at. is_named name (entry_at b at)) (row s n b p) → Inside b r
   named_inside {p} h name r found = go r (named_view p name r found)
     where
-      go : (x : Found) → found_of x ≡ entry_named (view2 b) p name → Inside b x
-      go (There at) e = housed_inside k h at (named_found (view2 b) p name at (sym e)).0
-      go Nowhere e = tt
+      go : (x : Option ℕ) → found_of x ≡ entry_named (view2 b) p name → Inside b x
+      go (Some at) e = housed_inside k h at (named_found (view2 b) p name at (sym e)).0
+      go None e = tt
 
 -- ---- one name on: the answer for its entry is f
 
-module _ (b : Bytes) (begins : ℕ) (bytes : Bytes) (p : ℕ) (f : Found) (spot : found_of f ≡ entry_named (view2 b) p bytes) where
+module _ (b : Bytes) (begins : ℕ) (bytes : Bytes) (p : ℕ) (f : Option ℕ) (spot : found_of f ≡ entry_named (view2 b) p bytes) where
   abbrev name : Name
   name = record { begins = begins; bytes = bytes }
 
-  pub no_entry : f ≡ Nowhere → missing begins ≡ entered (view2 b) name p
+  pub no_entry : f ≡ None → missing begins ≡ entered (view2 b) name p
   unfolding enter_on
   no_entry e = rw (← spot, e)
 
   -- the entry that was read there is r
-  module _ (at : ℕ) (found : f ≡ There at) (r : Entry) (read : entry_of r (is_locked b at) (name_at b at) (date_at b at) ≡ entry_at b at) where
+  module _ (at : ℕ) (found : f ≡ Some at) (r : Entry) (read : entry_of r (is_locked b at) (name_at b at) (date_at b at) ≡ entry_at b at) where
     entry_read : (x : Entry) → r ≡ x → enter_on name (some (entry_of x (is_locked b at) (name_at b at) (date_at b at))) arrived ≡ entered (view2 b) name p
     entry_read x e = rw (← spot, found, ← read, e)
 
@@ -71,5 +70,5 @@ module _ (b : Bytes) (begins : ℕ) (bytes : Bytes) (p : ℕ) (f : Found) (spot 
     entry_housed h start size e =
         housed_named h bytes (sym spot ∙ ap found_of found) (sym read ∙ ap (λ (x : Entry). entry_of x (is_locked b at) (name_at b at) (date_at b at)) e)
 
-pub inside_at : (b : Bytes) (f : Found) (at : ℕ) → Inside b f → f ≡ There at → at + 32 ≤ length b
+pub inside_at : (b : Bytes) (f : Option ℕ) (at : ℕ) → Inside b f → f ≡ Some at → at + 32 ≤ length b
 inside_at b f at h e = rw e at h

@@ -10,26 +10,25 @@ ghost use Rattle.cursor2.specs.Row.{found_of};
 ghost use Rattle.known2.specs.Known.{Known};
 ghost use Rattle.known2.specs.Housed.{Housed};
 ghost use Rattle.paths.specs.Steps.{entered, walked_parent};
-ghost use Rattle.walk2.specs.Steps.{Inside, walked_of, IntoHoused, parent_of, Fits};
+ghost use Rattle.paths.specs.Places.{parent_of};
+ghost use Rattle.walk2.specs.Steps.{Inside, walked_of, IntoHoused, Fits};
 
-use cursor2::Found;
 use fields::{Entry, Page};
+use paths::{Parent, Stop};
 use shape::Shape;
 
 // The directory that a walk has come to.
 #[derive(Clone, Copy)]
 pub struct Walk(pub Page);
 
-// The next directory of a walk, or where it stops: the byte of the path at which the name begins that is not there, or that is a file's.
-#[derive(Clone, Copy)]
-pub enum Reached {
-    Into(Walk),
-    Missing(usize),
-    Blocked(usize),
-}
-
 // The entry of that name in a directory, on whichever of its pages. On a sound image it lies in the image.
-pub fn entry_named(image: &[u8], shape: Shape, pages: usize, directory: Page, name: &[u8]) -> Found
+pub fn entry_named(
+    image: &[u8],
+    shape: Shape,
+    pages: usize,
+    directory: Page,
+    name: &[u8],
+) -> Option<usize>
     requires { Known image.now shape pages × Housed (view2 image.now) directory.0 }
     ensures { Inside image.now result × (found_of result ≡ entry_named (view2 image.now) directory.0 name.now) }
 {
@@ -44,7 +43,7 @@ impl Walk {
         Walk(Page(0))
     }
 
-    // One name on, which begins at that byte of the path: into the directory of that name.
+    // One name on, which begins at that byte of the path: into the directory of that name, if there is one.
     pub fn step(
         self,
         image: &[u8],
@@ -52,31 +51,23 @@ impl Walk {
         pages: usize,
         name: &[u8],
         begins: usize,
-    ) -> Reached
+    ) -> Result<Walk, Stop>
         requires { Known image.now shape pages × Housed (view2 image.now) self.0.0 }
         ensures { IntoHoused (view2 image.now) result × (walked_of result ≡ entered (view2 image.now) (record { begins = begins; bytes = name.now }) self.0.0) }
     {
-        let Found::There(at) = entry_named(image, shape, pages, self.0, name) else {
-            return Reached::Missing(begins);
+        let Some(at) = entry_named(image, shape, pages, self.0, name) else {
+            return Err(Stop::Missing(begins));
         };
         match fields2::entry_at(image, at) {
-            Entry::Vacant => Reached::Missing(begins),
-            Entry::File(_, _) => Reached::Blocked(begins),
-            Entry::Directory(start, _) => Reached::Into(Walk(start)),
+            Entry::Vacant => Err(Stop::Missing(begins)),
+            Entry::File(_, _) => Err(Stop::Blocked(begins)),
+            Entry::Directory(start, _) => Ok(Walk(start)),
         }
     }
 }
 
-// Where all names of a path but the last lead, with the byte at which the last one begins, or where they stop. The last name ends with the path.
-#[derive(Clone, Copy)]
-pub enum Parent {
-    In(Walk, usize),
-    Missing(usize),
-    Blocked(usize),
-}
-
 // The walk of all names of a path but the last. The root has no last name, so it is not asked for.
-pub fn walk_parents(image: &[u8], shape: Shape, pages: usize, path: &[u8]) -> Parent
+pub fn walk_parents(image: &[u8], shape: Shape, pages: usize, path: &[u8]) -> Result<Parent, Stop>
     requires { Known image.now shape pages × (2 ≤ length path.now) × (not (is_no_path (path_of path.now)) ≡ true) }
     ensures { Fits (view2 image.now) path.now result × (parent_of path.now result ≡ walked_parent (view2 image.now) (path_of path.now) 0) }
 {
@@ -85,14 +76,13 @@ pub fn walk_parents(image: &[u8], shape: Shape, pages: usize, path: &[u8]) -> Pa
     loop {
         let to = names::text_end(path, from);
         if to == path.len() {
-            return Parent::In(walk, from);
+            return Ok(Parent {
+                directory: walk.0,
+                begins: from,
+            });
         }
         let name = names::pad(&path[from..to]);
-        match walk.step(image, shape, pages, &name, from) {
-            Reached::Into(next) => walk = next,
-            Reached::Missing(byte) => return Parent::Missing(byte),
-            Reached::Blocked(byte) => return Parent::Blocked(byte),
-        }
+        walk = walk.step(image, shape, pages, &name, from)?;
         from = to + 1;
     }
 }

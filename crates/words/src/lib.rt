@@ -18,7 +18,7 @@ fn bits16(image: &[u8], at: usize) -> usize
     requires { at + 2 ≤ length image.now }
     ensures { Holds image.now at 16 result × (result < 65536) }
 {
-    fields::wide(image[at]) + 256 * fields::wide(image[at + 1])
+    usize::from(image[at]) + 256 * usize::from(image[at + 1])
 }
 
 fn bits32(image: &[u8], at: usize) -> usize
@@ -38,7 +38,7 @@ pub fn bits64(image: &[u8], at: usize) -> usize
 fn one_bits(word: usize) -> usize
     ensures { (result ≡ ones word) × (result ≤ 64) }
 {
-    usize::count_ones(word) as usize
+    word.count_ones() as usize
 }
 
 // The zeros among the lowest k bits of a word, as what the ones leave of k.
@@ -56,5 +56,5 @@ pub fn zeros_among(word: usize, k: usize) -> usize
 pub fn lowest_zero(word: usize) -> usize
     ensures { Ends 64 word result }
 {
-    usize::trailing_zeros(!word) as usize
+    (!word).trailing_zeros() as usize
 }

@@ -1,7 +1,6 @@
 -- Write: the laws of `arrivals` at each place of version 1, where the pages wanted are counted against byte 3, which is the free number of a sound image; what
 -- is granted fits.
 use mathlib.Core.Path.{◌≡◌, sym, ap, ◌∙◌}
-use mathlib.Core.Logic.{◌⊎◌}
 use Prim.Native.Nat.{ℕ, ◌+◌, ◌-◌, ◌≤◌, ◌<◌, max}
 use native.Mathlib.Omega.{arith}
 use mathlib.Core.Bool.{Bool, true, false}
@@ -25,12 +24,11 @@ use Rattle.laws.proofs.Facts.{Facts}
 use Rattle.laws.proofs.Counting.{fill_up, free_number_lem}
 use Rattle.laws.proofs.Slots.{size}
 use Rattle.arrivals.proofs.Writings as Any
-use Rattle.places.specs.Places.{the_file, placed, spot_of, arrival_of}
-use Rattle.places.specs.declared.Arrival.{Arrival}
-use Rattle.places.specs.declared.Arrival.TheVariants.{At}
-use Rattle.places.specs.declared.Target.{Target}
-use Rattle.places.specs.declared.Place.{Place}
-use Rattle.places.specs.declared.Place.TheVariants as place
+use Rattle.paths.specs.declared.Target.{Target}
+use Rattle.paths.specs.declared.Place.{Place}
+use Rattle.paths.specs.declared.Place.TheVariants as place
+use Rattle.paths.specs.Places.{spot_of}
+use Rattle.places.specs.Places.{the_file, placed}
 use Rattle.places.proofs.Arrivals.{Arrived, placed_arrived, reads}
 use Rattle.places.proofs.Entries.{file_owned}
 use Rattle.rewrites.specs.Asked.{Writing}
@@ -59,36 +57,21 @@ pages_rise k n h = omega arith
 
 -- ---- what is known of the file at a place
 
-module _ (b path : Bytes) (a : Arrival) (p : Place) (t : Target) (here : a ≡ At p) (is : p ≡ place.File t) (arrives : arrival_of a ≡ placed b path) where
-  abbrev entry₂ : ℕ
-  entry₂ = t.entry
-
-  abbrev begins₂ : ℕ
-  begins₂ = t.begins
-
-  abbrev start₂ : ℕ
-  start₂ = t.start.0
-
-  abbrev k₂ : ℕ
-  k₂ = t.size
-
-  e₂ : FileAt b path t
-  e₂ = at_file here is arrives
-
-  there₂ : Arrived b path (the_file entry₂ begins₂ start₂ k₂)
-  there₂ = placed_arrived b path (the_file entry₂ begins₂ start₂ k₂) e₂
+module _ (b path : Bytes) (t : Target) (e : FileAt b path t) where
+  there₂ : Arrived b path (the_file t.entry t.begins t.start.0 t.size)
+  there₂ = placed_arrived b path (the_file t.entry t.begins t.start.0 t.size) e
 
   facts₂ : Facts b
   facts₂ = there₂.facts
 
   -- its pages and the free ones are fewer than 256
-  pub few : free_count b + pages_for k₂ ≤ 255
+  pub few : free_count b + pages_for t.size ≤ 255
   few =
-      let o = file_owned b facts₂ (path_of path) entry₂ begins₂ there₂.at.0 there₂.at.1 in
-      omega (arith, own_few b facts₂ (chain (link b) (pages_for k₂) start₂) o, chain_length (link b) (pages_for k₂) start₂, facts₂.counted, (size facts₂).high)
+      let o = file_owned b facts₂ (path_of path) t.entry t.begins there₂.at.0 there₂.at.1 in
+      omega (arith, own_few b facts₂ (chain (link b) (pages_for t.size) t.start.0) o, chain_length (link b) (pages_for t.size) t.start.0, facts₂.counted, (size facts₂).high)
 
-  pub small : k₂ < 65536
-  small = omega (arith, fill_up k₂, few)
+  pub small : t.size < 65536
+  small = omega (arith, fill_up t.size, few)
 
   pub long : 4 ≤ length b
   long = omega (arith, (size facts₂).low, (size facts₂).whole)
@@ -103,8 +86,8 @@ module _ (b path : Bytes) (from : ℕ) (v : Bytes) where
   pub write_refused : {m : Refusal} → refused m ≡ placed b path → Refuses m
   write_refused e = Any.write_refused reads b path from v e
 
-  pub write_directory : (a : Arrival) (p : Place) → a ≡ At p → ((t : Target) → p ≡ place.File t → ⊥) → arrival_of a ≡ placed b path → Refuses (refusal 7)
-  write_directory a p here k e = let n = at_no_file p here k e in Any.write_no_file reads b path from v (spot_of p) n.0 n.1
+  pub write_directory : (p : Place) → ((t : Target) → p ≡ place.File t → ⊥) → granted (spot_of p) ≡ placed b path → Refuses (refusal 7)
+  write_directory p k e = let n = at_no_file p k e in Any.write_no_file reads b path from v (spot_of p) n.0 n.1
 
   module _ (t : Target) (e : FileAt b path t) where
     read : entry_at b t.entry ≡ a_file (is_locked b t.entry) (name_at b t.entry) (date_at b t.entry) t.start.0 t.size
@@ -158,18 +141,18 @@ module _ {b path : Bytes} {from : ℕ} {t : Target} (p : Passed b path from t) (
 -- ---- a lock, and a write of no bytes past the lines, in the words of the code's facts: the check finds these by itself at the returns, whatever their tests
 -- are called
 
-module _ (b path : Bytes) (from : ℕ) (v : Bytes) {a : Arrival} {p : Place} {t : Target} {r : Bool} (here : a ≡ At p) (is : p ≡ place.File t)
-    (arrives : arrival_of a ≡ placed b path) (marked : r ≡ is_locked b t.entry) where
+module _ (b path : Bytes) (from : ℕ) (v : Bytes) {p : Place} {t : Target} {r : Bool} (is : p ≡ place.File t)
+    (arrives : granted (spot_of p) ≡ placed b path) (marked : r ≡ is_locked b t.entry) where
   pub locked_answered : r ≡ true → answer (write path from v) b ≡ refused (refusal 25)
-  locked_answered locked = sym (write_locked b path from v t (at_file here is arrives) marked locked).0
+  locked_answered locked = sym (write_locked b path from v t (at_file is arrives) marked locked).0
 
   pub locked_kept : r ≡ true → after (write path from v) b ≡ b
-  locked_kept locked = sym (write_locked b path from v t (at_file here is arrives) marked locked).1
+  locked_kept locked = sym (write_locked b path from v t (at_file is arrives) marked locked).1
 
   module _ (unmarked : r ≡ false) (inside : from ≤ t.size) {q : Bool} (counted : q ≡ ltb (free_count b) (more t.size from (length v))) (fits : q ≡ false)
       (z : length v ≡ 0) where
     nothing : (granted (tt {0}) ≡ answer (write path from v) b) × (b ≡ after (write path from v) b)
-    nothing = write_nothing (record { there = at_file here is arrives; unlocked = sym marked ∙ unmarked; inside = inside }) v counted fits z
+    nothing = write_nothing (record { there = at_file is arrives; unlocked = sym marked ∙ unmarked; inside = inside }) v counted fits z
 
     pub nothing_answered : answer (write path from v) b ≡ granted (tt {0})
     nothing_answered = sym nothing.0

@@ -8,9 +8,8 @@ ghost use Rattle.model.specs.Call.{write};
 ghost use Rattle.model.specs.Meaning.{answer, after};
 ghost use Rattle.answers.specs.Answers.{change_answer};
 
-use answers::ChangeAnswer;
 use fields::Position;
-use places::{Arrival, Place};
+use paths::Place;
 use refusals::Refusal;
 
 // Fewer pages are free than a write wants. What no image has room for is told at once, so that no sum is made that could wrap.
@@ -31,29 +30,25 @@ fn lacks_pages(image: &[u8], size: usize, position: Position, bytes: usize) -> b
 
 // Puts bytes over the content of a file that is not locked, from a position on. The file grows where they reach past its end.
 #[tactic(auto, using(crate::proofs::Writings::locked_answered, crate::proofs::Writings::locked_kept, crate::proofs::Writings::nothing_answered, crate::proofs::Writings::nothing_changed))]
-pub fn write(image: &mut [u8], path: &[u8], position: Position, bytes: &[u8]) -> ChangeAnswer
+pub fn write(image: &mut [u8], path: &[u8], position: Position, bytes: &[u8]) -> Result<(), Refusal>
     ensures result_value { change_answer result ≡ answer (write path.now position.0 bytes.now) image.old }
     ensures image_after { image.new ≡ after (write path.now position.0 bytes.now) image.old }
 {
-    let arrival = places::arrive(image, path);
-    let Arrival::At(place) = arrival else {
-        return ChangeAnswer::Refused(places::refusal_of(arrival));
-    };
-    let Place::File(target) = place else {
-        return ChangeAnswer::Refused(Refusal::IsADirectory);
+    let Place::File(target) = places::arrive(image, path)? else {
+        return Err(Refusal::IsADirectory);
     };
     if fields::is_locked(image, target.entry) { // also a write of no bytes, past the end or too long
-        return ChangeAnswer::Refused(Refusal::Locked);
+        return Err(Refusal::Locked);
     }
     if target.size < position.0 {
-        return ChangeAnswer::Refused(Refusal::PastEnd);
+        return Err(Refusal::PastEnd);
     }
     if lacks_pages(image, target.size, position, bytes.len()) {
-        return ChangeAnswer::Refused(Refusal::NoFreePages);
+        return Err(Refusal::NoFreePages);
     }
     // A write of no bytes is judged like any other, and then changes nothing.
     if bytes.len() == 0 {
-        return ChangeAnswer::Done;
+        return Ok(());
     }
     rewrites::write_entry(
         image,
@@ -63,5 +58,5 @@ pub fn write(image: &mut [u8], path: &[u8], position: Position, bytes: &[u8]) ->
         position,
         bytes,
     );
-    ChangeAnswer::Done
+    Ok(())
 }

@@ -12,9 +12,8 @@ ghost use Rattle.shape.specs.Geometry.{geometry_of};
 ghost use Rattle.answers2.specs.Answers.{change_answer};
 ghost use Rattle.writes2.specs.Asked.{Counted};
 
-use answers2::ChangeAnswer;
 use fields::Position;
-use places2::{Arrival, Place};
+use paths::Place;
 use refusals2::Refusal;
 use shape::Shape;
 
@@ -37,39 +36,37 @@ fn lacks_pages(image: &[u8], shape: Shape, size: usize, position: Position, byte
 
 // Puts bytes over the content of a file that is not locked, from a position on. The file grows where they reach past its end.
 #[tactic(auto, using(crate::proofs::Writings::nothing_answered, crate::proofs::Writings::nothing_changed))]
-pub fn write(image: &mut [u8], path: &[u8], position: Position, bytes: &[u8]) -> ChangeAnswer
+pub fn write(image: &mut [u8], path: &[u8], position: Position, bytes: &[u8]) -> Result<(), Refusal>
     ensures result_value { change_answer result ≡ answer v2 (write path.now position.0 bytes.now) image.old }
     ensures image_after { image.new ≡ after v2 (write path.now position.0 bytes.now) image.old }
 {
-    let arrival = places2::arrive(image, path);
-    let Arrival::At(cartridge, place) = arrival else {
-        return ChangeAnswer::Refused(places2::refusal_of(arrival));
-    };
-    let Place::File(target) = place else {
-        return ChangeAnswer::Refused(Refusal::IsADirectory);
+    let arrived = places2::arrive(image, path)?;
+    let Place::File(target) = arrived.place else {
+        return Err(Refusal::IsADirectory);
     };
     if fields::is_locked(image, target.entry) { // also a write of no bytes, past the end or too long
-        return ChangeAnswer::Refused(Refusal::Locked);
+        return Err(Refusal::Locked);
     }
     if target.size < position.0 {
-        return ChangeAnswer::Refused(Refusal::PastEnd);
+        return Err(Refusal::PastEnd);
     }
-    if lacks_pages(image, cartridge.shape, target.size, position, bytes.len()) {
-        return ChangeAnswer::Refused(Refusal::NoFreePages);
+    let shape = arrived.cartridge.shape;
+    if lacks_pages(image, shape, target.size, position, bytes.len()) {
+        return Err(Refusal::NoFreePages);
     }
     // A write of no bytes is judged like any other, and then changes nothing.
     if bytes.len() == 0 {
-        return ChangeAnswer::Done;
+        return Ok(());
     }
     changes2::write_entry(
         image,
-        cartridge.shape,
-        cartridge.pages,
+        shape,
+        arrived.cartridge.pages,
         target.entry,
         target.start,
         target.size,
         position,
         bytes,
     );
-    ChangeAnswer::Done
+    Ok(())
 }

@@ -1,5 +1,5 @@
 -- `pages_agree` looks at one page a turn.
-use Rattle.fields.proofs.Plain.{arith, ◌-◌}
+use Rattle.fields.proofs.Plain.{arith}
 use Rattle.agreement.proofs.Marks.{all_first, all_stop, all_go, all_done}
 use Rattle.agreement.proofs.pages_agree.Goals as goal
 

@@ -1,5 +1,5 @@
 -- `visit_directories` visits one directory a turn. Each that is found has claimed a page, so the list has room and the loop ends.
-use Rattle.fields.proofs.Plain.{rules, ◌-◌}
+use Rattle.fields.proofs.Plain.{rules}
 use Rattle.claims.proofs.Claims.{goes_of, stops_of}
 use Rattle.audit.proofs.Stands.{entered_both, stands_first, next_low, as_long, entries_asked, stands_unentered, push_fits, stands_next, stands_last}
 use Rattle.audit.proofs.visit_directories.Goals as goal

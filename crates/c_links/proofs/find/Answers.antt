@@ -8,23 +8,22 @@ use Rattle.c_links.proofs.find.Goals as goal
 
 pub code-requires : goal.code-requires
 unfolding link_code_of figure_out
-code-requires c = link_fits (find_link _ _ _) _ (rw c.in-Refused.is at c.find.ensures)
+code-requires c = link_fits (find_link _ _ _) _ (c.in-Err.ensures)
 
-pub returns-in-Figure : goal.returns-in-Figure
+pub returns-in-Ok-Some : goal.returns-in-Ok-Some
 unfolding link_code_of figure_out
-returns-in-Figure c =
-    let e = rw c.in-Figure.is at c.find.ensures in
+returns-in-Ok-Some c =
+    let e = rw c.in-Ok-Some.field-0-is at c.in-Ok-Some.ensures in
     record { value = ap link_code_of e; out_after = ap figure_out e }
 
-pub returns-in-Absent : goal.returns-in-Absent
+pub returns-in-Ok-None : goal.returns-in-Ok-None
 unfolding link_code_of figure_out
-returns-in-Absent c =
-    let e = rw c.in-Absent.is at c.find.ensures in
+returns-in-Ok-None c =
+    let e = rw c.in-Ok-None.field-0-is at c.in-Ok-None.ensures in
     record { value = ap link_code_of e; out_after = ap figure_out e }
 
-pub returns-in-Refused : goal.returns-in-Refused
+pub returns-in-Err : goal.returns-in-Err
 unfolding link_code_of figure_out
-returns-in-Refused c =
-    let r = c in
-    let e = rw r.in-Refused.is at r.find.ensures in
+returns-in-Err c =
+    let e = c.in-Err.ensures in
     record { value = c.code.ensures ∙ ap link_code_of e; out_after = ap figure_out e }

@@ -8,18 +8,16 @@ use Rattle.c_links.proofs.read.Goals as goal
 
 pub code-requires : goal.code-requires
 unfolding link_code_of number_out
-code-requires c = link_fits (read_links _ _) _ (rw c.in-Refused.is at c.read.ensures.result_value)
+code-requires c = link_fits (read_links _ _) _ (c.in-Err.ensures.result_value)
 
-pub returns-in-Rows : goal.returns-in-Rows
+pub returns-in-Ok : goal.returns-in-Ok
 unfolding link_code_of number_out
-returns-in-Rows c =
-    let read = c in
-    let e = rw c.in-Rows.is at read.read.ensures.result_value in
-    record { value = ap link_code_of e; out_after = ap number_out e; numbers_after = read.read.ensures.numbers_after }
+returns-in-Ok c =
+    let e = c.in-Ok.ensures.result_value in
+    record { value = ap link_code_of e; out_after = ap number_out e; numbers_after = c.in-Ok.ensures.numbers_after }
 
-pub returns-in-Refused : goal.returns-in-Refused
+pub returns-in-Err : goal.returns-in-Err
 unfolding link_code_of number_out
-returns-in-Refused c =
-    let r = c in
-    let e = rw r.in-Refused.is at r.read.ensures.result_value in
-    record { value = c.code.ensures ∙ ap link_code_of e; out_after = ap number_out e; numbers_after = r.read.ensures.numbers_after }
+returns-in-Err c =
+    let e = c.in-Err.ensures.result_value in
+    record { value = c.code.ensures ∙ ap link_code_of e; out_after = ap number_out e; numbers_after = c.in-Err.ensures.numbers_after }

@@ -1,4 +1,4 @@
--- Each arm knows its case, so what the call ensures is the model's answer in that case, and code and out array are read off it.
+-- Each arm knows its case, so what the call ensures is the model's answer in that case, and code and out arrays are read off it.
 use Rattle.fields.proofs.Plain.{ap, ◌∙◌}
 use Rattle.model.specs.Call.{read}
 use Rattle.codes.specs.Codes.{code_of}
@@ -7,19 +7,16 @@ use Rattle.codes.proofs.Fits.{refused_fits, roomy1}
 use Rattle.c_looks.proofs.read.Goals as goal
 
 pub code-requires : goal.code-requires
-unfolding code_of number_out
-code-requires c = refused_fits roomy1 (read _ _ _) _ (rw c.in-Refused.is at c.read.ensures.result_value)
+code-requires c = refused_fits roomy1 (read _ _ _) _ c.in-Err.ensures.result_value
 
-pub returns-in-Copied : goal.returns-in-Copied
+pub returns-in-Ok : goal.returns-in-Ok
 unfolding code_of number_out
-returns-in-Copied c =
-    let read = c in
-    let e = rw c.in-Copied.is at read.read.ensures.result_value in
-    record { value = ap code_of e; out_after = ap number_out e; buffer_after = read.read.ensures.buffer_after }
+returns-in-Ok c =
+    let e = c.in-Ok.ensures.result_value in
+    record { value = ap code_of e; out_after = ap number_out e; buffer_after = c.in-Ok.ensures.buffer_after }
 
-pub returns-in-Refused : goal.returns-in-Refused
+pub returns-in-Err : goal.returns-in-Err
 unfolding code_of number_out
-returns-in-Refused c =
-    let r = c in
-    let e = rw r.in-Refused.is at r.read.ensures.result_value in
-    record { value = c.code.ensures ∙ ap code_of e; out_after = ap number_out e; buffer_after = r.read.ensures.buffer_after }
+returns-in-Err c =
+    let e = c.in-Err.ensures.result_value in
+    record { value = c.code.ensures ∙ ap code_of e; out_after = ap number_out e; buffer_after = c.in-Err.ensures.buffer_after }

@@ -1,18 +1,10 @@
--- The row is copied whole, and the answer is the second judge's.
-use Rattle.codes.specs.Outs.{sound_number}
+-- The row is copied whole, or stays zeros, and the answer is the second judge's.
 use mathlib.Core.Path.{◌∙◌}
+use Rattle.c_requests.proofs.Rows.{says_sound, owners_told, nobody_told}
 use Rattle.c_requests.proofs.audit.Goals as goal
 
-pub returns-then-findings : goal.returns-then-findings
-unfolding sound_number
-returns-then-findings c =
-    let copy = c in
-    let row = copy.audit-findings in
-    record { value = rw (← row.ensures.0, c.if-findings.true); owners_after = copy.copy_owners.ensures ∙ row.ensures.1 }
+pub returns-in-Some : goal.returns-in-Some
+returns-in-Some c = record { value = search says_sound; owners_after = c.copy_owners.ensures ∙ owners_told _ c.audit-row.ensures c.in-Some.is }
 
-pub returns-else-findings : goal.returns-else-findings
-unfolding sound_number
-returns-else-findings c =
-    let copy = c in
-    let row = copy.audit-findings in
-    record { value = rw (← row.ensures.0, c.if-findings.false); owners_after = copy.copy_owners.ensures ∙ row.ensures.1 }
+pub returns-in_default : goal.returns-in_default
+returns-in_default c = record { value = search says_sound; owners_after = nobody_told _ c.audit-row.ensures c.in_default.is }

@@ -1,5 +1,5 @@
 -- `copy_owners` copies one number a turn.
-use Rattle.fields.proofs.Plain.{◌-◌, arith}
+use Rattle.fields.proofs.Plain.{arith}
 use Rattle.c_requests.proofs.Rows.{copied_next, copied_all}
 use Rattle.c_requests.proofs.copy_owners.Goals as goal
 

@@ -1,22 +1,14 @@
--- Each arm is the code of its case; the two numbers of §13 point nowhere.
-use Rattle.codes.specs.Codes.{code_of, packed}
+-- Each arm is the code of its case.
+use Rattle.codes.specs.Codes.{code_of}
 use Rattle.c_requests.proofs.tidy_code.Goals as goal
 
-pub code-requires : goal.code-requires
-code-requires c = rw c.in-Refused.is at c.requires
+pub tidy_refusal-requires : goal.tidy_refusal-requires
+tidy_refusal-requires c = rw c.in-Err.is at c.requires
 
-pub returns-in-Done : goal.returns-in-Done
+pub returns-in-Ok : goal.returns-in-Ok
 unfolding code_of
-returns-in-Done c = rw c.in-Done.is
+returns-in-Ok c = rw c.in-Ok.is
 
-pub returns-in-Refused : goal.returns-in-Refused
+pub returns-in-Err : goal.returns-in-Err
 unfolding code_of
-returns-in-Refused c = rw c.in-Refused.is c.code.ensures
-
-pub returns-in-OtherLength : goal.returns-in-OtherLength
-unfolding code_of packed
-returns-in-OtherLength c = rw c.in-OtherLength.is
-
-pub returns-in-NotAccepted : goal.returns-in-NotAccepted
-unfolding code_of packed
-returns-in-NotAccepted c = rw c.in-NotAccepted.is
+returns-in-Err c = rw c.in-Err.is c.tidy_refusal.ensures

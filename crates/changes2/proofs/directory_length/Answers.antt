@@ -1,5 +1,5 @@
 -- `directory_length` passes a page a turn: with those left they are as many as the directory has, and link 0 ends it.
-use Rattle.fields.proofs.Plain.{arith, ◌-◌}
+use Rattle.fields.proofs.Plain.{arith}
 use Rattle.changes2.proofs.Directories.{counting_first, counting_here, counting_last, counting_turn, counting_all}
 use Rattle.changes2.proofs.directory_length.Goals as goal
 

@@ -1,6 +1,5 @@
 -- `holds_nothing` goes one entry on a turn and looks for one that is not vacant: if there is none, all are.
 use Rattle.fields.proofs.Plain.{arith, refl, sym, ap, ◌∙◌, not}
-use Rattle.model.specs.Effect.{is_vacant}
 use Rattle.cursor2.proofs.Seeking.{seek_found, seek_next, seek_none, row_shorter}
 use Rattle.changes2.proofs.Directories.{all_pass, one_fails}
 use Rattle.changes2.proofs.holds_nothing.Goals as goal
@@ -24,10 +23,10 @@ pub next_entry-requires : goal.next_entry-requires
 next_entry-requires c = (c.requires.roomy, c.loop-shape.invariant.stands)
 
 pub loop-shape-smaller : goal.loop-shape-smaller
-loop-shape-smaller c = search row_shorter
+loop-shape-smaller c = row_shorter _ c.args.shape _ _ _ c.in-Some.ensures.0
 
 pub loop-shape-preserved : goal.loop-shape-preserved
-loop-shape-preserved c = seek_next c.loop-shape.invariant c.position_of-at.ensures.0 (ap not (sym c.is_vacant.ensures) ∙ c.if-not-is_vacant.false-raw) _ c.next_entry.ensures.0 c.in-At.is c.next_entry.ensures.1
+loop-shape-preserved c = seek_next c.loop-shape.invariant c.position_of-at.ensures.0 (ap not (sym c.is_vacant.ensures) ∙ c.if-not-is_vacant.false-raw) c.in-Some.ensures.0 refl c.in-Some.ensures.1
 
-pub returns-in-End : goal.returns-in-End
-returns-in-End c = all_pass _ _ (seek_none c.loop-shape.invariant c.position_of-at.ensures.0 (ap not (sym c.is_vacant.ensures) ∙ c.if-not-is_vacant.false-raw) _ c.next_entry.ensures.0 c.first_entry-cursor.ensures.0 c.in-End.is)
+pub returns-in_default : goal.returns-in_default
+returns-in_default c = all_pass _ _ (seek_none c.loop-shape.invariant c.position_of-at.ensures.0 (ap not (sym c.is_vacant.ensures) ∙ c.if-not-is_vacant.false-raw) c.in_default.ensures.0 c.first_entry-cursor.ensures.0 refl)

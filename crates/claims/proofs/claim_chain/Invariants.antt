@@ -1,9 +1,9 @@
-use Rattle.fields.proofs.Plain.{◌≡◌, length}
+use Rattle.fields.proofs.Plain.{◌≡◌, ◌-◌, length}
 use Rattle.claims.specs.Claim.{claim_chain}
 use Rattle.claims.proofs.claim_chain.Given as goal
 
-abbrev pub invariant-loop-left : goal.invariant-loop-left
-invariant-loop-left l = (length l.row ≡ length l.initial.row) × (claim_chain l.image l.at l.k l.initial.page.0 l.initial.row ≡ claim_chain l.image l.at l.left l.page.0 l.row)
+abbrev pub invariant-loop : goal.invariant-loop
+invariant-loop l = (length l.row ≡ length l.initial.row) × (claim_chain l.image l.at l.k l.initial.page.0 l.initial.row ≡ claim_chain l.image l.at (l.k - l.counter) l.page.0 l.row)
 
-abbrev pub decreases-loop-left : goal.decreases-loop-left
-decreases-loop-left l = l.left
+abbrev pub decreases-loop : goal.decreases-loop
+decreases-loop l = l.k - l.counter

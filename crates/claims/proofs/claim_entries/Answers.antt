@@ -1,5 +1,5 @@
 -- `claim_entries` sees one entry a turn: its name, then its pages; what is left is the rest of the directory.
-use Rattle.fields.proofs.Plain.{rules, refl, ◌-◌}
+use Rattle.fields.proofs.Plain.{rules, refl}
 use Rattle.claims.proofs.Claims.{rest_all}
 use Rattle.claims.proofs.Names.{entered_unnamed, entered_unclaimed, entered_on, entered_done}
 use Rattle.claims.proofs.claim_entries.Goals as goal

@@ -1,5 +1,5 @@
 -- `name_is_last` compares with one later entry a turn.
-use Rattle.fields.proofs.Plain.{arith, ◌-◌}
+use Rattle.fields.proofs.Plain.{arith}
 use Rattle.claims.proofs.Names.{apart_stop, apart_go, apart_done}
 use Rattle.claims.proofs.name_is_last.Goals as goal
 

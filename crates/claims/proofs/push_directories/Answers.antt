@@ -1,5 +1,5 @@
 -- `push_directories` puts one directory a turn behind those before it; what was found before stays.
-use Rattle.fields.proofs.Plain.{rules, ◌-◌}
+use Rattle.fields.proofs.Plain.{rules}
 use Rattle.claims.proofs.Names.{pushes_first, finds_room, pushes_one, pushes_none, pushes_last}
 use Rattle.claims.proofs.push_directories.Goals as goal
 use Rattle.claims.proofs.push_directories.Goals.{in-Directory, in_default}

@@ -1,11 +1,9 @@
 -- `lock_number` tells the mark as the model's number does.
+use Rattle.fields.proofs.Plain.{◌∙◌}
 use Rattle.codes.specs.Outs.{lock_number}
+use Rattle.codes.proofs.Codes.{mark_number}
 use Rattle.codes.proofs.lock_number.Goals as goal
 
-pub returns-then-locked : goal.returns-then-locked
+pub returns : goal.returns
 unfolding lock_number
-returns-then-locked c = rw c.if-locked.true
-
-pub returns-else-locked : goal.returns-else-locked
-unfolding lock_number
-returns-else-locked c = rw c.if-locked.false
+returns c = c.from.ensures ∙ mark_number c.args.locked

@@ -12,7 +12,7 @@ returns-in-Vacant c = put_vacant _ _ _ c.requires.0 c.zero.ensures (rw c.in-Vaca
 
 pub returns-in-File : goal.returns-in-File
 returns-in-File c =
-    put_file _ _ _ c.date_of-date.ensures c.name_of-name.ensures c.is_locked.ensures c.flag_of-locked.ensures c.fill_row.ensures
+    put_file _ _ _ c.date_of-date.ensures c.name_of-name.ensures c.is_locked.ensures c.from-locked.ensures c.fill_row.ensures
     (rw c.in-File.is at c.entry_at.ensures.0)
 
 pub returns-in-Directory : goal.returns-in-Directory

@@ -22,9 +22,9 @@ pub bounds-image-at-2 : goal.bounds-image-at-2
 unfolding entry_at
 bounds-image-at-2 c = search rules
 
-pub wide-requires : goal.wide-requires
+pub from-requires : goal.from-requires
 unfolding entry_at
-wide-requires c = search rules
+from-requires c = search rules
 
 pub overflow_add-at-2 : goal.overflow_add-at-2
 unfolding entry_at
@@ -34,9 +34,9 @@ pub bounds-image-at-3 : goal.bounds-image-at-3
 unfolding entry_at
 bounds-image-at-3 c = search rules
 
-pub wide-requires-2 : goal.wide-requires-2
+pub from-requires-2 : goal.from-requires-2
 unfolding entry_at
-wide-requires-2 c = search rules
+from-requires-2 c = search rules
 
 pub overflow_add-at-3 : goal.overflow_add-at-3
 unfolding entry_at
@@ -46,9 +46,9 @@ pub bounds-image-at-4 : goal.bounds-image-at-4
 unfolding entry_at
 bounds-image-at-4 c = search rules
 
-pub wide-requires-3 : goal.wide-requires-3
+pub from-requires-3 : goal.from-requires-3
 unfolding entry_at
-wide-requires-3 c = search rules
+from-requires-3 c = search rules
 
 pub overflow_mul-size : goal.overflow_mul-size
 unfolding entry_at
@@ -62,10 +62,10 @@ pub returns-then-flags-eq1 : goal.returns-then-flags-eq1
 unfolding entry_at
 returns-then-flags-eq1 c =
     let start = c in
-    (search (tests, low_bit, start.wide.ensures.0, c.wide-2.ensures.0, c.wide-3.ensures.0), search rules)
+    (search (tests, low_bit, start.from.ensures, c.from-2.ensures, c.from-3.ensures), search rules)
 
 pub returns-else-flags-eq1 : goal.returns-else-flags-eq1
 unfolding entry_at
 returns-else-flags-eq1 c =
     let start = c in
-    (search (tests, low_bit, start.wide.ensures.0, c.wide-2.ensures.0, c.wide-3.ensures.0), search rules)
+    (search (tests, low_bit, start.from.ensures, c.from-2.ensures, c.from-3.ensures), search rules)

@@ -24,9 +24,9 @@ pub bounds-image-2 : goal.bounds-image-2
 unfolding valid_header all
 bounds-image-2 c = search rules
 
-pub wide-requires : goal.wide-requires
+pub from-requires : goal.from-requires
 unfolding valid_header all
-wide-requires c = search rules
+from-requires c = search rules
 
 pub page_count-requires : goal.page_count-requires
 unfolding valid_header all
@@ -34,4 +34,4 @@ page_count-requires c = search rules
 
 pub returns : goal.returns
 unfolding valid_header all
-returns c = search (tests, c.wide.ensures.0, c.page_count.ensures)
+returns c = search (tests, c.from.ensures, c.page_count.ensures)

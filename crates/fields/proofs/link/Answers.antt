@@ -3,4 +3,4 @@ use Rattle.fields.proofs.Plain.{rules}
 use Rattle.fields.proofs.link.Goals as goal
 
 pub returns : goal.returns
-returns c = (rw (← c.first_byte.ensures) c.wide.ensures.0, search rules)
+returns c = (rw (← c.first_byte.ensures) c.from.ensures, search rules)

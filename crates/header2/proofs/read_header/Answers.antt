@@ -33,4 +33,4 @@ pub returns-then-load-cartridge : goal.returns-then-load-cartridge
 returns-then-load-cartridge c = (search wrong_map, tt)
 
 pub returns : goal.returns
-returns c = (search right_header, by_own_code c.args.image.now c.shape_of-cartridge.result.shape _ _ c.wide-code.ensures.0 c.shape_of-cartridge.ensures)
+returns c = (search right_header, by_own_code c.args.image.now c.shape_of-cartridge.result.shape _ _ c.from-code.ensures c.shape_of-cartridge.ensures)

@@ -5,11 +5,11 @@ use Rattle.judge2.proofs.Walk.{Walking}
 use Rattle.judge2.proofs.Shapes.{Goes}
 use Rattle.judge2.proofs.+judge_directory_judge_entry.Given as goal
 
-abbrev pub invariant-judge_directory-loop-at : goal.invariant-judge_directory-loop-at
-invariant-judge_directory-loop-at l = Walking (view2 l.image) (l.directory.0) l.initial.marks l.number l.marks × Goes l.image ((view2 l.image).entries (l.directory.0)) l.cursor l.number
+abbrev pub invariant-judge_directory-loop-met : goal.invariant-judge_directory-loop-met
+invariant-judge_directory-loop-met l = Walking (view2 l.image) (l.directory.0) l.initial.marks l.number l.marks × Goes l.image ((view2 l.image).entries (l.directory.0)) l.cursor l.number
 
-abbrev pub decreases-judge_directory-loop-at : goal.decreases-judge_directory-loop-at
-decreases-judge_directory-loop-at l = length ((view2 l.image).entries (l.directory.0)) - l.number
+abbrev pub decreases-judge_directory-loop-met : goal.decreases-judge_directory-loop-met
+decreases-judge_directory-loop-met l = length ((view2 l.image).entries (l.directory.0)) - l.number
 
 abbrev pub decreases-judge_directory : goal.decreases-judge_directory
 decreases-judge_directory l = 2 * unowned l.marks.now + 1

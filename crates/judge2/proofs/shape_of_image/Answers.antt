@@ -7,7 +7,7 @@ pub bounds-image-6 : goal.bounds-image-6
 bounds-image-6 c = omega (arith, code_within c.requires)
 
 pub shape_of-requires : goal.shape_of-requires
-shape_of-requires c = code_low c.requires c.wide-code.ensures.0
+shape_of-requires c = code_low c.requires c.from-code.ensures
 
 pub returns : goal.returns
-returns c = shape_made _ _ _ _ c.requires c.wide-code.ensures.0 c.shape_of.ensures
+returns c = shape_made _ _ _ _ c.requires c.from-code.ensures c.shape_of.ensures

@@ -6,8 +6,8 @@ use Rattle.link_anew.proofs.has_room.Goals as goal
 pub returns-then-size-le255 : goal.returns-then-size-le255
 returns-then-size-le255 c = (λ e h. small_room _ c.args.image.now c.if-size-le255.true, λ e. absurd (true≢false e))
 
-pub returns-in-Sound : goal.returns-in-Sound
-returns-in-Sound c = free_room _ c.verdict.result c.verdict.ensures _ _ c.in-Sound.is c.args.size _ c.pages_for.ensures
+pub returns-in-Ok : goal.returns-in-Ok
+returns-in-Ok c = free_room _ _ c.in-Ok.ensures c.args.size _ c.pages_for.ensures
 
-pub returns-in-Refused : goal.returns-in-Refused
-returns-in-Refused c = (λ e h. absurd (verdict_refused _ c.verdict.result c.verdict.ensures _ c.in-Refused.is h), λ e. absurd (true≢false e))
+pub returns-in-Err : goal.returns-in-Err
+returns-in-Err c = (λ e h. absurd (verdict_refused _ _ c.in-Err.ensures h), λ e. absurd (true≢false e))

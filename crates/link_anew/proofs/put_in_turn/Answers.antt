@@ -3,9 +3,9 @@
 use Rattle.link_anew.proofs.InTurn.{put_made}
 use Rattle.link_anew.proofs.put_in_turn.Goals as goal
 
-pub returns-in-Done : goal.returns-in-Done
-returns-in-Done c =
-    let at = c in
-    let args = at.args in
-    let whole = put_made args.path.now args.date.now args.bytes.now args.image.now _ _ at.make_file.result c.in-Done.is at.make_file.ensures.result_value at.make_file.ensures.image_after c.write.result c.write.ensures.result_value c.write.ensures.image_after in
+pub returns-in-Ok : goal.returns-in-Ok
+returns-in-Ok c =
+    let args = c.args in
+    let made = c.in-Ok.ensures in
+    let whole = put_made args.path.now args.date.now args.bytes.now args.image.now _ _ made.result_value made.image_after c.write.result c.write.ensures.result_value c.write.ensures.image_after in
     record { runs_to = whole.0; kept_by = whole.1 }

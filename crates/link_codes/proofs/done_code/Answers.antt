@@ -4,12 +4,12 @@ use Rattle.link_codes.proofs.done_code.Goals as goal
 
 pub code-requires : goal.code-requires
 unfolding link_code_of
-code-requires c = rw c.in-Refused.is at c.requires
+code-requires c = rw c.in-Err.is at c.requires
 
-pub returns-in-Done : goal.returns-in-Done
+pub returns-in-Ok : goal.returns-in-Ok
 unfolding link_code_of
-returns-in-Done c = rw c.in-Done.is
+returns-in-Ok c = rw c.in-Ok.is
 
-pub returns-in-Refused : goal.returns-in-Refused
+pub returns-in-Err : goal.returns-in-Err
 unfolding link_code_of
-returns-in-Refused c = rw c.in-Refused.is c.code.ensures
+returns-in-Err c = rw c.in-Err.is c.code.ensures

@@ -1,45 +1,24 @@
 -- The file's bytes are loaded and checked, if they are all of it.
 use lib.Seq.{length-take-le}
-use Rattle.link_files.proofs.Whole.{passes, loads_within, loads_whole, loads_not}
+use Rattle.outcomes.proofs.Exits.{told_on}
+use Rattle.link_files.proofs.Whole.{passes}
 use Rattle.link_looks.proofs.Calls.{loaded_check, refused_check}
 use mathlib.Core.Logic.{inl}
 use native.Mathlib.Omega.{arith}
 use mathlib.Core.Path.{sym, ◌∙◌}
 use Rattle.link_looks.proofs.check.Goals as goal
 
+pub returns-in_err-size : goal.returns-in_err-size
+returns-in_err-size c = told_on _ _ _ _ c.from_residual.ensures.1 (refused_check c.args.directory.now c.args.image.now _ c.in_err-size.ensures)
+
 pub slice_bounds-file-end : goal.slice_bounds-file-end
-slice_bounds-file-end c =
-    let at_load = c in
-    let start = at_load in
-    let s = loads_within start.args.directory.now start.args.image.now _ _ _ at_load.load.ensures _ c.in-Size.is in
-    omega (arith, s, at_load.load.auto.file)
+slice_bounds-file-end c = omega (arith, c.in_ok-size.ensures.0, c.load.auto.file)
 
 pub slice_bounds-check_file-end : goal.slice_bounds-check_file-end
-slice_bounds-check_file-end c =
-    let at_load = c in
-    let start = at_load in
-    let s = loads_within start.args.directory.now start.args.image.now _ _ _ at_load.load.ensures _ c.in-Size.is in
-    sym (length-take-le _ _ (omega (arith, s, at_load.load.auto.file)))
+slice_bounds-check_file-end c = sym (length-take-le _ _ (omega (arith, c.in_ok-size.ensures.0, c.load.auto.file)))
 
 pub check_file-requires : goal.check_file-requires
-check_file-requires c =
-    let at-if = c in
-    let at_load = at-if in
-    let start = at_load in
-    let s = loads_whole start.args.directory.now start.args.image.now _ _ _ at_load.load.ensures _ at-if.in-Size.is (inl (omega (arith, at-if.if-size-lt256.true))) in
-    (passes start.args.directory.now start.args.image.now _ s).0
+check_file-requires c = (passes c.args.directory.now c.args.image.now _ (c.in_ok-size.ensures.1 (inl (omega (arith, c.if-size-lt256.true))))).0
 
 pub returns-then-size-lt256 : goal.returns-then-size-lt256
-returns-then-size-lt256 c =
-    let at-if = c in
-    let at_load = at-if in
-    let start = at_load in
-    let s = loads_whole start.args.directory.now start.args.image.now _ _ _ at_load.load.ensures _ at-if.in-Size.is (inl (omega (arith, at-if.if-size-lt256.true))) in
-    c.check_file.ensures ∙ loaded_check start.args.directory.now start.args.image.now _ s
-
-pub returns-in-Refused : goal.returns-in-Refused
-returns-in-Refused c =
-    let at_load = c in
-    let start = at_load in
-    let s = loads_not start.args.directory.now start.args.image.now _ _ _ at_load.load.ensures _ c.in-Refused.is in
-    refused_check start.args.directory.now start.args.image.now _ s
+returns-then-size-lt256 c = c.check_file.ensures ∙ loaded_check c.args.directory.now c.args.image.now _ (c.in_ok-size.ensures.1 (inl (omega (arith, c.if-size-lt256.true))))

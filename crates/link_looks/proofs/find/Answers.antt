@@ -1,37 +1,20 @@
 -- The file's bytes are loaded and searched, if they are all of it.
 use lib.Seq.{length-take-le}
-use Rattle.link_files.proofs.Whole.{loads_within, loads_whole, loads_not}
+use Rattle.outcomes.proofs.Exits.{told_on}
 use Rattle.link_looks.proofs.Calls.{loaded_find, refused_find}
 use mathlib.Core.Logic.{inl}
 use native.Mathlib.Omega.{arith}
 use mathlib.Core.Path.{sym, ◌∙◌}
 use Rattle.link_looks.proofs.find.Goals as goal
 
+pub returns-in_err-size : goal.returns-in_err-size
+returns-in_err-size c = told_on _ _ _ _ c.from_residual.ensures.1 (refused_find c.args.directory.now c.args.image.now _ c.in_err-size.ensures c.args.count c.args.value)
+
 pub slice_bounds-file-end : goal.slice_bounds-file-end
-slice_bounds-file-end c =
-    let at_load = c in
-    let start = at_load in
-    let s = loads_within start.args.directory.now start.args.image.now _ _ _ at_load.load.ensures _ c.in-Size.is in
-    omega (arith, s, at_load.load.auto.file)
+slice_bounds-file-end c = omega (arith, c.in_ok-size.ensures.0, c.load.auto.file)
 
 pub slice_bounds-find_in_file-end : goal.slice_bounds-find_in_file-end
-slice_bounds-find_in_file-end c =
-    let at_load = c in
-    let start = at_load in
-    let s = loads_within start.args.directory.now start.args.image.now _ _ _ at_load.load.ensures _ c.in-Size.is in
-    sym (length-take-le _ _ (omega (arith, s, at_load.load.auto.file)))
+slice_bounds-find_in_file-end c = sym (length-take-le _ _ (omega (arith, c.in_ok-size.ensures.0, c.load.auto.file)))
 
 pub returns-then-size-lt256 : goal.returns-then-size-lt256
-returns-then-size-lt256 c =
-    let at-if = c in
-    let at_load = at-if in
-    let start = at_load in
-    let s = loads_whole start.args.directory.now start.args.image.now _ _ _ at_load.load.ensures _ at-if.in-Size.is (inl (omega (arith, at-if.if-size-lt256.true))) in
-    c.find_in_file.ensures ∙ loaded_find start.args.directory.now start.args.image.now _ s start.args.count start.args.value
-
-pub returns-in-Refused : goal.returns-in-Refused
-returns-in-Refused c =
-    let at_load = c in
-    let start = at_load in
-    let s = loads_not start.args.directory.now start.args.image.now _ _ _ at_load.load.ensures _ c.in-Refused.is in
-    refused_find start.args.directory.now start.args.image.now _ s start.args.count start.args.value
+returns-then-size-lt256 c = c.find_in_file.ensures ∙ loaded_find c.args.directory.now c.args.image.now _ (c.in_ok-size.ensures.1 (inl (omega (arith, c.if-size-lt256.true)))) c.args.count c.args.value

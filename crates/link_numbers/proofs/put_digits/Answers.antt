@@ -5,21 +5,12 @@ use mathlib.Core.Path.{sym, ◌∙◌}
 use lib.ListN.{length-set}
 use Rattle.link_numbers.proofs.put_digits.Goals as goal
 
-pub overflow_add-bytes-in-loop-left : goal.overflow_add-bytes-in-loop-left
-overflow_add-bytes-in-loop-left c = let inv = c.loop-left.invariant in omega (arith, inv.1)
-
-pub bounds-bytes-at : goal.bounds-bytes-at
-bounds-bytes-at c = let inv = c.loop-left.invariant in omega (arith, inv.1)
-
 pub loop-left-preserved : goal.loop-left-preserved
 loop-left-preserved c =
     let start = c in
     let inv = c.loop-left.invariant in
     let turn = digits_turn start.args.at c.loop-left.left c.loop-left.rest c.loop-left.bytes c.loop-left-test.true (omega (arith, inv.1, start.requires)) in
     (omega arith, simp length-set inv.1, sym turn ∙ inv.2)
-
-pub shape_of-bytes : goal.shape_of-bytes
-shape_of-bytes c = c.loop-left.invariant.1
 
 pub returns : goal.returns
 returns c =

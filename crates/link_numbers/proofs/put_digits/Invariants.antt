@@ -7,6 +7,3 @@ use Rattle.link_numbers.proofs.put_digits.Given as goal
 
 abbrev pub invariant-loop-left : goal.invariant-loop-left
 invariant-loop-left l = (l.left ≤ l.count) × (length l.bytes ≡ length l.initial.bytes) × (put l.at (accession l.left l.rest) l.bytes ≡ put l.at (accession l.count l.value) l.initial.bytes)
-
-abbrev pub decreases-loop-left : goal.decreases-loop-left
-decreases-loop-left l = l.left

@@ -1,22 +1,23 @@
--- The make is refused, so the image stays, and on a sound image its number says the date.
-use mathlib.Core.Path.{sym, ap, ◌∙◌}
-use mathlib.Core.Bool.{not}
-use Prim.Native.Nat.{ℕ}
-use lib.Dec.{eqb}
-use Rattle.answers.specs.Answers.{change_answer}
-use Rattle.link_old.proofs.Before.{date_judged, root_never, root_kept}
+-- The make is refused, so the image stays, and on a sound image its refusal says the date.
+use mathlib.Core.Path.{◌∙◌}
+use Rattle.link_old.proofs.Before.{dated_bad, dated_good, root_never, root_kept}
 use Rattle.link_old.proofs.date_is_good.Goals as goal
+use Rattle.link_old.proofs.date_is_good.Goals.{in-BadDate, in_default}
 
-pub returns-in-Done : goal.returns-in-Done
-returns-in-Done c =
-    let at-make = c in
-    let start = at-make in
-    let never = root_never start.args.image.now start.args.date.now (ap change_answer (sym c.in-Done.is) ∙ at-make.make_file.ensures.result_value) in
+pub returns-in-Ok : goal.returns-in-Ok
+returns-in-Ok c =
+    let never = root_never c.args.image.now c.args.date.now c.in-Ok.ensures.result_value in
     record { date_judged = absurd never; image_unchanged = absurd never }
 
-pub returns-in-Refused : goal.returns-in-Refused
-returns-in-Refused c =
-    let at-make = c in
-    let start = at-make in
-    let said = ap change_answer (sym c.in-Refused.is) ∙ at-make.make_file.ensures.result_value in
-    record { date_judged = λ h. ap (λ (n : ℕ). not (eqb n 11)) c.number.ensures ∙ date_judged start.args.image.now start.args.date.now _ said h; image_unchanged = at-make.make_file.ensures.image_after ∙ root_kept start.args.image.now start.args.date.now _ said }
+pub returns-after-matches : goal.returns-after-matches
+returns-after-matches c =
+    let b = c.args.image.now in
+    let date = c.args.date.now in
+    let said = c.in-Err.ensures.result_value in
+    record {
+      date_judged = elim c.match-matches.branch [
+        | in-BadDate w ↦ dated_bad b date c.in-Err.r said c.match-matches.matches w.in-BadDate.is w.matches-is
+        | in_default w ↦ dated_good b date c.in-Err.r said c.match-matches.matches w.in_default.not-BadDate w.matches-is
+      ];
+      image_unchanged = c.in-Err.ensures.image_after ∙ root_kept b date _ said;
+    }

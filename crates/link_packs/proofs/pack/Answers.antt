@@ -6,21 +6,10 @@ use Rattle.link_packs.proofs.Packing.{packs_to, unpacked}
 use Rattle.link_packs.proofs.pack.Goals as goal
 
 pub pack_numbers-requires : goal.pack_numbers-requires
-pack_numbers-requires c = sym c.requires ∙ ap list_told c.in-Good.is
+pack_numbers-requires c = sym c.requires ∙ ap list_told c.in-Ok.is
 
-pub returns-in-Good : goal.returns-in-Good
-returns-in-Good c =
-    let at-pack = c in
-    let start = at-pack in
-    let args = start.args in
-    packs_to args.judged (rows_of args.numbers.now) start.requires args.bytes.now at-pack.pack_numbers.new.bytes at-pack.pack_numbers.auto.bytes at-pack.pack_numbers.result at-pack.pack_numbers.ensures
+pub returns-in-Ok : goal.returns-in-Ok
+returns-in-Ok c = packs_to c.args.judged (rows_of c.args.numbers.now) c.requires c.args.bytes.now c.pack_numbers.new.bytes c.pack_numbers.auto.bytes c.pack_numbers.result c.pack_numbers.ensures
 
-pub returns-in-Broken : goal.returns-in-Broken
-returns-in-Broken c =
-    let start = c in
-    (omega arith, unpacked start.args.judged (rows_of start.args.numbers.now) start.requires _ (ap list_told c.in-Broken.is) _)
-
-pub returns-in-NotAbove : goal.returns-in-NotAbove
-returns-in-NotAbove c =
-    let start = c in
-    (omega arith, unpacked start.args.judged (rows_of start.args.numbers.now) start.requires _ (ap list_told c.in-NotAbove.is) _)
+pub returns-in-Err : goal.returns-in-Err
+returns-in-Err c = (omega arith, unpacked c.args.judged (rows_of c.args.numbers.now) c.requires _ (ap list_told c.in-Err.is) _)

@@ -1,8 +1,8 @@
 -- The calls in turn are the writing; a path that no directory has is refused before the rows.
-use Rattle.answers.specs.Answers.{change_answer}
+use Rattle.outcomes.proofs.Exits.{told_on}
 use Rattle.link_writes.proofs.Written.{path_refused}
 use Rattle.link_writes.proofs.First.{first_written}
-use mathlib.Core.Path.{sym, ap, ◌∙◌}
+use mathlib.Core.Path.{◌∙◌}
 use borrow.Author.Tests.{not-true, not-false}
 use Rattle.link_writes.proofs.write_good.Goals as goal
 
@@ -15,14 +15,14 @@ returns-then-not-may_be c =
 pub put_file-requires : goal.put_file-requires
 put_file-requires c = c.may_be.ensures.0 (not-false _ c.if-not-may_be.false-raw)
 
-pub returns-in-Done : goal.returns-in-Done
-returns-in-Done c =
+pub returns-in_err-put_file : goal.returns-in_err-put_file
+returns-in_err-put_file c =
     let args = c.args in λ rs good k.
     let w = first_written args.directory.now args.date.now args.bytes.now args.image.now (c.may_be.ensures.0 (not-false _ c.if-not-may_be.false-raw)).0 rs good k in
-    (ap change_answer (sym c.in-Done.is) ∙ c.put_file.ensures.result_value ∙ w.0, c.put_file.ensures.image_after ∙ w.1)
+    (told_on _ _ _ _ c.from_residual.ensures.1 (c.in_err-put_file.ensures.result_value ∙ w.0), c.in_err-put_file.ensures.image_after ∙ w.1)
 
-pub returns-in-Refused : goal.returns-in-Refused
-returns-in-Refused c =
+pub returns : goal.returns
+returns c =
     let args = c.args in λ rs good k.
     let w = first_written args.directory.now args.date.now args.bytes.now args.image.now (c.may_be.ensures.0 (not-false _ c.if-not-may_be.false-raw)).0 rs good k in
-    (ap change_answer (sym c.in-Refused.is) ∙ c.put_file.ensures.result_value ∙ w.0, c.put_file.ensures.image_after ∙ w.1)
+    (c.in_ok-put_file.ensures.result_value ∙ w.0, c.in_ok-put_file.ensures.image_after ∙ w.1)

@@ -3,7 +3,7 @@ use Rattle.listed2.proofs.Lists.{told_vacant, told_file, told_directory}
 use Rattle.listed2.proofs.entry_told.Goals as goal
 
 pub returns-in-Vacant : goal.returns-in-Vacant
-returns-in-Vacant c = told_vacant _ _ _ _ c.unnamed.ensures (rw c.in-Vacant.is at c.entry_at.ensures.0)
+returns-in-Vacant c = told_vacant _ _ _ (rw c.in-Vacant.is at c.entry_at.ensures.0)
 
 pub returns-in-File : goal.returns-in-File
 returns-in-File c = told_file _ _ _ c.name_of-name.ensures c.date_of-date.ensures c.is_locked-locked.ensures (rw c.in-File.is at c.entry_at.ensures.0)

@@ -11,7 +11,6 @@ returns-then-out-done c = behind_window _ (window _ _) c.if-piece-skip.false c.i
 
 pub returns : goal.returns
 returns c =
-    let least = c in
     let copied = c.copy_in in
-    let count = least.least-count in
-    in_window _ (window _ _) _ count.ensures least.if-piece-skip.false _ copied.ensures
+    let count = c.min-count in
+    in_window _ (window _ _) _ count.ensures c.if-piece-skip.false _ copied.ensures

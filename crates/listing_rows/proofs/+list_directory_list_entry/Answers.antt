@@ -2,7 +2,7 @@
 -- behind the directory's, its line into the window and, for a directory, lists that one to the depth that is left; so the depth falls.
 use lib.Seq.{length-take-le}
 use Rattle.model.specs.Text.{text}
-use Rattle.fields.proofs.Plain.{rules, arith, refl, sym, ◌∙◌, ◌-◌}
+use Rattle.fields.proofs.Plain.{rules, arith, refl, sym, ◌∙◌}
 use Rattle.listing_rows.proofs.Rows.{leads_none, leads_first, leads_next, leads_last}
 use Rattle.listing_rows.proofs.Rows.{entry_readable, vacant_poured, file_poured, directory_poured, below_inside, below_readable, front_kept}
 use Rattle.listing_rows.proofs.+list_directory_list_entry.Goals as goal

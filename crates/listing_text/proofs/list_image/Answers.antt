@@ -8,19 +8,15 @@ use Rattle.listing_text.proofs.list_image.Goals as goal
 pub list_sound-requires : goal.list_sound-requires
 list_sound-requires c =
     let b : Bytes = c.args.image.now in
-    let given = rw c.in-Sound.is at c.verdict.ensures in
+    let given = c.in-Ok.ensures in
     (granted_sound b _ given, granted_pages b _ given, granted_free b _ given)
 
-pub returns-in-Sound : goal.returns-in-Sound
-returns-in-Sound c =
-    let pages = c in
-    let a = pages.args in
-    let given = rw pages.in-Sound.is at pages.verdict.ensures in
-    c.list_sound.ensures ∙ ap (λ (v : Bytes). poured v (window a.sink a.out.now)) (granted_listing a.image.now _ given)
+pub returns-in-Ok : goal.returns-in-Ok
+returns-in-Ok c =
+    let a = c.args in
+    c.list_sound.ensures ∙ ap (λ (v : Bytes). poured v (window a.sink a.out.now)) (granted_listing a.image.now _ c.in-Ok.ensures)
 
-pub returns-in-Refused : goal.returns-in-Refused
-returns-in-Refused c =
-    let refusal = c in
-    let a = refusal.args in
-    let given = rw refusal.in-Refused.is at refusal.verdict.ensures in
-    c.list_refused.ensures ∙ ap (λ (v : Bytes). poured v (window a.sink a.out.now)) (refused_listing a.image.now _ given)
+pub returns-in-Err : goal.returns-in-Err
+returns-in-Err c =
+    let a = c.args in
+    c.list_refused.ensures ∙ ap (λ (v : Bytes). poured v (window a.sink a.out.now)) (refused_listing a.image.now _ c.in-Err.ensures)

@@ -1,5 +1,5 @@
 -- Past the number of entries it is refused; else the row from entry `first` on is put, as far as there is room.
-use Rattle.fields.proofs.Plain.{arith}
+use Rattle.fields.proofs.Plain.{arith, refl}
 use Rattle.known2.proofs.Rows.{known_roomy, known_some, housed_lies}
 use Rattle.lists2.proofs.Inside.{in_past, in_told, in_end, in_rows}
 use Rattle.lists2.proofs.entries_in.Goals as goal
@@ -18,18 +18,18 @@ entry_numbered-requires c = let k = c.requires in (known_roomy k.0, known_some k
 pub returns-in_default : goal.returns-in_default
 returns-in_default c =
     record {
-      result_value = in_told c.requires.0 _ _ c.width_of-all.ensures (omega (arith, c.if-all-first.false)) _ c.least-count.ensures;
-      rows_after = in_end c.requires.0 _ _ c.width_of-all.ensures (omega (arith, c.if-all-first.false)) _ c.least-count.ensures
-          c.entry_numbered.result c.entry_numbered.ensures.0 c.in_default.is;
+      result_value = in_told c.requires.0 _ _ c.width_of-all.ensures (omega (arith, c.if-all-first.false)) _ c.min-count.ensures;
+      rows_after = in_end c.requires.0 _ _ c.width_of-all.ensures (omega (arith, c.if-all-first.false)) _ c.min-count.ensures
+          c.in_default.ensures.0 refl;
     }
 
 pub put_rows-requires : goal.put_rows-requires
-put_rows-requires c = (known_roomy c.requires.0, rw c.in-At.is at c.entry_numbered.ensures.1, omega (arith, c.least-count.ensures))
+put_rows-requires c = (known_roomy c.requires.0, c.in-Some.ensures.1, omega (arith, c.min-count.ensures))
 
 pub returns : goal.returns
 returns c =
     record {
-      result_value = in_told c.requires.0 _ _ c.width_of-all.ensures (omega (arith, c.if-all-first.false)) _ c.least-count.ensures;
-      rows_after = in_rows c.requires.0 _ _ c.width_of-all.ensures (omega (arith, c.if-all-first.false)) _ c.least-count.ensures
-          c.entry_numbered.result c.entry_numbered.ensures.0 c.in-At.is c.put_rows.ensures;
+      result_value = in_told c.requires.0 _ _ c.width_of-all.ensures (omega (arith, c.if-all-first.false)) _ c.min-count.ensures;
+      rows_after = in_rows c.requires.0 _ _ c.width_of-all.ensures (omega (arith, c.if-all-first.false)) _ c.min-count.ensures
+          c.in-Some.ensures.0 c.put_rows.ensures;
     }

@@ -1,5 +1,5 @@
 -- Each turn puts the entry at hand: with those that are left the rows are all that were asked for, or as many as there are.
-use Rattle.fields.proofs.Plain.{◌≡◌, ◌∙◌, arith, ◌+◌, ◌-◌, ◌*◌}
+use Rattle.fields.proofs.Plain.{◌≡◌, ◌∙◌, refl, arith, ◌+◌, ◌-◌, ◌*◌}
 use Rattle.volume.proofs.Puts.{part_length}
 use Rattle.lists2.proofs.Turns.{put_first, put_next, put_last, put_all, after_long}
 use Rattle.lists2.proofs.put_rows.Goals as goal
@@ -24,31 +24,19 @@ put_row-requires c =
 pub next_entry-requires : goal.next_entry-requires
 next_entry-requires c = (c.requires.0, c.loop-i.invariant.stands)
 
-pub loop-i-smaller : goal.loop-i-smaller
-loop-i-smaller c = omega (arith, c.loop-i-test.true)
-
 pub loop-i-preserved : goal.loop-i-preserved
 loop-i-preserved c =
-    let row = c in
-    let turn = row in
-    let start = turn in
-    put_next turn.loop-i.invariant start.requires.0 row.loop-i-test.true start.requires.2 row.position_of-position.ensures.0 row.put_row.ensures
-    c.next_entry.result c.next_entry.ensures.0 c.in-At.is c.next_entry.ensures.1
+    put_next c.loop-i.invariant c.requires.0 c.loop-i-test.true c.requires.2 c.position_of-position.ensures.0 c.put_row.ensures
+    c.in-Some.ensures.0 refl c.in-Some.ensures.1
 
-pub shape_of-rows-in-End : goal.shape_of-rows-in-End
-shape_of-rows-in-End c =
-    let row = c in
-    let turn = row in
-    let start = turn in
-    after_long turn.loop-i.invariant start.requires.0 row.loop-i-test.true start.requires.2 row.position_of-position.ensures.0 row.put_row.ensures
+pub shape_of-rows-in_default : goal.shape_of-rows-in_default
+shape_of-rows-in_default c =
+    after_long c.loop-i.invariant c.requires.0 c.loop-i-test.true c.requires.2 c.position_of-position.ensures.0 c.put_row.ensures
 
-pub returns-in-End : goal.returns-in-End
-returns-in-End c =
-    let row = c in
-    let turn = row in
-    let start = turn in
-    put_last turn.loop-i.invariant start.requires.0 row.loop-i-test.true start.requires.2 row.position_of-position.ensures.0 row.put_row.ensures
-    c.next_entry.result c.next_entry.ensures.0 c.in-End.is
+pub returns-in_default : goal.returns-in_default
+returns-in_default c =
+    put_last c.loop-i.invariant c.requires.0 c.loop-i-test.true c.requires.2 c.position_of-position.ensures.0 c.put_row.ensures
+    c.in_default.ensures.0 refl
 
 pub shape_of-rows : goal.shape_of-rows
 shape_of-rows c = c.loop-i.invariant.long

@@ -1,5 +1,5 @@
 -- Each turn passes the entries of a page: with those that the row has left they are all.
-use Rattle.fields.proofs.Plain.{arith}
+use Rattle.fields.proofs.Plain.{arith, refl}
 use Rattle.lists2.proofs.Widths.{count_small, count_fewer, count_next, count_end}
 use Rattle.lists2.proofs.width_of.Goals as goal
 
@@ -19,10 +19,10 @@ pub next_page-requires : goal.next_page-requires
 next_page-requires c = (c.requires.0, c.loop-next.invariant.stands)
 
 pub loop-next-smaller : goal.loop-next-smaller
-loop-next-smaller c = count_fewer c.loop-next.invariant c.entry_count.ensures c.next_page.result c.next_page.ensures.0 c.in-At.is
+loop-next-smaller c = count_fewer c.loop-next.invariant c.entry_count.ensures c.in-Some.ensures.0 c.in-Some.next refl
 
 pub loop-next-preserved : goal.loop-next-preserved
-loop-next-preserved c = count_next c.loop-next.invariant c.entry_count.ensures c.next_page.result c.next_page.ensures.0 c.in-At.is c.next_page.ensures.1
+loop-next-preserved c = count_next c.loop-next.invariant c.entry_count.ensures c.in-Some.ensures.0 refl c.in-Some.ensures.1
 
-pub returns-in-End : goal.returns-in-End
-returns-in-End c = count_end c.loop-next.invariant c.entry_count.ensures c.next_page.result c.next_page.ensures.0 c.first_entry-cursor.ensures.0 c.in-End.is
+pub returns-in_default : goal.returns-in_default
+returns-in_default c = count_end c.loop-next.invariant c.entry_count.ensures c.in_default.ensures.0 c.first_entry-cursor.ensures.0 refl

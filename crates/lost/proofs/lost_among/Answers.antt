@@ -1,5 +1,5 @@
 -- `lost_among` looks at one page a turn, and the lowest lost page from there on is the lowest of all.
-use Rattle.fields.proofs.Plain.{rules, ⊎_elim, ◌-◌}
+use Rattle.fields.proofs.Plain.{rules, ⊎_elim}
 use Rattle.lost.proofs.Lost.{bit_lies, page_lost, page_free, page_owned, none_lost}
 use Rattle.lost.proofs.lost_among.Goals as goal
 

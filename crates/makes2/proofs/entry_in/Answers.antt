@@ -9,8 +9,8 @@ lengthen-requires c = search full_lengthening
 pub lowest_vacant-requires : goal.lowest_vacant-requires
 lowest_vacant-requires c = (search full_known, search full_housed)
 
-pub returns-in-There : goal.returns-in-There
-returns-in-There c = record { value = search there_lowest; image_after = search there_roomy }
+pub returns-in-Some : goal.returns-in-Some
+returns-in-Some c = record { value = search there_lowest; image_after = search there_roomy }
 
-pub returns-in-Nowhere : goal.returns-in-Nowhere
-returns-in-Nowhere c = record { value = search rules; image_after = search full_roomy }
+pub returns-in-None : goal.returns-in-None
+returns-in-None c = record { value = search rules; image_after = search full_roomy }

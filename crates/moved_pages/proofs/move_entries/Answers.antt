@@ -1,7 +1,7 @@
 -- Each turn puts one entry behind those that stand.
 use Rattle.model.specs.Entry.{entry_count}
 use Rattle.moved_pages.proofs.Laid.{entries_first, entries_turn, entries_last}
-use Prim.Native.Nat.{◌-◌, ◌≤◌}
+use Prim.Native.Nat.{◌≤◌}
 use native.Mathlib.Omega.{arith}
 use Rattle.moved_pages.proofs.move_entries.Goals as goal
 

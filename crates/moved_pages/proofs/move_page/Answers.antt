@@ -1,6 +1,5 @@
 use Rattle.proposals.proofs.Owned.{kind, sized}
 use Rattle.moved_pages.proofs.Laid.{page_free, page_file, page_directory}
-use Prim.Native.Nat.{◌-◌}
 use Rattle.moved_pages.proofs.move_page.Goals as goal
 
 pub move_entries-requires : goal.move_entries-requires

@@ -1,5 +1,5 @@
 -- `put_entry` stores one byte of the entry a turn, and so pastes a byte more.
-use Rattle.fields.proofs.Plain.{refl, ◌-◌, arith, length-set}
+use Rattle.fields.proofs.Plain.{refl, arith, length-set}
 use lib.Seq.{paste-zero}
 use Rattle.volume.proofs.Fills.{paste_turn, paste_all}
 use Rattle.moved_pages.proofs.put_entry.Goals as goal

@@ -1,8 +1,10 @@
--- A text of allowed length is legal exactly if its bytes from k on are, once those before k are.
-use Rattle.fields.proofs.Plain.{rules, tests, ◌-◌}
+-- A text of allowed length is legal exactly if all its bytes are.
+use Rattle.fields.proofs.Plain.{rules, tests, ◌∙◌}
+use Rattle.std.proofs.lemmas.Iterator.{YieldsList-from_slice}
+use Rattle.std.proofs.lemmas.Iterator.Search.{all_from_yields_List}
 use Rattle.volume.specs.Lists.{all}
-use Rattle.model.specs.Name.{legal_text}
-use Rattle.names.proofs.Steps.{text_not, text_on, text_all}
+use Rattle.fields.proofs.Lists.{all_listed}
+use Rattle.model.specs.Name.{legal_byte, legal_text}
 use Rattle.names.proofs.legal_text.Goals as goal
 
 pub returns-then-text-lt1 : goal.returns-then-text-lt1
@@ -13,34 +15,9 @@ pub returns-then-text-gt16 : goal.returns-then-text-gt16
 unfolding legal_text all
 returns-then-text-gt16 c = search tests
 
-pub loop-k-init : goal.loop-k-init
-unfolding legal_text all
-loop-k-init c = search tests
-
-pub bounds-text-k : goal.bounds-text-k
-unfolding legal_text all
-bounds-text-k c = search rules
-
-pub legal_byte-requires : goal.legal_byte-requires
-unfolding legal_text all
-legal_byte-requires c = search rules
-
-pub returns-then-not-legal_byte : goal.returns-then-not-legal_byte
-unfolding legal_text all
-returns-then-not-legal_byte c = search text_not
-
-pub overflow_add-k : goal.overflow_add-k
-unfolding legal_text all
-overflow_add-k c = search rules
-
-pub loop-k-smaller : goal.loop-k-smaller
-unfolding legal_text all
-loop-k-smaller c = search rules
-
-pub loop-k-preserved : goal.loop-k-preserved
-unfolding legal_text all
-loop-k-preserved c = search text_on
-
 pub returns : goal.returns
 unfolding legal_text all
-returns c = search text_all
+returns c =
+    let text = c.args.text.now in
+    let legal = all_from_yields_List legal_byte _ _ _ c.all.ensures.ran (YieldsList-from_slice text cc) (λ x b q k. search rules) ∙ all_listed legal_byte text in
+    search (tests, legal)

@@ -1,5 +1,5 @@
 -- The answer so far is that of the bytes up to k, so the name is legal exactly if it is yes, those from k on may follow, and the first is no zero.
-use Rattle.fields.proofs.Plain.{arith, ◌-◌}
+use Rattle.fields.proofs.Plain.{arith}
 use Rattle.names.proofs.Legal.{follow_first, follow_on, follow_all}
 use Rattle.names.proofs.name_is_legal.Goals as goal
 

@@ -1,6 +1,6 @@
 -- `name_is_fresh` asks the entries of one page a turn, from the directory's first on: what the pages left answer, all before the entry at hand answer.
-use Rattle.fields.proofs.Plain.{rules, arith}
-use Rattle.occupied2.proofs.Walking.{page_lies, entries_lie, nearer}
+use Rattle.fields.proofs.Plain.{rules, arith, refl}
+use Rattle.occupied2.proofs.Walking.{page_lies, entries_lie}
 use Rattle.names2.proofs.Reaching.{roomy, pages_some, pages_lie, row_whole}
 use Rattle.names2.proofs.Names.{asking_first, asking_between, few_answer, page_has_it, asking_next, pages_end, flags_here, illegal_name, legal_name_lem}
 use Rattle.names2.proofs.name_is_fresh.Goals as goal
@@ -60,18 +60,18 @@ pub next_page-requires : goal.next_page-requires
 next_page-requires c = (roomy c.requires.0, asking_between c.loop-left.invariant)
 
 pub loop-left-smaller : goal.loop-left-smaller
-loop-left-smaller c = (nearer c.in-At.is c.next_page.ensures.2).0
+loop-left-smaller c = c.in-Some.ensures.2.0
 
 pub loop-left-preserved : goal.loop-left-preserved
 loop-left-preserved c =
     asking_next c.loop-left.invariant c.entries_start-start.ensures c.entry_count-count.ensures c.if-left-count.false _ c.names_differ-in-loop-left.ensures c.if-not-names_differ.false-raw
-    _ c.next_page.ensures.0 c.in-At.is c.next_page.ensures.1 c.next_page.ensures.2
+    c.in-Some.ensures.0 refl c.in-Some.ensures.1 c.in-Some.ensures.2.1
 
-pub returns-in-End : goal.returns-in-End
-returns-in-End c =
+pub returns-in_default : goal.returns-in_default
+returns-in_default c =
     let turn = c in
     let name = turn in
     let start = name in
     legal_name_lem _ _ _ _ _ _ _ _ (name.position_of-at.ensures.0) (name.name_is_legal.ensures) start.requires.2 _
     (row_whole start.requires.0 start.args.directory) turn.if-not-name_is_legal.false-raw _
-    (pages_end turn.loop-left.invariant c.entries_start-start.ensures c.entry_count-count.ensures c.if-left-count.false _ c.names_differ-in-loop-left.ensures c.if-not-names_differ.false-raw _ c.next_page.ensures.0 c.in-End.is)
+    (pages_end turn.loop-left.invariant c.entries_start-start.ensures c.entry_count-count.ensures c.if-left-count.false _ c.names_differ-in-loop-left.ensures c.if-not-names_differ.false-raw c.in_default.ensures.0 refl)

@@ -1,5 +1,5 @@
 -- `names_differ` asks one entry a turn: none of those before has the name.
-use Rattle.fields.proofs.Plain.{arith, sym, ◌-◌, ◌∙◌}
+use Rattle.fields.proofs.Plain.{arith, sym, ◌∙◌}
 use Rattle.names2.proofs.Names.{one_has_it, one_differs, none_asked, all_asked}
 use Rattle.names2.proofs.names_differ.Goals as goal
 
@@ -17,9 +17,6 @@ has_name_of-requires c = (omega (arith, c.loop-k-test.true, c.requires.0), c.req
 
 pub returns-then-has_name_of : goal.returns-then-has_name_of
 returns-then-has_name_of c = one_has_it c.args.image.now c.args.start _ c.args.at _ c.has_name_of.ensures _ c.loop-k-test.true c.if-has_name_of.true ∙ c.loop-k.invariant
-
-pub overflow_add-k : goal.overflow_add-k
-overflow_add-k c = omega (arith, c.loop-k-test.true, c.requires.0, c.shared_slice_known-1.given 0)
 
 pub loop-k-preserved : goal.loop-k-preserved
 loop-k-preserved c = sym (one_differs c.args.image.now c.args.start _ c.args.at _ c.has_name_of.ensures _ c.loop-k-test.true c.if-has_name_of.false) ∙ c.loop-k.invariant

@@ -23,10 +23,15 @@ pub next_page-requires : goal.next_page-requires
 next_page-requires c = (c.requires.0, c.loop-further.invariant.stands)
 
 pub loop-further-smaller : goal.loop-further-smaller
-loop-further-smaller c = search seek_fewer
+loop-further-smaller c = seek_fewer c.loop-further.invariant c.entry_count.ensures c.if-further-held.false c.in_ok-cursor.ensures.0
 
 pub loop-further-preserved : goal.loop-further-preserved
-loop-further-preserved c = search seek_next
+loop-further-preserved c =
+    seek_next c.loop-further.invariant c.entry_count.ensures c.if-further-held.false c.in_ok-cursor.ensures.0 refl c.in_ok-cursor.ensures.1
 
-pub returns-in-End : goal.returns-in-End
-returns-in-End c = (search seek_end, tt)
+pub returns-in_err-cursor : goal.returns-in_err-cursor
+returns-in_err-cursor c =
+    rw c.from_residual.ensures (
+      seek_end c.loop-further.invariant c.entry_count.ensures c.if-further-held.false c.in_err-cursor.ensures.0 c.first_entry-cursor.ensures.0 refl,
+      tt,
+    )

@@ -10,4 +10,4 @@ pub next_entry-requires : goal.next_entry-requires
 next_entry-requires c = (search rules, on_stands c.requires.1 (omega (arith, c.entry_count-number.ensures, c.requires.1.within)))
 
 pub returns : goal.returns
-returns c = (over_page c.requires.1 (omega (arith, c.entry_count-number.ensures)) c.next_entry.result c.next_entry.ensures.0, search rules)
+returns c = (over_page c.requires.1 (omega (arith, c.entry_count-number.ensures)) c.next_entry.ensures.0, search rules)

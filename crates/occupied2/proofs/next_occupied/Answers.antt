@@ -1,6 +1,6 @@
 -- `next_occupied` goes one page on a turn: what the row left has behind its vacant entries, the whole row has.
 use Rattle.fields.proofs.Plain.{arith, refl}
-use Rattle.occupied2.proofs.Walking.{page_lies, nearer, entries_lie, passed_few, met_row, met_count, met_end, passing_next}
+use Rattle.occupied2.proofs.Walking.{page_lies, entries_lie, passed_few, met_row, met_count, met_end, passing_next}
 use Rattle.occupied2.proofs.next_occupied.Goals as goal
 
 pub loop-shape-init : goal.loop-shape-init
@@ -37,16 +37,17 @@ pub next_page-requires : goal.next_page-requires
 next_page-requires c = (c.requires.0, c.loop-shape.invariant.between)
 
 pub loop-shape-smaller : goal.loop-shape-smaller
-loop-shape-smaller c = (nearer c.in-At.is c.next_page.ensures.2).0
+loop-shape-smaller c = c.in_ok-here.ensures.2.0
 
 pub loop-shape-preserved : goal.loop-shape-preserved
 loop-shape-preserved c =
     passing_next c.loop-shape.invariant c.entries_start.ensures c.entry_count-count.ensures c.occupied_number-first.ensures c.if-first-count.false
-    c.next_page.ensures.0 c.in-At.is c.next_page.ensures.1
+    c.in_ok-here.ensures.0 refl c.in_ok-here.ensures.1
 
-pub returns-in-End : goal.returns-in-End
-returns-in-End c = (
-  met_end c.loop-shape.invariant c.entries_start.ensures c.entry_count-count.ensures c.occupied_number-first.ensures c.if-first-count.false
-      c.next_page.ensures.0 c.in-End.is,
-  tt,
-)
+pub returns-in_err-here : goal.returns-in_err-here
+returns-in_err-here c =
+    rw c.from_residual.ensures (
+      met_end c.loop-shape.invariant c.entries_start.ensures c.entry_count-count.ensures c.occupied_number-first.ensures c.if-first-count.false
+          c.in_err-here.ensures.0 refl,
+      tt,
+    )

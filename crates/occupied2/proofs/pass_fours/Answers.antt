@@ -1,5 +1,5 @@
 -- `pass_fours` reads the flags of four entries a turn: all from `number` on so far are vacant.
-use Rattle.fields.proofs.Plain.{rules, arith, refl, sym, ◌∙◌, ◌-◌}
+use Rattle.fields.proofs.Plain.{rules, arith, refl, sym, ◌∙◌}
 use Rattle.occupied2.proofs.Passing.{number_four}
 use Rattle.occupied2.proofs.pass_fours.Goals as goal
 

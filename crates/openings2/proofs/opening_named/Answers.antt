@@ -4,8 +4,8 @@ use Rattle.known2.proofs.Rows.{known_roomy, known_some, housed_lies}
 use borrow.Author.Rules.{rules}
 use Rattle.openings2.proofs.opening_named.Goals as goal
 
-pub returns-in-There : goal.returns-in-There
-returns-in-There c = (tt, search name_taken)
+pub returns-in-Some : goal.returns-in-Some
+returns-in-Some c = (tt, search name_taken)
 
 pub vacant_entry-vacancy-requires : goal.vacant_entry-vacancy-requires
 vacant_entry-vacancy-requires c = (search known_roomy, search known_some, search housed_lies)

@@ -1,5 +1,6 @@
--- Each test is a line of the call, in the lines' order; past them the walk of the parents leads to the last name's directory.
-use Rattle.openings2.proofs.Openings.{no_path_lem, bad_date, root_taken, parent_in, parent_missing, parent_blocked}
+-- Each test is a line of the call, in the lines' order; past them the walk of the parents leads to the last name's directory,
+-- and the check finds those returns by laws that `opening_walked` names.
+use Rattle.openings2.proofs.Openings.{no_path_lem, bad_date, root_taken}
 use Rattle.places2.proofs.Places.{two}
 use Rattle.fields.proofs.Plain.{rules, told}
 use Rattle.openings2.proofs.opening_walked.Goals as goal
@@ -15,17 +16,3 @@ returns-then-path-eq1 c = (tt, search root_taken)
 
 pub walk_parents-requires : goal.walk_parents-requires
 walk_parents-requires c = (search rules, search two, search told)
-
-pub opening_named-requires : goal.opening_named-requires
-opening_named-requires c =
-    let s = rw c.in-In.is at c.walk_parents.ensures.0 in
-    (search rules, s.0, s.1, s.2)
-
-pub returns-in-In : goal.returns-in-In
-returns-in-In c = (c.opening_named.ensures.0, search parent_in)
-
-pub returns-in-Missing : goal.returns-in-Missing
-returns-in-Missing c = (tt, search parent_missing)
-
-pub returns-in-Blocked : goal.returns-in-Blocked
-returns-in-Blocked c = (tt, search parent_blocked)

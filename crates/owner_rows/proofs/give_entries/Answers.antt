@@ -1,5 +1,5 @@
 -- `give_entries` gives one entry its pages a turn; what is left is the rest of the directory.
-use Rattle.fields.proofs.Plain.{rules, refl, ◌-◌}
+use Rattle.fields.proofs.Plain.{rules, refl}
 use Rattle.claims.proofs.Claims.{rest_all, entries_done}
 use Rattle.claims.proofs.Names.{pushes_first}
 use Rattle.owner_rows.proofs.Gives.{entry_asks, entries_turn}

@@ -1,18 +1,17 @@
 -- `own_chain` owns one page a turn, and what is left of the chain is judged as all of it; a page that got its owner lies in the image, so it has a link.
-use Rattle.fields.proofs.Plain.{rules, ◌-◌}
+use Rattle.fields.proofs.Plain.{rules}
+use Rattle.faults.proofs.Answers.{told_on}
 use Rattle.owning2.proofs.Chains.{chained_first, chained_faulty, chained_link, chained_next, chained_last, chained_on}
 use Rattle.owning2.proofs.own_chain.Goals as goal
 
 pub loop-passed-init : goal.loop-passed-init
 loop-passed-init c = search chained_first
 
-pub returns-in-Faulty : goal.returns-in-Faulty
-returns-in-Faulty c = search chained_faulty
+pub returns-in_err-own_page : goal.returns-in_err-own_page
+returns-in_err-own_page c = told_on _ _ _ c.from_residual.ensures.1 (chained_faulty c.loop-passed.invariant c.loop-passed-test.true c.in_err-own_page.ensures)
 
 pub link-page-requires : goal.link-page-requires
-link-page-requires c =
-    let owned = c in
-    chained_link owned.loop-passed.invariant _ _ owned.own_page-owned.ensures c.in_default.is
+link-page-requires c = chained_link c.loop-passed.invariant _ c.in_ok-own_page.ensures
 
 pub loop-passed-preserved : goal.loop-passed-preserved
 loop-passed-preserved c = search (rules, chained_next)

@@ -1,5 +1,5 @@
 -- A path is `/`, or the walk of its parents stops, or the last name's place in the directory that they lead to is the path's.
-use Rattle.places.proofs.Places.{no_path_lem, at_root, two, parent_in, parent_missing, parent_blocked}
+use Rattle.places.proofs.Places.{no_path_lem, at_root, two}
 use Rattle.fields.proofs.Plain.{rules, told}
 use Rattle.places.proofs.walked.Goals as goal
 
@@ -11,17 +11,3 @@ returns-then-path-eq1 c = search at_root
 
 pub walk_parents-requires : goal.walk_parents-requires
 walk_parents-requires c = (search rules, search two, search told)
-
-pub last_place-requires : goal.last_place-requires
-last_place-requires c =
-    let s = rw c.in-In.is at c.walk_parents.ensures.0 in
-    (s.0, search rules, s.1, s.2)
-
-pub returns-in-In : goal.returns-in-In
-returns-in-In c = search parent_in
-
-pub returns-in-Missing : goal.returns-in-Missing
-returns-in-Missing c = search parent_missing
-
-pub returns-in-Blocked : goal.returns-in-Blocked
-returns-in-Blocked c = search parent_blocked

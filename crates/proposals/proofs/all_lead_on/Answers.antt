@@ -1,10 +1,9 @@
 -- `all_lead_on` looks at one page a turn.
 use Rattle.model.specs.Layout.{page_count}
 use Rattle.claims.proofs.Claims.{told, untold}
-use Rattle.proposals.specs.Steps.{leads_on}
 use Rattle.proposals.proofs.Numbers.{all_pages, all_goes, all_stops}
 use mathlib.Core.Path.{sym, ◌∙◌}
-use Prim.Native.Nat.{◌-◌, ◌<◌, ◌≤◌}
+use Prim.Native.Nat.{◌<◌, ◌≤◌}
 use native.Mathlib.Omega.{arith}
 use Rattle.proposals.proofs.all_lead_on.Goals as goal
 

@@ -18,9 +18,9 @@ returns-then-next-places c =
 
 pub returns : goal.returns
 returns c =
-    let wide = c in
-    let if1 = wide in
+    let from = c in
+    let if1 = from in
     let link = if1 in
     let start = link in
-    ap₂ (λ (x y : ℕ). eqb x (y + 1)) (wide.wide.ensures.0 ∙ ap (λ (i : ℕ). get_or start.args.places.now i 0)
-    link.link-link.ensures.0) c.wide-2.ensures.0 ∙ leads_next _ _ _ (λ e. if1.if-next-eq0.false (link.link-link.ensures.0 ∙ e))
+    ap₂ (λ (x y : ℕ). eqb x (y + 1)) (from.from.ensures ∙ ap (λ (i : ℕ). get_or start.args.places.now i 0)
+    link.link-link.ensures.0) c.from-2.ensures ∙ leads_next _ _ _ (λ e. if1.if-next-eq0.false (link.link-link.ensures.0 ∙ e))

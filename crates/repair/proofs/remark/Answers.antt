@@ -1,5 +1,5 @@
 -- `remark` sets one bit a turn, as `remarked` does, or passes over pages whose bits are right, and then stores the count.
-use Rattle.fields.proofs.Plain.{arith, refl, ap, ◌∙◌, ⊎_elim, ◌-◌, ◌<◌, length, length-set}
+use Rattle.fields.proofs.Plain.{arith, refl, ap, ◌∙◌, ⊎_elim, ◌<◌, length, length-set}
 use Rattle.repair.proofs.Taken.{count_fits, count_stored}
 use Rattle.repair.proofs.Right.{none_yet, still_shown, right_on, set_on}
 use Rattle.repair.proofs.remark.Goals as goal
@@ -20,12 +20,12 @@ loop-p-preserved c =
     (λ w. (
       inv.0,
       ap length w.image-is ∙ w.set_bit.auto.image ∙ inv.1,
-      set_on _ _ _ _ _ inv.2 (omega arith) _ _ w.is_taken-taken.ensures (w.image-is ∙ w.set_bit.ensures) _ _ w.if-right-eq0.true c.larger-p.ensures,
+      set_on _ _ _ _ _ inv.2 (omega arith) _ _ w.is_taken-taken.ensures (w.image-is ∙ w.set_bit.ensures) _ _ w.if-right-eq0.true c.max-p.ensures,
     ))
     (λ w. (
       inv.0,
       ap length w.image-is ∙ inv.1,
-      w.image-is ∙ right_on _ _ _ _ _ inv.2 (omega arith) inv.0 _ _ c.right_pages-right.ensures.0 w.if-right-eq0.false c.larger-p.ensures,
+      w.image-is ∙ right_on _ _ _ _ _ inv.2 (omega arith) inv.0 _ _ c.right_pages-right.ensures.0 w.if-right-eq0.false c.max-p.ensures,
     ))
     c.if-right-eq0.branch-raw
 

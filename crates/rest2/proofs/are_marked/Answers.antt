@@ -1,5 +1,5 @@
 -- The answer so far is that of the pages before p.
-use Rattle.fields.proofs.Plain.{arith, ◌-◌}
+use Rattle.fields.proofs.Plain.{arith}
 use Rattle.rest2.proofs.Rest.{marked_on, marked_all}
 use Rattle.rest2.proofs.are_marked.Goals as goal
 

@@ -13,7 +13,7 @@ pub write_chain-requires : goal.write_chain-requires
 write_chain-requires c =
     let resized : (let a = c.args in Resized a.entry a.start.0 a.size a.position.0 a.bytes.now a.image.now c.put.new.image c.pages_for-wanted.result c.start_of-first.result.0) = let add = c in
     let held = add in
-    resize held.requires held.page_count-n.ensures held.larger-new_size.ensures held.pages_for-held.ensures
+    resize held.requires held.page_count-n.ensures held.max-new_size.ensures held.pages_for-held.ensures
     add.pages_for-wanted.ensures add.add_pages.ensures c.size_bytes-sized.ensures c.put.ensures c.start_of-first.ensures.0 in
     resized.inside
 
@@ -21,6 +21,6 @@ pub returns : goal.returns
 returns c =
     let resized : (let a = c.args in Resized a.entry a.start.0 a.size a.position.0 a.bytes.now a.image.now c.put.new.image c.pages_for-wanted.result c.start_of-first.result.0) = let add = c in
     let held = add in
-    resize held.requires held.page_count-n.ensures held.larger-new_size.ensures held.pages_for-held.ensures
+    resize held.requires held.page_count-n.ensures held.max-new_size.ensures held.pages_for-held.ensures
     add.pages_for-wanted.ensures add.add_pages.ensures c.size_bytes-sized.ensures c.put.ensures c.start_of-first.ensures.0 in
     resized.comes c.write_chain.ensures

@@ -15,7 +15,7 @@ pub bounds-image-at-in-Pair-2 : goal.bounds-image-at-in-Pair-2
 bounds-image-at-in-Pair-2 c = let h = rw c.in-Pair.is at c.requires in omega arith
 
 pub returns-in-Byte : goal.returns-in-Byte
-returns-in-Byte c = rw c.in-Byte.is (c.wide.ensures.0, omega arith)
+returns-in-Byte c = rw c.in-Byte.is (c.from.ensures, omega arith)
 
 pub returns-in-Pair : goal.returns-in-Pair
-returns-in-Pair c = rw c.in-Pair.is (rw (c.wide-in-Pair.ensures.0, c.wide-in-Pair-2.ensures.0), omega arith)
+returns-in-Pair c = rw c.in-Pair.is (rw (c.from-in-Pair.ensures, c.from-in-Pair-2.ensures), omega arith)

@@ -4,4 +4,4 @@ use Rattle.shape_bits.proofs.bit.Goals as goal
 
 pub returns : goal.returns
 unfolding page_bit
-returns c = rw c.wide-byte.ensures.0
+returns c = rw c.from-byte.ensures

@@ -14,5 +14,5 @@ returns c =
     let s = c in
     let from = c.first_byte.result + (s.args.shape.size - s.args.shape.room) + s.args.place in
     let read = some_read (geometry_of s.args.shape) s.args.image.now s.args.buffer.now s.args.page.0 s.args.place s.args.done s.args.count in
-    let there = read s.requires.0 s.requires.1 (omega arith) from (from + c.least-more.result) (omega arith) (omega arith) in
+    let there = read s.requires.0 s.requires.1 (omega arith) from (from + c.min-more.result) (omega arith) (omega arith) in
     record { value = omega arith; buffer_after = c.copy_piece.ensures ∙ there }

@@ -13,5 +13,5 @@ returns-then-room-place c =
 pub returns : goal.returns
 returns c =
     let s = c.args in
-    let end = s.done + c.least.result in
+    let end = s.done + c.min.result in
     record { value = omega arith; image_after = c.fill_page.ensures ∙ some_put (geometry_of s.shape) s.page.0 s.place s.done end s.bytes.now _ (omega arith) }

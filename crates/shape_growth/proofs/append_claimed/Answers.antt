@@ -18,19 +18,19 @@ returns-in_default c =
 
 pub claim_page-requires : goal.claim_page-requires
 claim_page-requires c =
-    let found : (let s = c in c.in-At.page.0 ≡ On.lowest_free (geometry_of s.args.shape) s.args.n s.args.image.now) = ap (number_of _) (sym c.in-At.is) ∙ c.lowest_free_from.ensures.number in
+    let found : (let s = c in c.in-Some.page.0 ≡ On.lowest_free (geometry_of s.args.shape) s.args.n s.args.image.now) = ap (number_of _) (sym c.in-Some.is) ∙ c.lowest_free_from.ensures.number in
     let s = c in
     (lowest_present s.requires.0 found, s.requires.0.counted, s.requires.0.lawful.order)
 
 pub store-requires : goal.store-requires
 store-requires c =
-    let found : (let s = c in c.in-At.page.0 ≡ On.lowest_free (geometry_of s.args.shape) s.args.n s.args.image.now) = ap (number_of _) (sym c.in-At.is) ∙ c.lowest_free_from.ensures.number in
+    let found : (let s = c in c.in-Some.page.0 ≡ On.lowest_free (geometry_of s.args.shape) s.args.n s.args.image.now) = ap (number_of _) (sym c.in-Some.is) ∙ c.lowest_free_from.ensures.number in
     let s = c in
     (omega (arith, s.requires.0.room.held.inside, c.claim_page.auto.image), s.requires.0.fits _ (omega (arith, found, lowest_in s.requires.0)))
 
 pub returns : goal.returns
 returns c =
-    let found : (let s = c in c.in-At.page.0 ≡ On.lowest_free (geometry_of s.args.shape) s.args.n s.args.image.now) = ap (number_of _) (sym c.in-At.is) ∙ c.lowest_free_from.ensures.number in
+    let found : (let s = c in c.in-Some.page.0 ≡ On.lowest_free (geometry_of s.args.shape) s.args.n s.args.image.now) = ap (number_of _) (sym c.in-Some.is) ∙ c.lowest_free_from.ensures.number in
     let s = c in
     let p = found in
     (p, c.store.ensures ∙ ap (store (field_of s.args.joint) _) c.claim_page.ensures)

@@ -1,5 +1,4 @@
 -- `claim_pages` claims one page a turn.
-use Prim.Native.Nat.{◌-◌}
 use Rattle.store.proofs.Claims.{claiming_first, claiming_turn, claiming_last}
 use Rattle.store.proofs.claim_pages.Goals as goal
 

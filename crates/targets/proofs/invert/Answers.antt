@@ -1,6 +1,6 @@
 -- Each turn numbers one page, as `numbered` does.
 use Rattle.proposals.proofs.Numbers.{turned_turn, turned_last, place_under, turned_first}
-use Prim.Native.Nat.{◌-◌, ◌≤◌}
+use Prim.Native.Nat.{◌≤◌}
 use native.Mathlib.Omega.{arith}
 use lib.ListN.{length}
 use Rattle.targets.proofs.invert.Goals as goal
@@ -11,19 +11,16 @@ loop-p-init c = turned_first _ _
 pub overflow_cast-pages : goal.overflow_cast-pages
 overflow_cast-pages c = omega (arith, c.loop-p-test.true, c.requires.1)
 
-pub wide-requires : goal.wide-requires
-wide-requires c = tt
-
-pub bounds-pages-wide : goal.bounds-pages-wide
-bounds-pages-wide c =
+pub bounds-pages-from : goal.bounds-pages-from
+bounds-pages-from c =
     let test = c in
     let turn = test in
     let start = turn in
     let l = place_under start.args.places.now (length start.args.pages.now) _ start.requires.0 test.loop-p-test.true in
-    omega (arith, l, c.wide.ensures.0, turn.loop-p.invariant.long)
+    omega (arith, l, c.from.ensures, turn.loop-p.invariant.long)
 
 pub loop-p-preserved : goal.loop-p-preserved
-loop-p-preserved c = turned_turn _ _ _ _ _ c.loop-p-test.true c.wide.ensures.0 c.loop-p.invariant
+loop-p-preserved c = turned_turn _ _ _ _ _ c.loop-p-test.true c.from.ensures c.loop-p.invariant
 
 pub shape_of-pages : goal.shape_of-pages
 shape_of-pages c = c.loop-p.invariant.long

@@ -10,9 +10,9 @@ pub bit-requires : goal.bit-requires
 bit-requires c =
     let start = c in
     let s = valid_sized start.args.image.now start.requires.2 in
-    omega (arith, s.whole, s.low, s.high, start.requires.0.low start.args.q, c.wide.ensures.0)
+    omega (arith, s.whole, s.low, s.high, start.requires.0.low start.args.q, c.from.ensures)
 
 pub returns : goal.returns
 returns c =
     let start = c in
-    (c.bit.ensures ∙ ap (page_bit start.args.image.now) c.wide.ensures.0, omega (arith, c.bit.ensures, bit_low version1 start.args.image.now c.wide.result))
+    (c.bit.ensures ∙ ap (page_bit start.args.image.now) c.from.ensures, omega (arith, c.bit.ensures, bit_low version1 start.args.image.now c.from.result))

@@ -5,7 +5,7 @@ use Rattle.volume.specs.Lists.{up_to}
 use Rattle.proposals.specs.Steps.{bits_at}
 use Rattle.targets.proofs.Target.{bits_first, bits_turn, bits_last}
 use mathlib.Core.Path.{ap, ◌∙◌}
-use Prim.Native.Nat.{ℕ, ◌-◌, ◌/◌}
+use Prim.Native.Nat.{ℕ, ◌/◌}
 use native.Mathlib.Omega.{arith}
 use mathlib.Core.List.{map}
 use Rattle.targets.proofs.write_bits.Goals as goal

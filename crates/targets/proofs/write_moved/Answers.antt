@@ -67,9 +67,6 @@ bounds-pages-q c =
     let start = invert in
     omega (arith, turn.loop-q.invariant.1, invert.invert.auto.pages, start.requires.2)
 
-pub wide-requires : goal.wide-requires
-wide-requires c = tt
-
 pub slice_bounds-move_page-end : goal.slice_bounds-move_page-end
 slice_bounds-move_page-end c =
     let first_byte = c in
@@ -81,7 +78,7 @@ slice_bounds-move_page-end c =
 
 pub move_page-requires : goal.move_page-requires
 move_page-requires c =
-    let page = c.wide.ensures.0 in
+    let page = c.from.ensures in
     let first_byte = c in
     let test = first_byte in
     let turn = test in
@@ -107,7 +104,7 @@ overflow_step-q c =
 pub loop-q-preserved : goal.loop-q-preserved
 loop-q-preserved c =
     let move-page = c in
-    let page = move-page.wide.ensures.0 in
+    let page = move-page.from.ensures in
     let first_byte = move-page in
     let test = first_byte in
     let turn = test in

@@ -2,7 +2,7 @@
 use Rattle.model.specs.Layout.{page_count}
 use Rattle.proposals.proofs.Numbers.{left_first, left_turn, left_last, others_next, others_none, others_bound}
 use mathlib.Core.Path.{◌∙◌}
-use Prim.Native.Nat.{◌-◌, ◌<◌, ◌≤◌}
+use Prim.Native.Nat.{◌<◌, ◌≤◌}
 use native.Mathlib.Omega.{arith}
 use Rattle.tidy.proofs.number_others.Goals as goal
 

@@ -1,6 +1,6 @@
 -- `holds_nothing` passes a vacant entry a turn, and an occupied one settles the answer.
 use Rattle.fields.proofs.Searches.{tested_first, tested_failed, tested_next, tested_all}
-use Rattle.fields.proofs.Plain.{arith, ◌-◌, told, untold}
+use Rattle.fields.proofs.Plain.{arith, told, untold}
 use Rattle.vacancies.proofs.holds_nothing.Goals as goal
 
 pub loop-i-init : goal.loop-i-init

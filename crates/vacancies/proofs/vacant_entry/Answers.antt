@@ -1,7 +1,7 @@
 -- `vacant_entry` passes an occupied entry a turn, so the first vacant one that it comes to is the lowest.
 use mathlib.Core.Option.{some}
 use Rattle.fields.proofs.Searches.{sought_first, sought_here, sought_next, sought_none}
-use Rattle.fields.proofs.Plain.{arith, sym, ap, ◌∙◌, ◌-◌}
+use Rattle.fields.proofs.Plain.{arith, sym, ap, ◌∙◌}
 use Rattle.vacancies.proofs.vacant_entry.Goals as goal
 
 pub loop-lowest-init : goal.loop-lowest-init

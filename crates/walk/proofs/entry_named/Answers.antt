@@ -1,5 +1,5 @@
 -- Past the image no entry has a name; in it `entry_named` looks at one entry a turn, and the first that has the name is found in order.
-use Rattle.fields.proofs.Plain.{rules, arith, ◌-◌}
+use Rattle.fields.proofs.Plain.{rules, arith}
 use Rattle.fields.proofs.Searches.{sought_first}
 use Rattle.walk.proofs.Entries.{looked_named, looked_on, looked_last, page_past}
 use Rattle.walk.proofs.entry_named.Goals as goal

@@ -1,7 +1,7 @@
 -- `walk_parents` goes one name on a turn, and the parent that what is left of the path leads to from there is the parent of the path.
-use Rattle.fields.proofs.Plain.{rules, ◌-◌}
+use Rattle.fields.proofs.Plain.{rules}
 use Rattle.walk.proofs.Parents.{standing_first, standing_short, standing_last}
-use Rattle.walk.proofs.Parents.{standing_fits, standing_next, standing_missing, standing_blocked}
+use Rattle.walk.proofs.Parents.{standing_fits, standing_next, standing_stopped, stopped_on}
 use Rattle.walk.proofs.walk_parents.Goals as goal
 
 pub loop-walk-init : goal.loop-walk-init
@@ -13,11 +13,8 @@ returns-then-to-path c = ((search rules, search rules, search standing_short), s
 pub pad-name-requires : goal.pad-name-requires
 pad-name-requires c = search standing_fits
 
-pub returns-in-Missing : goal.returns-in-Missing
-returns-in-Missing c = (tt, search standing_missing)
-
-pub returns-in-Blocked : goal.returns-in-Blocked
-returns-in-Blocked c = (tt, search standing_blocked)
+pub returns-in_err-walk : goal.returns-in_err-walk
+returns-in_err-walk c = stopped_on _ _ _ c.from_residual.ensures.1 (search (standing_stopped, c.in_err-walk.ensures))
 
 pub loop-walk-preserved : goal.loop-walk-preserved
-loop-walk-preserved c = search standing_next
+loop-walk-preserved c = search (standing_next, c.in_ok-walk.ensures)

@@ -1,0 +1,2 @@
+-- The exit of a `?` on a judging.
+pub mod Exits

@@ -1,0 +1,2 @@
+-- The exit of a `?`.
+pub mod Exits
