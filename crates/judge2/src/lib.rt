@@ -155,6 +155,7 @@ fn judge_formed(image: &[u8], cartridge: Cartridge) -> Result<Judged, Refusal>
 
 // What any bytes are: sound, with the image's shape, or refused by 1, 2 or 26 or by their first fault. The length is judged first, then the version, then
 // the page code with the bitmap's bytes, then the rest: 1, 2 and 26 stand above the faults.
+#[tactic(auto, using(crate::proofs::Image::found_told))]
 pub fn judge_image(image: &[u8]) -> Result<Judged, Refusal>
     ensures { (answered told counted result ≡ judged_as image.now) × Shaped image.now result }
 {

@@ -67,6 +67,8 @@ fn load_by(
 }
 
 // The same with room for any path: that the directory is there is asked first, for then its path is short enough to be copied.
+// Kept out of its caller's frame: that room would lie on the stack beside the room for the longest file, though nearly every path is short.
+#[inline(never)]
 fn load_asked(image: &[u8], directory: &[u8], file: &mut [u8]) -> Result<usize, Refusal>
     ensures { Loads directory.now image.now file.new (length file.old) result }
 {

@@ -61,7 +61,9 @@ pub fn is_named(image: &[u8], at: usize, name: &[u8]) -> bool
     has_name(image, at, name)
 }
 
-// The entry has the name that stands in the one at position `other`.
+// The entry has the name that stands in the one at position `other`. Both judges ask it of all pairs of a directory: the hint puts it in the place of
+// both calls (docs/LOOK-BACK.md).
+#[inline]
 pub fn has_name_of(image: &[u8], at: usize, other: usize) -> bool
     requires { (at + 32 ≤ length image.now) × (other + 32 ≤ length image.now) }
     ensures { result ≡ is_named (name_at image.now other) (entry_at image.now at) }

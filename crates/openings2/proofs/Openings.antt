@@ -14,9 +14,9 @@ use Rattle.volume.specs.Bytes.{Bytes}
 use Rattle.volume.specs.Lists.{first}
 use Rattle.model.specs.Date.{good_date}
 use Rattle.model.specs.Path.{Name, Path, path_of, is_no_path}
-use Rattle.model.specs.Walk.{entry_named}
+use Rattle.model.specs.Walk.{missing, blocked, entry_named}
 use Rattle.model.specs.EffectOf.{is_vacant}
-use Rattle.model.specs.Call.{refusal, Verdict, Answer, refused, granted}
+use Rattle.model.specs.Call.{Refusal as Model, refusal, refusal_at, Verdict, Answer, refused, granted}
 use Rattle.model.specs.MeaningOf.{sound}
 use Rattle.model2.specs.Entry.{entry_at}
 use Rattle.model2.specs.Version2.{view2}
@@ -109,6 +109,13 @@ module _ (b path date : Bytes) (r : Bool) (told_path : r ≡ not (is_no_path (pa
             → IsErrAnd o (λ y. y ≡ stopped_by s) → opening_of path o ≡ opening_walked v2 b path date
         parent_stops o w s is walked stops = told_on told (opened path) o (stopped_by s) stops (parent_refused s (rw is at walked))
 
+        -- where a walk stops for each of its reasons
+        pub parent_missing : {i : ℕ} → Unit {0} × (missing i ≡ walked_parent (view2 b) (path_of path) 0) → refused (refusal_at 5 i) ≡ opening_walked v2 b path date
+        parent_missing {i} walked = by_parents (Err (Missing i)) walked.1
+
+        pub parent_blocked : {i : ℕ} → Unit {0} × (blocked i ≡ walked_parent (view2 b) (path_of path) 0) → refused (refusal_at 6 i) ≡ opening_walked v2 b path date
+        parent_blocked {i} walked = by_parents (Err (Blocked i)) walked.1
+
 -- ---- the image
 
 module _ (b path date : Bytes) where
@@ -117,3 +124,7 @@ module _ (b path date : Bytes) where
 
   pub opening_refused : (o : Result Opening Refusal) (r : Refusal) → IsErrAnd o (λ y. y ≡ r) → refused (told r) ≡ judged_as b → opening_of path o ≡ opening v2 b path date
   opening_refused o r stops e = told_on told (opened path) o r stops (opening_stopped v2 b path date (sym (judged_lines b some none e)))
+
+  -- what the judge refuses by, the call is refused by
+  pub opening_faulty : {m : Model} → (refused m ≡ judged_as b) × Unit {0} → refused m ≡ opening v2 b path date
+  opening_faulty e = opening_stopped v2 b path date (sym (judged_lines b some none e.0))

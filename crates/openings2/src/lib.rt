@@ -53,7 +53,7 @@ fn opening_named(
 }
 
 // On a sound image.
-#[tactic(auto, using(crate::proofs::Openings::unready, crate::proofs::Openings::parent_in, crate::proofs::Openings::parent_stops))]
+#[tactic(auto, using(crate::proofs::Openings::unready, crate::proofs::Openings::parent_in, crate::proofs::Openings::parent_stops, crate::proofs::Openings::parent_missing, crate::proofs::Openings::parent_blocked))]
 fn opening_walked(
     image: &[u8],
     cartridge: Cartridge,
@@ -79,7 +79,7 @@ fn opening_walked(
 }
 
 // The image is judged first, so that what is made in the opening has its pages to itself.
-#[tactic(auto, using(crate::proofs::Openings::unready, places2::proofs::Judged::judged_known, places2::proofs::Judged::judged_sound, crate::proofs::Openings::opening_sound, crate::proofs::Openings::opening_refused))]
+#[tactic(auto, using(crate::proofs::Openings::unready, places2::proofs::Judged::judged_known, places2::proofs::Judged::judged_sound, crate::proofs::Openings::opening_sound, crate::proofs::Openings::opening_refused, crate::proofs::Openings::opening_faulty))]
 pub fn find_opening(image: &[u8], path: &[u8], date: &[u8]) -> Result<Opening, Refusal>
     ensures { Ready image.now path.now result × (opening_of path.now result ≡ opening v2 image.now path.now date.now) }
 {

@@ -10,7 +10,7 @@ use Rattle.outcomes.proofs.Exits.{told_on}
 use Rattle.volume.specs.Bytes.{Bytes}
 use Rattle.model.specs.View.{View}
 use Rattle.model.specs.Path.{Name, Path, path_of, is_no_path}
-use Rattle.model.specs.Walk.{entry_named}
+use Rattle.model.specs.Walk.{missing, blocked, entry_named}
 use Rattle.model.specs.Call.{refusal, refusal_at, Answer, refused, granted}
 use Rattle.model2.specs.Entry.{is_locked, name_at, date_at, entry_at}
 use Rattle.model2.specs.Version2.{view2}
@@ -110,3 +110,10 @@ module _ (path : Bytes) (r : Bool) (asked : r ≡ not (is_no_path (path_of path)
         pub parent_stops : (a : Result Arrived Refusal) (w : Result Parent Stop) (s : Stop) → w ≡ Err s → parent_of path w ≡ walked_parent v (path_of path) 0
             → IsErrAnd a (λ y. y ≡ stopped_by s) → arrival_of a ≡ place_walked v path
         parent_stops a w s is walked stops = told_on told _ a (stopped_by s) stops (parent_refused s (rw is at walked))
+
+        -- where a walk stops for each of its reasons
+        pub parent_missing : {i : ℕ} → Unit {0} × (missing i ≡ walked_parent v (path_of path) 0) → refused (refusal_at 5 i) ≡ place_walked v path
+        parent_missing {i} walked = by_parents low (Err (Missing i)) walked.1
+
+        pub parent_blocked : {i : ℕ} → Unit {0} × (blocked i ≡ walked_parent v (path_of path) 0) → refused (refusal_at 6 i) ≡ place_walked v path
+        parent_blocked {i} walked = by_parents low (Err (Blocked i)) walked.1

@@ -65,7 +65,7 @@ fn last_place(
 }
 
 // Where a path leads on an image that is known.
-#[tactic(auto, using(crate::proofs::Places::unknown, crate::proofs::Places::parent_in, crate::proofs::Places::parent_stops))]
+#[tactic(auto, using(crate::proofs::Places::unknown, crate::proofs::Places::parent_in, crate::proofs::Places::parent_stops, crate::proofs::Places::parent_missing, crate::proofs::Places::parent_blocked))]
 fn walked(image: &[u8], cartridge: Cartridge, path: &[u8]) -> Result<Arrived, Refusal>
     requires { Known image.now cartridge.shape cartridge.pages }
     ensures { KnownAt image.now result × (arrival_of result ≡ place_walked (view2 image.now) path.now) }
@@ -83,7 +83,7 @@ fn walked(image: &[u8], cartridge: Cartridge, path: &[u8]) -> Result<Arrived, Re
 }
 
 // The image is judged first, so that what a path leads to has its pages to itself.
-#[tactic(auto, using(crate::proofs::Places::unknown, crate::proofs::Judged::judged_known, crate::proofs::Judged::placed_sound, crate::proofs::Judged::placed_refused))]
+#[tactic(auto, using(crate::proofs::Places::unknown, crate::proofs::Judged::judged_known, crate::proofs::Judged::placed_sound, crate::proofs::Judged::placed_refused, crate::proofs::Judged::placed_stopped))]
 pub fn arrive(image: &[u8], path: &[u8]) -> Result<Arrived, Refusal>
     ensures { KnownAt image.now result × (arrival_of result ≡ placed v2 image.now path.now) }
 {

@@ -29,6 +29,7 @@ fn are_marked(image: &[u8], shape: Shape, n: usize) -> bool
 
 // A page set aside, page 0 or one of the table's, is owned by nobody and yet not lost: its bit at 0 is told with the count, as 3. The count is not
 // trusted; the zero bits are counted.
+#[tactic(auto, using(crate::proofs::Rest::rest_faulty))]
 pub fn judge_rest(image: &[u8], shape: Shape, marks: &[u8]) -> Result<(), Fault>
     requires { Ready image.now shape marks.now }
     ensures { outcome result marks.now ≡ judge_rest (view2 image.now) marks.now }

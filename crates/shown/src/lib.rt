@@ -172,25 +172,29 @@ impl fmt::Display for ListedTold {
     }
 }
 
-// ---- the calls
+// ---- the calls: what is asked is written before the call is made, so that a writer that fails there leaves what was lent as it was
 
 pub fn format<W: io::Write>(out: &mut W, image: &mut [u8]) -> io::Result<()> {
-    writeln!(out, "format => {}", done(zealfs::format(image)))
+    write!(out, "format => ")?;
+    writeln!(out, "{}", done(zealfs::format(image)))
 }
 
 pub fn verdict<W: io::Write>(out: &mut W, image: &[u8]) -> io::Result<()> {
+    write!(out, "verdict => ")?;
     let answer = Answer(zealfs::verdict(image).map(CountsTold));
-    writeln!(out, "verdict => {answer}")
+    writeln!(out, "{answer}")
 }
 
 pub fn find<W: io::Write>(out: &mut W, image: &[u8], path: &[u8]) -> io::Result<()> {
+    write!(out, "find {} => ", Quoted(path))?;
     let answer = Answer(zealfs::find(image, path).map(FoundTold));
-    writeln!(out, "find {} => {answer}", Quoted(path))
+    writeln!(out, "{answer}")
 }
 
 pub fn list<W: io::Write>(out: &mut W, image: &[u8], path: &[u8], i: usize) -> io::Result<()> {
+    write!(out, "list {} entry {i} => ", Quoted(path))?;
     let answer = Answer(zealfs::list(image, path, i).map(ListedTold));
-    writeln!(out, "list {} entry {i} => {answer}", Quoted(path))
+    writeln!(out, "{answer}")
 }
 
 // The buffer is shown whole, also after a refusal: past what was copied it stays.
@@ -201,14 +205,10 @@ pub fn read<W: io::Write>(
     position: usize,
     buffer: &mut [u8],
 ) -> io::Result<()> {
-    let answer = Answer(zealfs::read(image, path, Position(position), buffer));
     let room = buffer.len();
-    writeln!(
-        out,
-        "read {} at {position} room {room} => {answer} buffer {}",
-        Quoted(path),
-        Quoted(buffer)
-    )
+    write!(out, "read {} at {position} room {room} => ", Quoted(path))?;
+    let answer = Answer(zealfs::read(image, path, Position(position), buffer));
+    writeln!(out, "{answer} buffer {}", Quoted(buffer))
 }
 
 pub fn make_file<W: io::Write>(
@@ -217,13 +217,8 @@ pub fn make_file<W: io::Write>(
     path: &[u8],
     date: &[u8],
 ) -> io::Result<()> {
-    let answer = done(zealfs::make_file(image, path, date));
-    writeln!(
-        out,
-        "make_file {} date {} => {answer}",
-        Quoted(path),
-        Hex(date)
-    )
+    write!(out, "make_file {} date {} => ", Quoted(path), Hex(date))?;
+    writeln!(out, "{}", done(zealfs::make_file(image, path, date)))
 }
 
 pub fn make_directory<W: io::Write>(
@@ -232,13 +227,13 @@ pub fn make_directory<W: io::Write>(
     path: &[u8],
     date: &[u8],
 ) -> io::Result<()> {
-    let answer = done(zealfs::make_directory(image, path, date));
-    writeln!(
+    write!(
         out,
-        "make_directory {} date {} => {answer}",
+        "make_directory {} date {} => ",
         Quoted(path),
         Hex(date)
-    )
+    )?;
+    writeln!(out, "{}", done(zealfs::make_directory(image, path, date)))
 }
 
 pub fn write<W: io::Write>(
@@ -248,18 +243,19 @@ pub fn write<W: io::Write>(
     position: usize,
     bytes: &[u8],
 ) -> io::Result<()> {
-    let answer = done(zealfs::write(image, path, Position(position), bytes));
-    writeln!(
+    write!(
         out,
-        "write {} at {position} {} => {answer}",
+        "write {} at {position} {} => ",
         Quoted(path),
         Counted(bytes)
-    )
+    )?;
+    let answer = done(zealfs::write(image, path, Position(position), bytes));
+    writeln!(out, "{answer}")
 }
 
 pub fn remove_file<W: io::Write>(out: &mut W, image: &mut [u8], path: &[u8]) -> io::Result<()> {
-    let answer = done(zealfs::remove_file(image, path));
-    writeln!(out, "remove_file {} => {answer}", Quoted(path))
+    write!(out, "remove_file {} => ", Quoted(path))?;
+    writeln!(out, "{}", done(zealfs::remove_file(image, path)))
 }
 
 pub fn remove_directory<W: io::Write>(
@@ -267,26 +263,18 @@ pub fn remove_directory<W: io::Write>(
     image: &mut [u8],
     path: &[u8],
 ) -> io::Result<()> {
-    let answer = done(zealfs::remove_directory(image, path));
-    writeln!(out, "remove_directory {} => {answer}", Quoted(path))
+    write!(out, "remove_directory {} => ", Quoted(path))?;
+    writeln!(out, "{}", done(zealfs::remove_directory(image, path)))
 }
 
 pub fn lock<W: io::Write>(out: &mut W, image: &mut [u8], path: &[u8]) -> io::Result<()> {
-    writeln!(
-        out,
-        "lock {} => {}",
-        Quoted(path),
-        done(zealfs::lock(image, path))
-    )
+    write!(out, "lock {} => ", Quoted(path))?;
+    writeln!(out, "{}", done(zealfs::lock(image, path)))
 }
 
 pub fn unlock<W: io::Write>(out: &mut W, image: &mut [u8], path: &[u8]) -> io::Result<()> {
-    writeln!(
-        out,
-        "unlock {} => {}",
-        Quoted(path),
-        done(zealfs::unlock(image, path))
-    )
+    write!(out, "unlock {} => ", Quoted(path))?;
+    writeln!(out, "{}", done(zealfs::unlock(image, path)))
 }
 
 // What of a store the plain tree decides: that it is there, or why not. Its page and the bytes of it are not shown.
@@ -299,15 +287,16 @@ pub fn store<W: io::Write>(
     number: usize,
     page: &mut [u8],
 ) -> io::Result<()> {
-    let answer = Answer(store::store(image, path, date, content, number, page).map(|_| "done"));
     let room = page.len();
-    writeln!(
+    write!(
         out,
-        "store {} date {} {} number {number} room {room} => {answer}",
+        "store {} date {} {} number {number} room {room} => ",
         Quoted(path),
         Hex(date),
         Counted(content)
-    )
+    )?;
+    let answer = Answer(store::store(image, path, date, content, number, page).map(|_| "done"));
+    writeln!(out, "{answer}")
 }
 
 // ---- content for a long write
